@@ -514,7 +514,7 @@ def answers_of(folder: str, file: str, wanted: str) -> str:
     body = Body(function, kind, stream, near, structs, modeled)
     calls = body.whole()
     entries = entries_of(folder, function)
-    if entries and "const_entry" not in entries:
+    if entries and "const_decoder" not in entries:
         calls = [replace(it, form="alone") if (kind, it.form) == ("Reads", "const") else it for it in calls]
     calls = [replace(it, known=tuple(body.rewrites.get(k, []))) for k, it in enumerate(calls)]
     answers.opened = (body.opened or 0) if modeled else 0

@@ -20,7 +20,7 @@ def enum_names(f: Format, line: Line, enum: m.EnumType) -> Table:
 def part_names(f: Format, line: Line, use: m.Use) -> Table:
     """Returns where the names of a part come from."""
     base = f"Rattle.{f.crate}.specs.declared.{use.module}"
-    words = " ".join(f"{use.module}_{it}" for it in ("entry", "writes", "size"))
+    words = " ".join(f"{use.module}_{it}" for it in ("decoder", "writes", "size"))
     found = {
         f"{base}.{use.name}": use.name,
         f"Rattle.{f.crate}.specs.{spec_of(use.module)}": f"{words} Fits={use.name}Fits",
@@ -74,8 +74,12 @@ def parts_specs(f: Format) -> Table:
 
 def own_specs(f: Format) -> Table:
     """Returns where the definitions of the format and of its parts come from."""
-    names = [f"{f.m}_{it}" for it in ("entry", "writes", "size", "bits", "at")] + ["Fits", f"becomes_{f.m}", "bits_at"]
-    names += [f"{f.m}_entry_{k}" for k in range(1, len(f.entry_parts()))] + [f"const_at_{it.at}" for it in f.tests]
+    names = [f"{f.m}_{it}" for it in ("decoder", "writes", "size", "bits", "at")] + [
+        "Fits",
+        f"becomes_{f.m}",
+        "bits_at",
+    ]
+    names += [f"{f.m}_decoder_{k}" for k in range(1, len(f.entry_parts()))] + [f"const_at_{it.at}" for it in f.tests]
     names += [f"{f.m}_writes_{k + 1}" for k in range(1, len(f.pieces()))]
     lines = {module: it for module, it in all_names(f).items() if ".declared." not in module}
     return merged({f.specs_path: " ".join(names)}, lines)

@@ -213,7 +213,7 @@ class Format:
         """Returns the definition of the reads that begins with a line, and the earlier lines whose values it takes."""
         k = next(k for k, part in enumerate(self.entry_parts()) if part[:1] == [line])
         seen = [it for it in self.lines[: line.index] if it.name]
-        return (f"{self.m}_entry_{k}" if k else f"{self.m}_entry"), seen
+        return (f"{self.m}_decoder_{k}" if k else f"{self.m}_decoder"), seen
 
     def mapped(self, kind: m.Printed) -> bool:
         """Returns true if errors of a part become errors of the format."""

@@ -32,17 +32,17 @@ Rattle.std.specs.Option: ForSome
 Rattle.std.specs.Result: IsErrAnd
 Rattle.std.specs.declared.io.ErrorKind.TheVariants: WriteZero
 Rattle.std.specs.Int.NonZero: non_zero_u8_get non_zero_u16_get non_zero_u32_get non_zero_u64_get non_zero_u128_get
-Rattle.bitstream_io.specs.Callers: ← ReadEntry WriteEntry Takes gives list_item Error EndOfInput Order High Low bits number chain
-    signed_number FitsSignedBits word first_bit bit_entry unsigned_entry signed_entry const_entry unary_entry
-    bytes_entry vec_entry bytes_of skip_entry vbr_entry any_vbr_entry signed_vbr_entry any_signed_vbr_entry items_entry
-    option_entry plain bit unsigned signed unary_word buffer zeros align vbr signed_vbr non_zero write_run words
-    Reads ReadsOwn OwnAnswer WritesAll AllAccepted run_length sure_answer GrowsOwn MayAllocate OutOfMemory Stream seen
-    same_error plain_reads part_then parts_entry all_ok if_any number_or_zero optional own_optional optional_writes
+Rattle.bitstream_io.specs.Callers: ← Decoder Encoder Done pure list_item Error EndOfInput Order High Low bits number and_then
+    signed_number FitsSignedBits word first_bit bit_decoder unsigned_decoder signed_decoder const_decoder unary_decoder
+    bytes_decoder vec_decoder bytes_of skip_decoder vbr_decoder any_vbr_decoder signed_vbr_decoder any_signed_vbr_decoder items_decoder
+    option_decoder plain bit unsigned signed unary_word buffer zeros align vbr signed_vbr non_zero write_sequence words
+    Reads ReadsOwn OwnAnswer WritesAll AllAccepted sequence_length sure_answer GrowsOwn MayAllocate OutOfMemory Stream result_map
+    same_error plain_reads part_then parts_decoder all_ok if_any number_or_zero optional own_optional optional_writes
     optional_size
     non_zero_u8 non_zero_u16 non_zero_u32 non_zero_u64 non_zero_u128
-    non_zero_u8_entry non_zero_u16_entry non_zero_u32_entry non_zero_u64_entry non_zero_u128_entry
+    non_zero_u8_decoder non_zero_u16_decoder non_zero_u32_decoder non_zero_u64_decoder non_zero_u128_decoder
 Rattle.bitstream_io.specs.Error.TheVariants: VariableWidthOverflow RedundantGroup
-Rattle.bitstream_io.specs.Golomb: ue_entry ue_writes ue_size se_entry se_writes se_size
+Rattle.bitstream_io.specs.Golomb: ue_decoder ue_writes ue_size se_decoder se_writes se_size
 Rattle.bitstream_io.specs.Grows: GrowingOutcome PartsRead
 Rattle.bitstream_io.specs.Loop: parts_size ItemsRead ItemsWritten
 Rattle.bitstream_io.specs.SliceMut: HoldsFirst written_bytes
@@ -67,16 +67,16 @@ borrow.Author.Rules: sfits_of
 Rattle.bitstream_io.proofs.WriteSteps: signed_value
 Rattle.std.proofs.lemmas.Bool: eq-eqb ne_eqb cases_lt
 Rattle.std.proofs.lemmas.Bool.Decides: eqb_tells
-Rattle.bitstream_io.proofs.CallerLemmas: GoesBack Finds Packs inl inr is_error own_answered own_fields_there own_fields_short
-    own_front_answered fields_there fields_short front_answered slice_ends
+Rattle.bitstream_io.proofs.CallerLemmas: RoundTrip Finds Packs inl inr is_error own_answered own_fields_there own_fields_short
+    own_prefix_answered fields_there fields_short prefix_answered slice_ends
     packed-bits packed-accepted packed-room packed-short
     unsigned-accepted signed-accepted non_zero-accepted items-accepted signed_items-accepted
     accepted-first accepted-second
-    next_own_read exit_own_read Reads-chain-ok Reads-gives exit own_end plainly_read plainly_written
+    next_own_read exit_own_read Reads-and_then-ok Reads-pure exit own_end plainly_read plainly_written
     bit-back signed-back unsigned-back any_vbr-back bytes-back non_zero-back option-back skip-back unary-back vbr-back
-    gives-back items-back made-back literal-back part-back optional-back
+    pure-back items-back made-back literal-back part-back optional-back
     bit-finds signed-finds unsigned-finds bytes-finds non_zero-finds option-finds skip-finds const-finds const-misses
-    gives-finds chain-finds items-finds made-finds part-finds part-misses
+    pure-finds and_then-finds items-finds made-finds part-finds part-misses
     bit-written signed-written unsigned-written bytes-written non_zero-written const-written zeros-written
     unary-written vbr-written packs-none packs-more packs-part packs-items packs-optional
     packs-is packs-whole packs-parts packs-signed_items each-back signed_items-back signed_items-finds
@@ -84,12 +84,12 @@ Rattle.bitstream_io.proofs.CallerLemmas: GoesBack Finds Packs inl inr is_error o
     items-begin items-push items-stop items-refused grown written-begin written-more written-stop
     non_zero_u8-again non_zero_u16-again non_zero_u32-again non_zero_u64-again non_zero_u128-again
     option_u8-again option_u16-again option_u32-again option_u64-again option_u128-again
-Rattle.bitstream_io.proofs.EachLemmas: all-made own_seen_err own_optional-back each_part-back made-each packs-made made_items-back
+Rattle.bitstream_io.proofs.EachLemmas: all-made own_map_err own_optional-back each_part-back made-each packs-made made_items-back
     made_items-finds part_items-finds part_items-misses all_ok-items made-put made-all made-stop
 Rattle.bitstream_io.proofs.GolombLemmas: ue-back ue-packs se-back se-packs
 Rattle.std.proofs.lemmas.List: map-id length-set
 Rattle.bitstream_io.proofs.SliceLemmas: new_answer
-Rattle.bitstream_io.proofs.ReadsLemmas: seen_err
+Rattle.bitstream_io.proofs.ReadsLemmas: map_err
 Rattle.bitstream_io.proofs.CallsBack: signed_vbr-back any_signed_vbr-back mapped-read
 Rattle.bitstream_io.proofs.WriteParts: all_none
 """
@@ -104,7 +104,7 @@ TAKEN = {it for names in SPECS.values() for it in names.split()} - {"NonZero"} |
 # record has twice; the parameters of a definition of reads.
 BOUND = re.compile(
     r"\b[a-z]\w*(?:\.[\w-]+)+|(?<=\))\.[\w-]+|^ +\w+ (?=←)|^ +pub \w+ :|(?:^|[{;]) +\w+ =(?= )"
-    r"|\b(\w+) = \1(?= ?[;}])|(?<=_entry_)\d+ o( \w+)+",
+    r"|\b(\w+) = \1(?= ?[;}])|(?<=_decoder_)\d+ o( \w+)+",
     re.MULTILINE,
 )
 
@@ -122,13 +122,13 @@ def short(name: str) -> str:
 
 # The modules of the definitions that proofs unfold: a name that is passed on cannot be unfolded.
 UNFOLDS: Table = {
-    "Entry": "chain",
+    "Codec": "and_then",
     "Word": "digits digits_number bytes_of",
     "WriteTable": "unsigned signed",
-    "ReadTable": "unsigned_entry signed_entry const_entry skip_entry unary_entry bytes_entry groups_entry signed_groups_entry",
-    "Array": "items_entry",
-    "Grows": "parts_entry",
-    "NonZero": "non_zero non_zero_entry option_entry",
+    "ReadTable": "unsigned_decoder signed_decoder const_decoder skip_decoder unary_decoder bytes_decoder groups_decoder signed_groups_decoder",
+    "Array": "items_decoder",
+    "Grows": "parts_decoder",
+    "NonZero": "non_zero non_zero_decoder option_decoder",
     "Vbr": "groups groups_at",
 }
 

@@ -39,7 +39,7 @@ def text_of(*path: str) -> str:
 
 def format_of(description: str, folder: str, name: str) -> Format:
     """Returns the format of a description, as a module of the crate in `folder`."""
-    taken = {f"{name}_{it}" for it in ("entry", "writes", "bits", "size", "at")} & (TAKEN | {"groups_at"})
+    taken = {f"{name}_{it}" for it in ("decoder", "writes", "bits", "size", "at")} & (TAKEN | {"groups_at"})
     if taken:
         raise Refused(f"the library has a `{min(taken)}`: take another name for the module")
     inside = os.path.relpath(description, folder)

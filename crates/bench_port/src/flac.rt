@@ -19,7 +19,7 @@ fn sizes<R: BitRead>(reader: &mut R, sum: u64) -> Result<u64, Error> {
     Ok(mixed(mixed(sum, u64::from(short)), u64::from(long)))
 }
 
-/// Reads what a header tells of the samples, and mixes it into a sum.
+/// Reads the fields of a header about the samples, and mixes them into a sum.
 #[inline(always)]
 fn samples<R: BitRead>(reader: &mut R, sum: u64) -> Result<u64, Error> {
     let rate = reader.read::<Bits<20>, u32>()?;
@@ -72,7 +72,7 @@ fn write_sizes<W: BitWrite>(writer: &mut W, state: u64) -> Result<(), Error> {
     writer.write::<Bits<24>, u32>(((state >> 30) % 16777216) as u32)
 }
 
-/// Writes what a header tells of the samples.
+/// Writes the fields of a header about the samples.
 #[inline(always)]
 fn write_samples<W: BitWrite>(writer: &mut W, state: u64) -> Result<(), Error> {
     writer.write::<Bits<20>, u32>((state >> 44) as u32)?;

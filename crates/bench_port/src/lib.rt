@@ -1,5 +1,5 @@
-//! Functions for C that read and write as a benchmark asks, over bytes in memory. What each does with
-//! its items it answers as one number, and where a call is refused it answers 2^64 - 1.
+//! Functions for C that read and write as a benchmark asks, over bytes in memory. Each returns its
+//! work on the items as one number, or 2^64 - 1 if a call is refused.
 #![tactic(auto)]
 
 mod flac;

@@ -4,7 +4,7 @@ use bitstream_io::{SliceMut, Target};
 
 /// Bytes in memory as a target: a plain slice, or a `SliceMut`.
 pub(crate) trait Memory: Target + Drop {
-    /// Returns how many bytes are free.
+    /// Returns the number of free bytes.
     fn free(&self) -> usize;
 }
 

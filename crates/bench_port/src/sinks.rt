@@ -6,7 +6,7 @@ use bitstream_io::{
 };
 use std::alloc::Global;
 
-/// Counts the bits of as many items as `count` says.
+/// Counts the bits of `count` items.
 fn counted(count: u64, seed: u64) -> Result<u64, Error> {
     let mut counter = BitsWritten::<u64>::new();
     let mut state = seed;
@@ -30,7 +30,7 @@ pub extern "C" fn bench_count(count: u64, seed: u64) -> u64 {
     }
 }
 
-/// Records as many numbers as `count` says, and plays them behind three zeros.
+/// Records `count` numbers, and plays them after three zeros.
 fn recorded<E: Endianness + Drop>(
     count: u64,
     seed: u64,

@@ -138,7 +138,7 @@ fn vectors<R: Source + Drop, E: Endianness>(
     Ok(sum)
 }
 
-/// Returns a sum, or what a refused call answers.
+/// Returns a sum, or 2^64 - 1 for a refused call.
 fn or_refused(sum: Result<u64, Error>) -> u64 {
     match sum {
         Ok(sum) => sum,
@@ -146,7 +146,7 @@ fn or_refused(sum: Result<u64, Error>) -> u64 {
     }
 }
 
-/// Returns how many bytes were written, or what a refused call answers.
+/// Returns the number of bytes written, or 2^64 - 1 for a refused call.
 pub(crate) fn bytes_or_refused(written: Result<(), Error>, bits: u64) -> u64 {
     match written {
         Ok(()) => bytes_of(bits),

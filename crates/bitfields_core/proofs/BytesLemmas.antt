@@ -11,7 +11,7 @@ use Rattle.std.proofs.lemmas.List.Folds.{list_all_at, list_all_more}
 use Rattle.std.proofs.lemmas.List.Splits.{slice_split_none, slice_split_at, join_with_byte-slice_split}
 use Rattle.bitfields_core.specs.declared.fault.Reason.{Reason}
 use Rattle.bitfields_core.specs.declared.fault.Reason.TheVariants.{ValueMisspelt, ValueDoesNotFit}
-use Rattle.bitfields_core.specs.Decimal.{is_decimal, is_byte, decimal_value, decimal_below, spaced, bytes_of_parts, bytes_within, bytes_text}
+use Rattle.bitfields_core.specs.Decimal.{is_decimal, is_byte, decimal_value, decimal_below, split_spaces, bytes_of_parts, bytes_within, bytes_text}
 use Rattle.bitfields_core.proofs.DecimalLemmas.{below_parts, decimal_lacks, decimal_value-decimal, decimal-decimal_value, is_decimal-decimal}
 use Rattle.bitstream_io.proofs.LeadLemmas.{both}
 
@@ -25,7 +25,7 @@ small b h =
 lacks_space : (b : ℕ) → b < 256 → All (λ c. (c == 32) ≡ false) (decimal b)
 lacks_space b h = decimal_lacks 32 b (lit< tt) (small b h)
 
-spaced-bytes_text : (b : ℕ) (bs : List ℕ) → AllByRecursion (λ c. c < 256) (b ∷ bs) → spaced (bytes_text (b ∷ bs))
+spaced-bytes_text : (b : ℕ) (bs : List ℕ) → AllByRecursion (λ c. c < 256) (b ∷ bs) → split_spaces (bytes_text (b ∷ bs))
     ≡ map decimal (b ∷ bs)
 spaced-bytes_text b [] h = slice_split_none (λ c. c == 32) (decimal b) (lacks_space b h.0)
 spaced-bytes_text b (c ∷ cs) h =
@@ -85,7 +85,7 @@ texts_back (part ∷ parts) d b =
 pub bytes_within-Ok : (n : ℕ) (text bytes : List ℕ) → bytes_within n text ≡ Ok bytes → (length bytes ≡ n)
     × All (λ b. b < 256) bytes × (bytes_text bytes ≡ text)
 bytes_within-Ok n text bytes h =
-    let parts = spaced text in
+    let parts = split_spaces text in
     let p = parts_by (length parts == n) (list_all is_decimal parts) (list_all is_byte parts) (map decimal_value parts)
     bytes h in
     let t = texts_back parts p.1 p.2 in

@@ -5,9 +5,9 @@ use Rattle.std.proofs.Common.{◌≡◌, ℕ, ◌+◌, ◌<◌, ◌≤◌, List,
 use Rattle.std.proofs.lemmas.List.{nil_from_length}
 use Rattle.std.proofs.lemmas.List.Elements.{All-append, All-cons, All-nil, recursion_from_All}
 use Rattle.bitstream_io.specs.Alignment.{to_boundary}
-use Rattle.bitstream_io.specs.Entry.{Front, TooFew, Takes, WriteEntry}
-use Rattle.bitstream_io.specs.ReadTable.{bytes_entry}
-use Rattle.bitstream_io.specs.Run.{write_run}
+use Rattle.bitstream_io.specs.Codec.{Prefix, Incomplete, Done, Encoder}
+use Rattle.bitstream_io.specs.ReadTable.{bytes_decoder}
+use Rattle.bitstream_io.specs.Sequence.{write_sequence}
 use Rattle.bitstream_io.specs.Word.{Order, bits}
 use Rattle.bitstream_io.specs.WriteTable.{align}
 use Rattle.bitstream_io.proofs.CallsBack.{bytes-read}
@@ -17,8 +17,8 @@ use Rattle.bitfields_core.specs.declared.field.Field.{Field}
 use Rattle.bitfields_core.specs.declared.field.Field.TheVariants.{Align}
 use Rattle.bitfields_core.specs.declared.field_value.FieldValue.{FieldValue}
 use Rattle.bitfields_core.specs.Layout.{IsField, IsLayout}
-use Rattle.bitfields_core.specs.Packing.{field_write, field_writes, packed}
-use Rattle.bitfields_core.specs.Repacking.{HasOneWord, exact_read, repacked, unnamed_last, with_alignment}
+use Rattle.bitfields_core.specs.Packing.{field_write, field_writes, packed_bits}
+use Rattle.bitfields_core.specs.Repacking.{HasOneWord, exact_read, unpack_aligned, without_last_field, with_alignment}
 use Rattle.bitfields_core.specs.Unpacking.{FieldCalls, Unpacked, Unpacks, Stops, says_by, values_and}
 use Rattle.bitfields_core.specs.Value.{value_count, value_list, Fit}
 use Rattle.bitfields_core.proofs.FieldCalls.{run-more, says-refused, says-short, says-takes, says-told, says-written}
@@ -32,7 +32,7 @@ pub record First (calls : FieldCalls) (o : Order) (k : ℕ) (f : Field) (fs : Li
   pub n : ℕ
   pub value : Option FieldValue
   pub rest : List FieldValue
-  pub reads : (calls o f).reads at b ≡ Takes n (Ok (Ok value))
+  pub reads : (calls o f).reads at b ≡ Done n (Ok (Ok value))
   pub others : says_by calls o (k + 1) fs (at + n) (drop n b) ≡ Unpacks rest end
   pub parts : vs ≡ value_list value ++ rest
 
@@ -46,19 +46,19 @@ values_behind us (Stops f) vs end h = absurd (cc)
 
 module _ (calls : FieldCalls) (o : Order) (k : ℕ) (f : Field) (fs : List Field) (at : ℕ) (b : List Bool)
     (vs : List FieldValue) (end : ℕ) where
-  first_by : (x : Front (Result (Option FieldValue) Reason)) → (calls o f).reads at b ≡ x
+  first_by : (x : Prefix (Result (Option FieldValue) Reason)) → (calls o f).reads at b ≡ x
       → says_by calls o k (f ∷ fs) at b ≡ Unpacks vs end → First calls o k f fs at b vs end
-  first_by TooFew is h =
+  first_by Incomplete is h =
       let stop : Stops _ ≡ Unpacks vs end = sym (says-short calls o k f fs at b is) ∙ h in
       absurd (cc)
-  first_by (Takes n (Ok (Ok v))) is h =
+  first_by (Done n (Ok (Ok v))) is h =
       let p = values_behind (value_list v) (says_by calls o (k + 1) fs (at + n) (drop n b)) vs end
       (sym (says-takes calls o k f fs at n b v is) ∙ h) in
       record { n = n; value = v; rest = p.0; reads = is; others = p.1; parts = p.2 }
-  first_by (Takes n (Ok (Err why))) is h =
+  first_by (Done n (Ok (Err why))) is h =
       let stop : Stops _ ≡ Unpacks vs end = sym (says-told calls o k f fs at n b why is) ∙ h in
       absurd (cc)
-  first_by (Takes n (Err x)) is h =
+  first_by (Done n (Err x)) is h =
       let stop : Stops _ ≡ Unpacks vs end = sym (says-refused calls o k f fs at n b x is) ∙ h in
       absurd (cc)
 
@@ -103,12 +103,12 @@ pub field_writes-aligned : (o : Order) (fields : List Field) (vs : List FieldVal
     → field_writes o (with_alignment fields) vs ≡ field_writes o fields vs ++ align ∷ []
 field_writes-aligned o [] vs = refl
 field_writes-aligned o (f ∷ fs) vs =
-    ap (λ (es : List WriteEntry). field_write o f vs ∷ es) (field_writes-aligned o fs (drop (value_count f) vs))
+    ap (λ (es : List Encoder). field_write o f vs ∷ es) (field_writes-aligned o fs (drop (value_count f) vs))
 
 pub packed-aligned : (o : Order) (fields : List Field) (vs : List FieldValue) (at : ℕ)
-    → packed o fields vs at ≡ write_run (field_writes o (with_alignment fields) vs) at
+    → packed_bits o fields vs at ≡ write_sequence (field_writes o (with_alignment fields) vs) at
 packed-aligned o fields vs at =
-    ap (λ (es : List WriteEntry). write_run es at) (sym (field_writes-aligned o fields vs))
+    ap (λ (es : List Encoder). write_sequence es at) (sym (field_writes-aligned o fields vs))
 
 -- ---- what is said
 
@@ -141,8 +141,8 @@ says_within o k (f ∷ fs) at b vs end i h =
 pub record Written (o : Order) (fields : List Field) (vs : List FieldValue) (at : ℕ) (b : List Bool) (end : ℕ) :
     Type 0 where
   pub rest : List Bool
-  pub parts : b ≡ write_run (field_writes o fields vs) at ++ rest
-  pub place : end ≡ at + length (write_run (field_writes o fields vs) at)
+  pub parts : b ≡ write_sequence (field_writes o fields vs) at ++ rest
+  pub place : end ≡ at + length (write_sequence (field_writes o fields vs) at)
 
 -- if each value of the fields has one word, the bits are what is written of the values
 pub says_written : (o : Order) (k : ℕ) (fields : List Field) (at : ℕ) (b : List Bool) (vs : List FieldValue) (end : ℕ)
@@ -158,13 +158,13 @@ says_written o k (f ∷ fs) at b vs end i one h =
     let q = says_written o (k + 1) fs (at + p.n) (drop p.n b) us end i.1 one.1 p.others in
     let w = take p.n b in
     let size : length w ≡ p.n = length-take-le p.n b t.there in
-    let x = write_run (field_writes o fs us) (at + p.n) in
-    let run : write_run (field_writes o (f ∷ fs) vs) at ≡ w ++ x =
-    ap (λ (ws : List FieldValue). write_run (field_writes o (f ∷ fs) ws) at) p.parts
+    let x = write_sequence (field_writes o fs us) (at + p.n) in
+    let run : write_sequence (field_writes o (f ∷ fs) vs) at ≡ w ++ x =
+    ap (λ (ws : List FieldValue). write_sequence (field_writes o (f ∷ fs) ws) at) p.parts
     ∙ run-more (field_write o f (value_list p.value ++ us)) (field_writes o fs (drop (value_count f)
     (value_list p.value ++ us))) w at (t.written one.0 us)
-    ∙ ap (λ (ws : List FieldValue). w ++ write_run (field_writes o fs ws) (at + length w)) (t.others us)
-    ∙ ap (λ (n : ℕ). w ++ write_run (field_writes o fs us) (at + n)) size in
+    ∙ ap (λ (ws : List FieldValue). w ++ write_sequence (field_writes o fs ws) (at + length w)) (t.others us)
+    ∙ ap (λ (n : ℕ). w ++ write_sequence (field_writes o fs us) (at + n)) size in
     record {
       rest = q.rest;
       parts = sym (take-append-drop p.n b) ∙ ap (λ (u : List Bool). w ++ u) q.parts ∙ sym (append_assoc w x q.rest)
@@ -175,8 +175,8 @@ says_written o k (f ∷ fs) at b vs end i one h =
 -- what is written of values that fit says these values, whatever follows
 pub exact-written : (o : Order) (k : ℕ) (fields : List Field) (vs : List FieldValue) (at : ℕ) (rest : List Bool)
     → AllByRecursion IsField fields → Fit fields vs
-    → says_by exact_read o k fields at (write_run (field_writes o fields vs) at ++ rest)
-    ≡ Unpacks vs (at + length (write_run (field_writes o fields vs) at))
+    → says_by exact_read o k fields at (write_sequence (field_writes o fields vs) at ++ rest)
+    ≡ Unpacks vs (at + length (write_sequence (field_writes o fields vs) at))
 exact-written = says-written exact_read exact_trips
 
 -- ---- the bytes of a layout
@@ -188,21 +188,21 @@ values_fit o fields b vs n layout h =
     (says_fit o 1 (with_alignment fields) 0 b vs n (each_aligned IsField fields tt layout.in_range) h)
 
 -- values are said whatever name a fault would have
-pub named : (n : ℕ) (r : Unpacked) (vs : List FieldValue) (end : ℕ) → unnamed_last n r ≡ Unpacks vs end
+pub named : (n : ℕ) (r : Unpacked) (vs : List FieldValue) (end : ℕ) → without_last_field n r ≡ Unpacks vs end
     → r ≡ Unpacks vs end
 named n (Unpacks ws at) vs end h = h
 named n (Stops f) vs end h = absurd (cc)
 
 -- bytes that say values of one word each are what is packed of these values
 pub same_bytes : (o : Order) (fields : List Field) (xs : List ℕ) (vs : List FieldValue) → IsLayout fields
-    → All HasOneWord fields → repacked o fields (bits o xs) ≡ Unpacks vs (8 * length xs)
-    → bits o xs ≡ packed o fields vs 0
+    → All HasOneWord fields → unpack_aligned o fields (bits o xs) ≡ Unpacks vs (8 * length xs)
+    → bits o xs ≡ packed_bits o fields vs 0
 same_bytes o fields xs vs layout one h =
     let all = with_alignment fields in
     let says = named (length fields) (says_by exact_read o 1 all 0 (bits o xs)) vs (8 * length xs) h in
     let q = says_written o 1 all 0 (bits o xs) vs (8 * length xs) (each_aligned IsField fields tt layout.in_range)
     (each_aligned HasOneWord fields tt one) says in
-    let x = write_run (field_writes o all vs) 0 in
+    let x = write_sequence (field_writes o all vs) 0 in
     let none_left : length q.rest ≡ 0 = omega (
       arith,
       q.place,
@@ -216,10 +216,10 @@ same_bytes o fields xs vs layout one h =
 
 -- what is packed of values that fit says these values, and no byte is left over
 pub packed_says : (o : Order) (fields : List Field) (xs : List ℕ) (vs : List FieldValue) → IsLayout fields
-    → Fit fields vs → bits o xs ≡ packed o fields vs 0 → repacked o fields (bits o xs) ≡ Unpacks vs (8 * length xs)
+    → Fit fields vs → bits o xs ≡ packed_bits o fields vs 0 → unpack_aligned o fields (bits o xs) ≡ Unpacks vs (8 * length xs)
 packed_says o fields xs vs layout fit h =
     let all = with_alignment fields in
-    let x = write_run (field_writes o all vs) 0 in
+    let x = write_sequence (field_writes o all vs) 0 in
     let whole : bits o xs ≡ x ++ [] = h ∙ packed-aligned o fields vs 0 ∙ sym (append-nil x) in
     let size : 0 + length x ≡ 8 * length xs = omega (
       arith,
@@ -227,7 +227,7 @@ packed_says o fields xs vs layout fit h =
       ap length (h ∙ packed-aligned o fields vs 0),
     )
     in
-    ap (unnamed_last (length fields))
+    ap (without_last_field (length fields))
     (ap (says_by exact_read o 1 all 0) whole
     ∙ exact-written o 1 all vs 0 [] (each_aligned IsField fields tt layout.in_range) (Fit-aligned fields vs fit)
     ∙ ap (Unpacks vs) size)
@@ -235,9 +235,9 @@ packed_says o fields xs vs layout fit h =
 -- ---- bytes with the same bits
 
 bytes_back : (o : Order) (xs : List ℕ) → All (λ x. x < 256) xs
-    → (bytes_entry o (length xs)).reads 0 (bits o xs ++ []) ≡ Takes (length (bits o xs)) (Ok xs)
+    → (bytes_decoder o (length xs)).reads 0 (bits o xs ++ []) ≡ Done (length (bits o xs)) (Ok xs)
 bytes_back o xs fit =
-    subst (λ (w : List Bool). (bytes_entry o (length xs)).reads 0 (w ++ []) ≡ Takes (length w) (Ok xs))
+    subst (λ (w : List Bool). (bytes_decoder o (length xs)).reads 0 (w ++ []) ≡ Done (length w) (Ok xs))
     (append-nil (bits o xs)) (bytes-read o xs fit 0 0 [])
 
 -- numbers below 256 with the same bits are the same
@@ -245,9 +245,9 @@ pub same_from_bits : (o : Order) (xs ys : List ℕ) → All (λ x. x < 256) xs �
     → bits o xs ≡ bits o ys → xs ≡ ys
 same_from_bits o xs ys fit also h =
     let size : length xs ≡ length ys = omega (arith, length-bits o xs, length-bits o ys, ap length h) in
-    let first : Takes (length (bits o xs)) (Ok xs) ≡ Takes (length (bits o ys)) (Ok ys) =
+    let first : Done (length (bits o xs)) (Ok xs) ≡ Done (length (bits o ys)) (Ok ys) =
     sym (bytes_back o xs fit)
-    ∙ ap (λ (w : List Bool). (bytes_entry o (length xs)).reads 0 (w ++ [])) h
-    ∙ ap (λ (n : ℕ). (bytes_entry o n).reads 0 (bits o ys ++ [])) size
+    ∙ ap (λ (w : List Bool). (bytes_decoder o (length xs)).reads 0 (w ++ [])) h
+    ∙ ap (λ (n : ℕ). (bytes_decoder o n).reads 0 (bits o ys ++ [])) size
     ∙ bytes_back o ys also in
     cc first

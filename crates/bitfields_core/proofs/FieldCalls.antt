@@ -17,12 +17,12 @@ use Rattle.bitstream_io.proofs.SignedLemmas.{signed_number-signed_word, zag-zig}
 use Rattle.bitstream_io.proofs.WordLemmas.{length-word, number-word}
 use Rattle.bitstream_io.specs.Error.{Error}
 use Rattle.bitstream_io.specs.Error.TheVariants as errors
-use Rattle.bitstream_io.specs.Entry.{ReadEntry, WriteEntry, TooFew, Takes, chain, gives, word_front}
+use Rattle.bitstream_io.specs.Codec.{Decoder, Encoder, Incomplete, Done, and_then, pure, word_prefix}
 use Rattle.bitstream_io.specs.Alignment.{to_boundary}
-use Rattle.bitstream_io.specs.ReadTable.{unsigned_entry, signed_entry, unary_entry, groups_entry, vbr_entry, any_vbr_entry, signed_groups_entry, signed_vbr_entry, bytes_entry, skip_entry, align_entry}
-use Rattle.bitstream_io.specs.Run.{accepted, write_run, write_refusals}
+use Rattle.bitstream_io.specs.ReadTable.{unsigned_decoder, signed_decoder, unary_decoder, groups_decoder, vbr_decoder, any_vbr_decoder, signed_groups_decoder, signed_vbr_decoder, bytes_decoder, skip_decoder, align_decoder}
+use Rattle.bitstream_io.specs.Sequence.{accepted_bits, write_sequence, write_refusals}
 use Rattle.bitstream_io.specs.WriteTable.{align}
-use Rattle.bitstream_io.proofs.EntryLemmas.{map_takes, chain-ok, chain-none, word_front-some, word_front-none}
+use Rattle.bitstream_io.proofs.CodecLemmas.{map_takes, and_then-ok, and_then-none, word_prefix-some, word_prefix-none}
 use Rattle.bitstream_io.proofs.TableLemmas.{unsigned-takes}
 use Rattle.bitstream_io.proofs.WriteLemmas.{unsigned-fits, signed-accepts}
 use Rattle.bitfields_core.specs.declared.fault.Reason.{Reason}
@@ -37,30 +37,30 @@ use Rattle.bitfields_core.specs.declared.field_value.ValueKind.{ValueKind}
 use Rattle.bitfields_core.specs.declared.field_value.ValueKind.TheVariants as Kind
 use Rattle.bitfields_core.specs.Fault.{fault}
 use Rattle.bitfields_core.specs.Layout.{IsField, group_bits}
-use Rattle.bitfields_core.specs.Packing.{field_word, field_write, field_writes, packed}
-use Rattle.bitfields_core.specs.Unpacking.{FieldCalls, Unpacked, Unpacks, Stops, field_read, read_reason, says_by, unpacked, values_and}
+use Rattle.bitfields_core.specs.Packing.{field_word, field_write, field_writes, packed_bits}
+use Rattle.bitfields_core.specs.Unpacking.{FieldCalls, Unpacked, Unpacks, Stops, field_read, read_reason, says_by, unpack_bits, values_and}
 use Rattle.bitfields_core.specs.Value.{kind_count, value_count, value_kind, value_list, first_unsigned, first_signed, first_bytes, Fit, FitsField, FitsKind}
 
 -- ---- a field's read call
 
 pub unsigned-reads : (o : Order) (n p : ℕ) (b : List Bool) → n ≤ 128 → (field_read o (Unsigned n)).reads p b
-    ≡ word_front n (λ w. Ok (Ok (Some (Value.Unsigned (number o w))))) b
+    ≡ word_prefix n (λ w. Ok (Ok (Some (Value.Unsigned (number o w))))) b
 unsigned-reads o n p b i =
     rw (unsigned-takes o 128 n i) ((map_takes n (number o) (λ v. Ok (Some (Value.Unsigned v)))
     (λ w. Ok (Ok (Some (Value.Unsigned (number o w))))) (λ w len. refl)).reads p b)
 
 pub align-reads : (o : Order) (p : ℕ) (b : List Bool) → (field_read o Align).reads p b
-    ≡ word_front (to_boundary p) (λ _. Ok (Ok None)) b
-unfolding align_entry
+    ≡ word_prefix (to_boundary p) (λ _. Ok (Ok None)) b
+unfolding align_decoder
 align-reads o p b = elim (cases_lt (length b) (to_boundary p)) [
-  | inl few ↦ chain-none align_entry (λ _. gives (Ok None)) p b (word_front-none (to_boundary p) (λ _. Ok tt) b few)
-      ∙ sym (word_front-none (to_boundary p) (λ _. Ok (Ok None)) b few)
+  | inl few ↦ and_then-none align_decoder (λ _. pure (Ok None)) p b (word_prefix-none (to_boundary p) (λ _. Ok tt) b few)
+      ∙ sym (word_prefix-none (to_boundary p) (λ _. Ok (Ok None)) b few)
   | inr enough ↦
       let yes = le-leb (to_boundary p) (length b) enough in
-      let first : align_entry.reads p b ≡ Takes (to_boundary p) (Ok tt) = rw yes refl in
-      let same : Takes (to_boundary p + 0) (Ok (Ok None)) ≡ word_front (to_boundary p) (λ _. Ok (Ok None)) b =
+      let first : align_decoder.reads p b ≡ Done (to_boundary p) (Ok tt) = rw yes refl in
+      let same : Done (to_boundary p + 0) (Ok (Ok None)) ≡ word_prefix (to_boundary p) (λ _. Ok (Ok None)) b =
       rw (yes, add-zero) refl in
-      chain-ok align_entry (λ _. gives (Ok None)) p b (to_boundary p) tt first ∙ same
+      and_then-ok align_decoder (λ _. pure (Ok None)) p b (to_boundary p) tt first ∙ same
 ]
 
 -- what a constant answers of its word
@@ -68,7 +68,7 @@ abbrev constant_of : Order → ℕ → List Bool → Result (Result (Option Fiel
 constant_of o v w = Ok (if number o w == v then Ok None else Err ConstantDiffers)
 
 constant-reads : (o : Order) (n v p : ℕ) (b : List Bool) → n ≤ 32 → (field_read o (Constant n v)).reads p b
-    ≡ word_front n (constant_of o v) b
+    ≡ word_prefix n (constant_of o v) b
 constant-reads o n v p b i =
     rw (unsigned-takes o 32 n i) ((map_takes n (number o) (λ u. if u == v then Ok None else Err ConstantDiffers)
     (constant_of o v) (λ w len. refl)).reads p b)
@@ -76,26 +76,26 @@ constant-reads o n v p b i =
 -- ---- the first field of some, by its read call
 
 module _ (calls : FieldCalls) (o : Order) (k : ℕ) (f : Field) (fs : List Field) (at : ℕ) where
-  pub says-takes : (n : ℕ) (b : List Bool) (v : Option FieldValue) → (calls o f).reads at b ≡ Takes n (Ok (Ok v))
+  pub says-takes : (n : ℕ) (b : List Bool) (v : Option FieldValue) → (calls o f).reads at b ≡ Done n (Ok (Ok v))
       → says_by calls o k (f ∷ fs) at b ≡ values_and (value_list v) (says_by calls o (k + 1) fs (at + n) (drop n b))
   says-takes n b v e = rw e refl
 
-  pub says-told : (n : ℕ) (b : List Bool) (why : Reason) → (calls o f).reads at b ≡ Takes n (Ok (Err why))
+  pub says-told : (n : ℕ) (b : List Bool) (why : Reason) → (calls o f).reads at b ≡ Done n (Ok (Err why))
       → says_by calls o k (f ∷ fs) at b ≡ Stops (fault k why)
   says-told n b why e = rw e refl
 
-  pub says-refused : (n : ℕ) (b : List Bool) (x : Error) → (calls o f).reads at b ≡ Takes n (Err x)
+  pub says-refused : (n : ℕ) (b : List Bool) (x : Error) → (calls o f).reads at b ≡ Done n (Err x)
       → says_by calls o k (f ∷ fs) at b ≡ Stops (fault k (read_reason x))
   says-refused n b errors.RunTooLong e = rw e refl
   says-refused n b x e = rw e refl
 
-  pub says-short : (b : List Bool) → (calls o f).reads at b ≡ TooFew
+  pub says-short : (b : List Bool) → (calls o f).reads at b ≡ Incomplete
       → says_by calls o k (f ∷ fs) at b ≡ Stops (fault k BitsEnded)
   says-short b e = rw e refl
 
   -- a word that the first field takes, and what follows it
   pub says-first : (w rest : List Bool) (v : Option FieldValue)
-      → (calls o f).reads at (w ++ rest) ≡ Takes (length w) (Ok (Ok v))
+      → (calls o f).reads at (w ++ rest) ≡ Done (length w) (Ok (Ok v))
       → says_by calls o k (f ∷ fs) at (w ++ rest)
       ≡ values_and (value_list v) (says_by calls o (k + 1) fs (at + length w) rest)
   says-first w rest v e =
@@ -106,12 +106,12 @@ module _ (calls : FieldCalls) (o : Order) (k : ℕ) (f : Field) (fs : List Field
 -- ---- what a field writes, as it is read
 
 -- the word that a field writes of the first of some values, and that a read call reads as this value
-pub record Trips (call : ReadEntry (Result (Option FieldValue) Reason)) (o : Order) (f : Field) (vs : List FieldValue)
+pub record Trips (call : Decoder (Result (Option FieldValue) Reason)) (o : Order) (f : Field) (vs : List FieldValue)
     (at : ℕ) : Type 0 where
   pub word : List Bool
   pub value : Option FieldValue
   pub writes : field_write o f vs at ≡ Ok word
-  pub reads : (more : List Bool) → call.reads at (word ++ more) ≡ Takes (length word) (Ok (Ok value))
+  pub reads : (more : List Bool) → call.reads at (word ++ more) ≡ Done (length word) (Ok (Ok value))
   pub first : vs ≡ value_list value ++ drop (value_count f) vs
 
 -- the number that stands first fits, and stands first
@@ -137,15 +137,15 @@ bytes_first n (Value.Signed x ∷ vs) h = absurd h
 bytes_first n (Value.Bytes bytes ∷ vs) h = (h.0, h.1, refl)
 
 -- a call and what is made of its answer
-made : {A B : Type 0} (e : ReadEntry A) (f : A → B) (p n : ℕ) (b : List Bool) (a : A) → e.reads p b ≡ Takes n (Ok a)
-    → (chain e (λ v. gives (f v))).reads p b ≡ Takes n (Ok (f a))
-made e f p n b a h = chain-ok e (λ v. gives (f v)) p b n a h ∙ ap (λ (m : ℕ). Takes m (Ok (f a))) (add-zero n)
+made : {A B : Type 0} (e : Decoder A) (f : A → B) (p n : ℕ) (b : List Bool) (a : A) → e.reads p b ≡ Done n (Ok a)
+    → (and_then e (λ v. pure (f v))).reads p b ≡ Done n (Ok (f a))
+made e f p n b a h = and_then-ok e (λ v. pure (f v)) p b n a h ∙ ap (λ (m : ℕ). Done m (Ok (f a))) (add-zero n)
 
 -- the word of a field's call, which is read as the field's value
-trip : {A : Type 0} (o : Order) (f : Field) (vs : List FieldValue) (at : ℕ) (e : ReadEntry A) (make : A
+trip : {A : Type 0} (o : Order) (f : Field) (vs : List FieldValue) (at : ℕ) (e : Decoder A) (make : A
     → FieldValue) (a : A) (w : List Bool)
-    → field_read o f ≡ chain e (λ v. gives (Ok (Some (make v)))) → field_write o f vs at ≡ Ok w
-    → ((more : List Bool) → e.reads at (w ++ more) ≡ Takes (length w) (Ok a))
+    → field_read o f ≡ and_then e (λ v. pure (Ok (Some (make v)))) → field_write o f vs at ≡ Ok w
+    → ((more : List Bool) → e.reads at (w ++ more) ≡ Done (length w) (Ok a))
     → vs ≡ make a ∷ drop (value_count f) vs → Trips (field_read o f) o f vs at
 trip o f vs at e make a w is writes reads first = record {
   word = w;
@@ -156,101 +156,101 @@ trip o f vs at e make a w is writes reads first = record {
 }
 
 unsigned-answers : (o : Order) (size n v p : ℕ) (more : List Bool) → n ≤ size → v < 2 ^ n
-    → (unsigned_entry o size n).reads p (word o n v ++ more) ≡ Takes (length (word o n v)) (Ok v)
+    → (unsigned_decoder o size n).reads p (word o n v ++ more) ≡ Done (length (word o n v)) (Ok v)
 unsigned-answers o size n v p more le h =
-    rw (unsigned-takes o size n le) (word_front-some n (λ w. Ok (number o w)) (word o n v) more (length-word o n v))
-    ∙ ap (λ (u : ℕ). Takes n (Ok u)) (number-word o n v ∙ mod-eq_of_lt h)
-    ∙ ap (λ (m : ℕ). Takes m (Ok v)) (sym (length-word o n v))
+    rw (unsigned-takes o size n le) (word_prefix-some n (λ w. Ok (number o w)) (word o n v) more (length-word o n v))
+    ∙ ap (λ (u : ℕ). Done n (Ok u)) (number-word o n v ∙ mod-eq_of_lt h)
+    ∙ ap (λ (m : ℕ). Done m (Ok v)) (sym (length-word o n v))
 
 signed-answers : (o : Order) (n : ℕ) (x : ℤ) (p : ℕ) (more : List Bool) → 1 ≤ n → n ≤ 128 → FitsSignedBits n x
-    → (signed_entry o 128 n).reads p (signed_word o n x ++ more) ≡ Takes (length (signed_word o n x)) (Ok x)
+    → (signed_decoder o 128 n).reads p (signed_word o n x ++ more) ≡ Done (length (signed_word o n x)) (Ok x)
 signed-answers o n x p more some le h =
     (signed-word o 128 n some le).reads p (signed_word o n x ++ more)
-    ∙ word_front-some n (λ w. Ok (signed_number o w)) (signed_word o n x) more (length-word o n _)
-    ∙ ap (λ (y : ℤ). Takes n (Ok y)) (signed_number-signed_word o n x some h)
-    ∙ ap (λ (m : ℕ). Takes m (Ok x)) (sym (length-word o n _))
+    ∙ word_prefix-some n (λ w. Ok (signed_number o w)) (signed_word o n x) more (length-word o n _)
+    ∙ ap (λ (y : ℤ). Done n (Ok y)) (signed_number-signed_word o n x some h)
+    ∙ ap (λ (m : ℕ). Done m (Ok x)) (sym (length-word o n _))
 
 unary-answers : (stop : Bool) (v p : ℕ) (more : List Bool) → v < 2 ^ 32
-    → (unary_entry stop).reads p (unary stop v ++ more) ≡ Takes (length (unary stop v)) (Ok v)
-unfolding unary_entry
+    → (unary_decoder stop).reads p (unary stop v ++ more) ≡ Done (length (unary stop v)) (Ok v)
+unfolding unary_decoder
 unary-answers stop v p more h = read_unary-unary stop v more h
 
 bytes-answers : (o : Order) (n : ℕ) (bytes : List ℕ) (p : ℕ) (more : List Bool) → length bytes ≡ n
     → All (λ b. b < 256) bytes
-    → (bytes_entry o n).reads p (bits o bytes ++ more) ≡ Takes (length (bits o bytes)) (Ok bytes)
+    → (bytes_decoder o n).reads p (bits o bytes ++ more) ≡ Done (length (bits o bytes)) (Ok bytes)
 bytes-answers o n bytes p more size fit =
-    subst (λ (m : ℕ). (bytes_entry o m).reads p (bits o bytes ++ more) ≡ Takes (length (bits o bytes)) (Ok bytes)) size
-    (subst (λ (w : List Bool). (bytes_entry o (length bytes)).reads p (w ++ more) ≡ Takes (length w) (Ok bytes))
+    subst (λ (m : ℕ). (bytes_decoder o m).reads p (bits o bytes ++ more) ≡ Done (length (bits o bytes)) (Ok bytes)) size
+    (subst (λ (w : List Bool). (bytes_decoder o (length bytes)).reads p (w ++ more) ≡ Done (length w) (Ok bytes))
     (append-nil (bits o bytes)) (bytes-read o bytes fit 0 p more))
 
-skip-answers : (n p : ℕ) (more : List Bool) → (skip_entry n).reads p (replicate n false ++ more)
-    ≡ Takes (length (replicate n false)) (Ok tt)
-unfolding skip_entry
+skip-answers : (n p : ℕ) (more : List Bool) → (skip_decoder n).reads p (replicate n false ++ more)
+    ≡ Done (length (replicate n false)) (Ok tt)
+unfolding skip_decoder
 skip-answers n p more =
-    word_front-some n (λ _. Ok tt) (replicate n false) more (length-replicate n false)
-    ∙ ap (λ (m : ℕ). Takes m (Ok tt)) (sym (length-replicate n false))
+    word_prefix-some n (λ _. Ok tt) (replicate n false) more (length-replicate n false)
+    ∙ ap (λ (m : ℕ). Done m (Ok tt)) (sym (length-replicate n false))
 
 pub two_bits : (size : GroupSize) → 2 ≤ group_bits size
 two_bits Four = omega arith
 two_bits Eight = omega arith
 
 groups-answers : (strict : Bool) (o : Order) (field v p : ℕ) (more : List Bool) → 2 ≤ field → v < 2 ^ 64
-    → (groups_entry strict o field 64 (2 ^ 64)).reads p (vbr_word o field v ++ more)
-    ≡ Takes (length (vbr_word o field v)) (Ok v)
-unfolding groups_entry
+    → (groups_decoder strict o field 64 (2 ^ 64)).reads p (vbr_word o field v ++ more)
+    ≡ Done (length (vbr_word o field v)) (Ok v)
+unfolding groups_decoder
 groups-answers strict o field v p more wide h =
     read_vbr-IsAccepted o field (omega arith) strict 64 (2 ^ 64) (vbr_word o field v) v more wide
     (vbr_word_accepted o field (omega arith) strict 64 (2 ^ 64) v wide (lit< tt) (omega arith) h)
 
 signed_vbr-answers : (o : Order) (field : ℕ) (x : ℤ) (p : ℕ) (more : List Bool) → 2 ≤ field → FitsSignedBits 64 x
-    → (signed_vbr_entry o field 64).reads p (vbr_word o field (zig x) ++ more)
-    ≡ Takes (length (vbr_word o field (zig x))) (Ok x)
-unfolding signed_groups_entry
+    → (signed_vbr_decoder o field 64).reads p (vbr_word o field (zig x) ++ more)
+    ≡ Done (length (vbr_word o field (zig x))) (Ok x)
+unfolding signed_groups_decoder
 signed_vbr-answers o field x p more wide h =
     let w = vbr_word o field (zig x) in
-    made (vbr_entry o field 64 (2 ^ 64)) zag p (length w) (w
+    made (vbr_decoder o field 64 (2 ^ 64)) zag p (length w) (w
     ++ more) (zig x) (groups-answers true o field (zig x) p more wide (zig-lt 64 x (lit< tt) h))
-    ∙ ap (λ (y : ℤ). Takes (length w) (Ok y)) (zag-zig x)
+    ∙ ap (λ (y : ℤ). Done (length w) (Ok y)) (zag-zig x)
 
 pub trips : (o : Order) (f : Field) (vs : List FieldValue) (at : ℕ) → IsField f → FitsField f vs
     → Trips (field_read o f) o f vs at
 trips o (Unsigned n) vs at i h =
     let v = first_unsigned vs in
     let p = unsigned_first n vs h in
-    trip o (Unsigned n) vs at (unsigned_entry o 128 n) Value.Unsigned v (word o n v) refl
+    trip o (Unsigned n) vs at (unsigned_decoder o 128 n) Value.Unsigned v (word o n v) refl
     (unsigned-fits o 128 n v at i.1 p.0) (λ more. unsigned-answers o 128 n v at more i.1 p.0) p.1
 trips o (Signed n) vs at i h =
     let x = first_signed vs in
     let p = signed_first n vs h in
-    trip o (Signed n) vs at (signed_entry o 128 n) Value.Signed x (signed_word o n x) refl
+    trip o (Signed n) vs at (signed_decoder o 128 n) Value.Signed x (signed_word o n x) refl
     (signed-accepts o 128 n x at i.0 (i.1, p.0)) (λ more. signed-answers o n x at more i.0 i.1 p.0) p.1
 trips o (Unary stop) vs at i h =
     let v = first_unsigned vs in
     let p = unsigned_first 32 vs h in
-    trip o (Unary stop) vs at (unary_entry stop) Value.Unsigned v (unary stop v) refl refl
+    trip o (Unary stop) vs at (unary_decoder stop) Value.Unsigned v (unary stop v) refl refl
     (λ more. unary-answers stop v at more p.0) p.1
 trips o (Variable size) vs at i h =
     let v = first_unsigned vs in
     let p = unsigned_first 64 vs h in
-    trip o (Variable size) vs at (vbr_entry o (group_bits size) 64 (2 ^ 64)) Value.Unsigned v
+    trip o (Variable size) vs at (vbr_decoder o (group_bits size) 64 (2 ^ 64)) Value.Unsigned v
     (vbr_word o (group_bits size) v) refl refl (λ more. groups-answers true o (group_bits size) v at more
     (two_bits size) p.0) p.1
 trips o (Lenient size) vs at i h =
     let v = first_unsigned vs in
     let p = unsigned_first 64 vs h in
-    trip o (Lenient size) vs at (any_vbr_entry o (group_bits size) 64 (2 ^ 64)) Value.Unsigned v
+    trip o (Lenient size) vs at (any_vbr_decoder o (group_bits size) 64 (2 ^ 64)) Value.Unsigned v
     (vbr_word o (group_bits size) v) refl refl (λ more. groups-answers false o (group_bits size) v at more
     (two_bits size) p.0) p.1
 trips o (SignedVariable size) vs at i h =
     let x = first_signed vs in
     let p = signed_first 64 vs h in
-    trip o (SignedVariable size) vs at (signed_vbr_entry o (group_bits size) 64) Value.Signed x
+    trip o (SignedVariable size) vs at (signed_vbr_decoder o (group_bits size) 64) Value.Signed x
     (vbr_word o (group_bits size) (zig x)) refl refl
     (λ more. signed_vbr-answers o (group_bits size) x at more (two_bits size) p.0) p.1
 trips o (Bytes n) vs at i h =
     let bytes = first_bytes vs in
     let p = bytes_first n vs h in
-    trip o (Bytes n) vs at (bytes_entry o n) Value.Bytes bytes (bits o bytes) refl refl
+    trip o (Bytes n) vs at (bytes_decoder o n) Value.Bytes bytes (bits o bytes) refl refl
     (λ more. bytes-answers o n bytes at more p.0 p.1) p.2
 trips o (Constant n v) vs at i h =
     let w = word o n v in
@@ -260,9 +260,9 @@ trips o (Constant n v) vs at i h =
       word = w;
       value = None;
       writes = unsigned-fits o 32 n v at i.1 i.2;
-      reads = λ more. made (unsigned_entry o 32 n) (λ u. if u == v then Ok None else Err ConstantDiffers) at
+      reads = λ more. made (unsigned_decoder o 32 n) (λ u. if u == v then Ok None else Err ConstantDiffers) at
           (length w) (w ++ more) v (unsigned-answers o 32 n v at more i.1 i.2)
-          ∙ ap (λ (r : Result (Option FieldValue) Reason). Takes (length w) (Ok r)) same;
+          ∙ ap (λ (r : Result (Option FieldValue) Reason). Done (length w) (Ok r)) same;
       first = refl;
     }
 trips o (Padding n) vs at i h =
@@ -271,7 +271,7 @@ trips o (Padding n) vs at i h =
       word = w;
       value = None;
       writes = refl;
-      reads = λ more. made (skip_entry n) (λ _. Ok None) at (length w) (w ++ more) tt (skip-answers n at more);
+      reads = λ more. made (skip_decoder n) (λ _. Ok None) at (length w) (w ++ more) tt (skip-answers n at more);
       first = refl;
     }
 trips o Align vs at i h =
@@ -281,19 +281,19 @@ trips o Align vs at i h =
       word = w;
       value = None;
       writes = refl;
-      reads = λ more. align-reads o at (w ++ more) ∙ word_front-some (to_boundary at) (λ _. Ok (Ok None)) w more
-          (sym size) ∙ ap (λ (m : ℕ). Takes m (Ok (Ok None))) size;
+      reads = λ more. align-reads o at (w ++ more) ∙ word_prefix-some (to_boundary at) (λ _. Ok (Ok None)) w more
+          (sym size) ∙ ap (λ (m : ℕ). Done m (Ok (Ok None))) size;
       first = refl;
     }
 
 -- an accepted call, and those that follow it
-pub run-more : (entry : WriteEntry) (entries : List WriteEntry) (w : List Bool) (len : ℕ) → entry len ≡ Ok w
-    → write_run (entry ∷ entries) len ≡ w ++ write_run entries (len + length w)
-run-more entry entries w len e = rw e refl
+pub run-more : (encoder : Encoder) (encoders : List Encoder) (w : List Bool) (len : ℕ) → encoder len ≡ Ok w
+    → write_sequence (encoder ∷ encoders) len ≡ w ++ write_sequence encoders (len + length w)
+run-more encoder encoders w len e = rw e refl
 
-pub refusals-more : (entry : WriteEntry) (entries : List WriteEntry) (w : List Bool) (len : ℕ) → entry len ≡ Ok w
-    → write_refusals (entry ∷ entries) len ≡ None ∷ write_refusals entries (len + length w)
-refusals-more entry entries w len e = rw e refl
+pub refusals-more : (encoder : Encoder) (encoders : List Encoder) (w : List Bool) (len : ℕ) → encoder len ≡ Ok w
+    → write_refusals (encoder ∷ encoders) len ≡ None ∷ write_refusals encoders (len + length w)
+refusals-more encoder encoders w len e = rw e refl
 
 -- values that fit are written without a refusal
 pub refusals-none : (o : Order) (fields : List Field) (vs : List FieldValue) (at : ℕ) → AllByRecursion IsField fields
@@ -317,16 +317,16 @@ module _ (calls : FieldCalls) (back : (o : Order) (f : Field) (vs : List FieldVa
   -- what is written of values that fit says these values, whatever follows
   pub says-written : (o : Order) (k : ℕ) (fields : List Field) (vs : List FieldValue) (at : ℕ) (rest : List Bool)
       → AllByRecursion IsField fields → Fit fields vs
-      → says_by calls o k fields at (write_run (field_writes o fields vs) at ++ rest)
-      ≡ Unpacks vs (at + length (write_run (field_writes o fields vs) at))
+      → says_by calls o k fields at (write_sequence (field_writes o fields vs) at ++ rest)
+      ≡ Unpacks vs (at + length (write_sequence (field_writes o fields vs) at))
   says-written o k [] vs at rest i h =
       let place : at ≡ at + 0 = omega arith in
       ap (λ (p : ℕ). Unpacks [] p) place ∙ ap (λ (us : List FieldValue). Unpacks us (at + 0)) (sym h)
   says-written o k (f ∷ fs) vs at rest i h =
       let t = back o f vs at i.0 h.0 in
       let us = drop (value_count f) vs in
-      let x = write_run (field_writes o fs us) (at + length t.word) in
-      let written : write_run (field_writes o (f ∷ fs) vs) at ≡ t.word ++ x =
+      let x = write_sequence (field_writes o fs us) (at + length t.word) in
+      let written : write_sequence (field_writes o (f ∷ fs) vs) at ≡ t.word ++ x =
       run-more (field_write o f vs) (field_writes o fs us) t.word at t.writes in
       let place : at + length t.word + length x ≡ at + length (t.word ++ x) = rw length-append (omega arith) in
       let whole : says_by calls o k (f ∷ fs) at ((t.word ++ x) ++ rest) ≡ Unpacks vs (at + length (t.word ++ x)) =
@@ -341,15 +341,15 @@ module _ (calls : FieldCalls) (back : (o : Order) (f : Field) (vs : List FieldVa
 -- what is written of values that fit is unpacked as these values, whatever follows
 pub unpacked-written : (o : Order) (k : ℕ) (fields : List Field) (vs : List FieldValue) (at : ℕ) (rest : List Bool)
     → AllByRecursion IsField fields → Fit fields vs
-    → unpacked o k fields at (write_run (field_writes o fields vs) at ++ rest)
-    ≡ Unpacks vs (at + length (write_run (field_writes o fields vs) at))
+    → unpack_bits o k fields at (write_sequence (field_writes o fields vs) at ++ rest)
+    ≡ Unpacks vs (at + length (write_sequence (field_writes o fields vs) at))
 unpacked-written = says-written field_read trips
 
 -- ---- packing, field by field
 
 pub packed-first : (o : Order) (f : Field) (fields : List Field) (vs : List FieldValue) (at : ℕ) (w : List Bool)
     → field_write o f vs at ≡ Ok w
-    → packed o (f ∷ fields) vs at ≡ w ++ packed o fields (drop (value_count f) vs) (at + length w)
+    → packed_bits o (f ∷ fields) vs at ≡ w ++ packed_bits o fields (drop (value_count f) vs) (at + length w)
 packed-first o f fields vs at w e = run-more (field_write o f vs) (field_writes o fields (drop (value_count f) vs)
     ++ align ∷ []) w at e
 
@@ -372,22 +372,22 @@ field_word-written o Align vs at i h = refl
 
 pub packed-word : (o : Order) (f : Field) (fields : List Field) (vs : List FieldValue) (at : ℕ) → IsField f
     → FitsField f vs
-    → packed o (f ∷ fields) vs at ≡ field_word o f vs at ++ packed o fields (drop (value_count f) vs)
+    → packed_bits o (f ∷ fields) vs at ≡ field_word o f vs at ++ packed_bits o fields (drop (value_count f) vs)
     (at + length (field_word o f vs at))
 packed-word o f fields vs at i h = packed-first o f fields vs at (field_word o f vs at)
     (field_word-written o f vs at i h)
 
 pub packed-number : (o : Order) (n v : ℕ) (fields : List Field) (vs : List FieldValue) (at : ℕ) → n ≤ 128 → v < 2 ^ n
-    → packed o (Unsigned n ∷ fields) (Value.Unsigned v ∷ vs) at ≡ word o n v ++ packed o fields vs (at + n)
+    → packed_bits o (Unsigned n ∷ fields) (Value.Unsigned v ∷ vs) at ≡ word o n v ++ packed_bits o fields vs (at + n)
 packed-number o n v fields vs at i h =
     packed-first o (Unsigned n) fields (Value.Unsigned v ∷ vs) at (word o n v) (unsigned-fits o 128 n v at i h)
-    ∙ ap (λ (m : ℕ). word o n v ++ packed o fields vs (at + m)) (length-word o n v)
+    ∙ ap (λ (m : ℕ). word o n v ++ packed_bits o fields vs (at + m)) (length-word o n v)
 
 pub packed-align : (o : Order) (fields : List Field) (vs : List FieldValue) (at : ℕ)
-    → packed o (Align ∷ fields) vs at ≡ replicate (to_boundary at) false ++ packed o fields vs (at + to_boundary at)
+    → packed_bits o (Align ∷ fields) vs at ≡ replicate (to_boundary at) false ++ packed_bits o fields vs (at + to_boundary at)
 packed-align o fields vs at =
     packed-first o Align fields vs at (replicate (to_boundary at) false) refl
-    ∙ ap (λ (m : ℕ). replicate (to_boundary at) false ++ packed o fields vs (at + m))
+    ∙ ap (λ (m : ℕ). replicate (to_boundary at) false ++ packed_bits o fields vs (at + m))
     (length-replicate (to_boundary at) false)
 
 -- ---- unpacking, field by field
@@ -395,62 +395,62 @@ packed-align o fields vs at =
 -- the first field takes n bits, where they are there
 first_word : (o : Order) (k : ℕ) (f : Field) (fs : List Field) (at n : ℕ) (w rest : List Bool) (g : List Bool
     → Result (Result (Option FieldValue) Reason) Error) (v : Option FieldValue)
-    → ((b : List Bool) → (field_read o f).reads at b ≡ word_front n g b) → g w ≡ Ok (Ok v) → length w ≡ n
-    → unpacked o k (f ∷ fs) at (w ++ rest) ≡ values_and (value_list v) (unpacked o (k + 1) fs (at + n) rest)
+    → ((b : List Bool) → (field_read o f).reads at b ≡ word_prefix n g b) → g w ≡ Ok (Ok v) → length w ≡ n
+    → unpack_bits o k (f ∷ fs) at (w ++ rest) ≡ values_and (value_list v) (unpack_bits o (k + 1) fs (at + n) rest)
 first_word o k f fs at n w rest g v reads is size =
-    says-first field_read o k f fs at w rest v (reads (w ++ rest) ∙ word_front-some n g w rest size ∙ ap (Takes n) is
-    ∙ ap (λ (m : ℕ). Takes m (Ok (Ok v))) (sym size))
-    ∙ ap (λ (m : ℕ). values_and (value_list v) (unpacked o (k + 1) fs (at + m) rest)) size
+    says-first field_read o k f fs at w rest v (reads (w ++ rest) ∙ word_prefix-some n g w rest size ∙ ap (Done n) is
+    ∙ ap (λ (m : ℕ). Done m (Ok (Ok v))) (sym size))
+    ∙ ap (λ (m : ℕ). values_and (value_list v) (unpack_bits o (k + 1) fs (at + m) rest)) size
 
 pub values_and-nil : (r : Unpacked) → values_and [] r ≡ r
 values_and-nil (Unpacks ws at) = refl
 values_and-nil (Stops f) = refl
 
 pub unpacked-number : (o : Order) (k n : ℕ) (fields : List Field) (at : ℕ) (w rest : List Bool) → n ≤ 128 → length w ≡ n
-    → unpacked o k (Unsigned n ∷ fields) at (w ++ rest)
-    ≡ values_and (Value.Unsigned (number o w) ∷ []) (unpacked o (k + 1) fields (at + n) rest)
+    → unpack_bits o k (Unsigned n ∷ fields) at (w ++ rest)
+    ≡ values_and (Value.Unsigned (number o w) ∷ []) (unpack_bits o (k + 1) fields (at + n) rest)
 unpacked-number o k n fields at w rest i size =
     first_word o k (Unsigned n) fields at n w rest (λ w. Ok (Ok (Some (Value.Unsigned (number o w)))))
     (Some (Value.Unsigned (number o w))) (λ b. unsigned-reads o n at b i) refl size
 
 pub unpacked-align : (o : Order) (k : ℕ) (fields : List Field) (at : ℕ) (w rest : List Bool) → length w ≡ to_boundary at
-    → unpacked o k (Align ∷ fields) at (w ++ rest) ≡ unpacked o (k + 1) fields (at + to_boundary at) rest
+    → unpack_bits o k (Align ∷ fields) at (w ++ rest) ≡ unpack_bits o (k + 1) fields (at + to_boundary at) rest
 unpacked-align o k fields at w rest size =
     first_word o k Align fields at (to_boundary at) w rest (λ _. Ok (Ok None)) None (align-reads o at) refl size
-    ∙ values_and-nil (unpacked o (k + 1) fields (at + to_boundary at) rest)
+    ∙ values_and-nil (unpack_bits o (k + 1) fields (at + to_boundary at) rest)
 
 pub unpacked-few : (o : Order) (k n : ℕ) (fields : List Field) (at : ℕ) (b : List Bool) → n ≤ 128 → length b < n
-    → unpacked o k (Unsigned n ∷ fields) at b ≡ Stops (fault k BitsEnded)
+    → unpack_bits o k (Unsigned n ∷ fields) at b ≡ Stops (fault k BitsEnded)
 unpacked-few o k n fields at b i few =
     says-short field_read o k (Unsigned n) fields at b (unsigned-reads o n at b i
-    ∙ word_front-none n (λ w. Ok (Ok (Some (Value.Unsigned (number o w))))) b few)
+    ∙ word_prefix-none n (λ w. Ok (Ok (Some (Value.Unsigned (number o w))))) b few)
 
 pub unpacked-few_to_align : (o : Order) (k : ℕ) (fields : List Field) (at : ℕ) (b : List Bool)
-    → length b < to_boundary at → unpacked o k (Align ∷ fields) at b ≡ Stops (fault k BitsEnded)
+    → length b < to_boundary at → unpack_bits o k (Align ∷ fields) at b ≡ Stops (fault k BitsEnded)
 unpacked-few_to_align o k fields at b few = says-short field_read o k Align fields at b (align-reads o at b
-    ∙ word_front-none (to_boundary at) (λ _. Ok (Ok None)) b few)
+    ∙ word_prefix-none (to_boundary at) (λ _. Ok (Ok None)) b few)
 
 pub unpacked-constant : (o : Order) (k n v : ℕ) (fields : List Field) (at : ℕ) (w rest : List Bool) → n ≤ 32
     → length w ≡ n → number o w ≡ v
-    → unpacked o k (Constant n v ∷ fields) at (w ++ rest) ≡ unpacked o (k + 1) fields (at + n) rest
+    → unpack_bits o k (Constant n v ∷ fields) at (w ++ rest) ≡ unpack_bits o (k + 1) fields (at + n) rest
 unpacked-constant o k n v fields at w rest i size is =
     let same : constant_of o v w ≡ Ok (Ok None) = rw (eq-eqb (number o w) v is) refl in
     first_word o k (Constant n v) fields at n w rest (constant_of o v) None (λ b. constant-reads o n v at b i) same size
-    ∙ values_and-nil (unpacked o (k + 1) fields (at + n) rest)
+    ∙ values_and-nil (unpack_bits o (k + 1) fields (at + n) rest)
 
 pub unpacked-differs : (o : Order) (k n v : ℕ) (fields : List Field) (at : ℕ) (w rest : List Bool) → n ≤ 32
     → length w ≡ n → number o w ≢ v
-    → unpacked o k (Constant n v ∷ fields) at (w ++ rest) ≡ Stops (fault k ConstantDiffers)
+    → unpack_bits o k (Constant n v ∷ fields) at (w ++ rest) ≡ Stops (fault k ConstantDiffers)
 unpacked-differs o k n v fields at w rest i size other =
     let same : constant_of o v w ≡ Ok (Err ConstantDiffers) = rw (ne_eqb (number o w) v other) refl in
     says-told field_read o k (Constant n v) fields at n (w ++ rest) ConstantDiffers
-    (constant-reads o n v at (w ++ rest) i ∙ word_front-some n (constant_of o v) w rest size ∙ ap (Takes n) same)
+    (constant-reads o n v at (w ++ rest) i ∙ word_prefix-some n (constant_of o v) w rest size ∙ ap (Done n) same)
 
 pub unpacked-few_for_constant : (o : Order) (k n v : ℕ) (fields : List Field) (at : ℕ) (b : List Bool) → n ≤ 32
-    → length b < n → unpacked o k (Constant n v ∷ fields) at b ≡ Stops (fault k BitsEnded)
+    → length b < n → unpack_bits o k (Constant n v ∷ fields) at b ≡ Stops (fault k BitsEnded)
 unpacked-few_for_constant o k n v fields at b i few =
     says-short field_read o k (Constant n v) fields at b (constant-reads o n v at b i
-    ∙ word_front-none n (constant_of o v) b few)
+    ∙ word_prefix-none n (constant_of o v) b few)
 
 -- values that fit are not fewer than the field has
 fits-count : (kind : ValueKind) (vs : List FieldValue) → FitsKind kind vs → kind_count kind ≤ length vs
@@ -482,13 +482,13 @@ first_values f vs v fit first =
 
 pub unpacked-word : (o : Order) (k : ℕ) (f : Field) (fields : List Field) (vs : List FieldValue) (at : ℕ)
     (rest : List Bool) → IsField f → FitsField f vs
-    → unpacked o k (f ∷ fields) at (field_word o f vs at ++ rest)
-    ≡ values_and (take (value_count f) vs) (unpacked o (k + 1) fields (at + length (field_word o f vs at)) rest)
+    → unpack_bits o k (f ∷ fields) at (field_word o f vs at ++ rest)
+    ≡ values_and (take (value_count f) vs) (unpack_bits o (k + 1) fields (at + length (field_word o f vs at)) rest)
 unpacked-word o k f fields vs at rest i h =
     let t = trips o f vs at i h in
     let same : field_word o f vs at ≡ t.word = (let a = field_word-written o f vs at i h in let b = t.writes in cc) in
-    subst (λ (w : List Bool). unpacked o k (f ∷ fields) at (w ++ rest)
-    ≡ values_and (take (value_count f) vs) (unpacked o (k + 1) fields (at + length w) rest)) (sym same)
+    subst (λ (w : List Bool). unpack_bits o k (f ∷ fields) at (w ++ rest)
+    ≡ values_and (take (value_count f) vs) (unpack_bits o (k + 1) fields (at + length w) rest)) (sym same)
     (says-first field_read o k f fields at t.word rest t.value (t.reads rest)
-    ∙ ap (λ (us : List FieldValue). values_and us (unpacked o (k + 1) fields (at + length t.word) rest))
+    ∙ ap (λ (us : List FieldValue). values_and us (unpack_bits o (k + 1) fields (at + length t.word) rest))
     (first_values f vs t.value h t.first))

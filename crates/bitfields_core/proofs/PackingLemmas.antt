@@ -9,12 +9,12 @@ use Rattle.std.proofs.lemmas.List.Elements.{recursion_from_All}
 use Rattle.bitstream_io.specs.Word.{Order, word, bits}
 use Rattle.bitstream_io.proofs.WordLemmas.{length-word, length-bits}
 use Rattle.bitstream_io.specs.Error.{Error}
-use Rattle.bitstream_io.specs.Entry.{WriteEntry}
+use Rattle.bitstream_io.specs.Codec.{Encoder}
 use Rattle.bitstream_io.specs.Refusal.{Refusal}
 use Rattle.bitstream_io.specs.Streams.{OutputStream}
 use Rattle.bitstream_io.proofs.TakeLemmas.{word-none}
 use Rattle.bitstream_io.specs.Alignment.{to_boundary}
-use Rattle.bitstream_io.specs.Run.{accepted, refusal_if_any, write_run, write_refusals}
+use Rattle.bitstream_io.specs.Sequence.{accepted_bits, refusal_if_any, write_sequence, write_refusals}
 use Rattle.bitstream_io.specs.Sink.{Sink, IsWithin, Appended, WriteRefused, Writes, WritesAll, had_failed, was_rejected, past_limit, was_refused, was_done}
 use Rattle.bitstream_io.specs.WriteTable.{align}
 use Rattle.bitstream_io.specs.Carries.{WriterState, Carries, Fills}
@@ -28,27 +28,27 @@ use Rattle.bitfields_core.specs.declared.field.Field.{Field}
 use Rattle.bitfields_core.specs.declared.field_value.FieldValue.{FieldValue}
 use Rattle.bitfields_core.specs.Fault.{fault}
 use Rattle.bitfields_core.specs.Layout.{IsField, IsLayout}
-use Rattle.bitfields_core.specs.Packing.{WritesBits, PackedBytes, PackingRefused, Packs, PacksValues, write_reason, field_write, field_writes, packed}
+use Rattle.bitfields_core.specs.Packing.{WritesBits, PackedBytes, PackingRefused, Packs, PacksValues, write_reason, field_write, field_writes, packed_bits}
 use Rattle.bitfields_core.specs.Value.{value_count, FitsField, Fit}
 use Rattle.bitfields_core.proofs.FieldCalls.{refusals-none}
-use Rattle.bitstream_io.proofs.RunLemmas.{write_run-append}
+use Rattle.bitstream_io.proofs.SequenceLemmas.{write_sequence-append}
 
 -- ---- a list of accepted calls, to a sink that has room
 
 -- a call whose word is x adds it to a sink that has not failed and has room for it, or a request is refused
-WritesBits-from : {S : Type 0} (K : Sink S) (entry : WriteEntry) (x : List Bool) (old : S)
+WritesBits-from : {S : Type 0} (K : Sink S) (encoder : Encoder) (x : List Bool) (old : S)
     (r : Result (Unit {0}) Error) (new : S) → K.failed old ≡ false → IsWithin K.limit (K.len old + length x)
-    → entry (K.len old) ≡ Ok x → Writes K entry old r new → WritesBits K x old r new
-WritesBits-from K entry x old r new sound room is (had_failed p q k) = absurd (cc)
-WritesBits-from K entry x old r new sound room is (was_rejected error p q e k) = absurd (cc)
-WritesBits-from K entry x old r new sound room is (past_limit w p q beyond e k) =
+    → encoder (K.len old) ≡ Ok x → Writes K encoder old r new → WritesBits K x old r new
+WritesBits-from K encoder x old r new sound room is (had_failed p q k) = absurd (cc)
+WritesBits-from K encoder x old r new sound room is (was_rejected error p q e k) = absurd (cc)
+WritesBits-from K encoder x old r new sound room is (past_limit w p q beyond e k) =
     let same : w ≡ x = cc in
     absurd (not_past_limit K.limit _ _ room (omega (arith, ap length same)) beyond)
-WritesBits-from K entry x old r new sound room is (was_refused w error p q within e f) =
+WritesBits-from K encoder x old r new sound room is (was_refused w error p q within e f) =
     let same : w ≡ x = cc in
     subst (λ (a : Result (Unit {0}) Error). WritesBits K x old a new) (sym e)
     (subst (λ (y : List Bool). WriteRefused K old y error new) same f)
-WritesBits-from K entry x old r new sound room is (was_done w done p q within e a) =
+WritesBits-from K encoder x old r new sound room is (was_done w done p q within e a) =
     let same : w ≡ x = cc in
     subst (λ (b : Result (Unit {0}) Error). WritesBits K x old b new) (sym e)
     (subst (λ (y : List Bool). Appended K old y new) same a)
@@ -77,46 +77,46 @@ WritesBits-first : {S : Type 0} (K : Sink S) (x y : List Bool) (old : S) (r : Re
 WritesBits-first K x y old (Ok done) new h k = absurd (cc)
 WritesBits-first K x y old (Err e) new h k = WriteRefused-longer K old new e x y k
 
-accepted-word : (r : Result (List Bool) Error) → refusal_if_any r ≡ None → r ≡ Ok (accepted r)
+accepted-word : (r : Result (List Bool) Error) → refusal_if_any r ≡ None → r ≡ Ok (accepted_bits r)
 accepted-word (Ok w) h = refl
 accepted-word (Err e) h = absurd (cc)
 
--- calls that are all accepted add their write run
-pub WritesBits-all : {S : Type 0} (K : Sink S) (es : List WriteEntry) (old : S) (r : Result (Unit {0}) Error) (new : S)
-    → K.failed old ≡ false → IsWithin K.limit (K.len old + length (write_run es (K.len old)))
+-- calls that are all accepted add their write sequence
+pub WritesBits-all : {S : Type 0} (K : Sink S) (es : List Encoder) (old : S) (r : Result (Unit {0}) Error) (new : S)
+    → K.failed old ≡ false → IsWithin K.limit (K.len old + length (write_sequence es (K.len old)))
     → AllByRecursion (λ e. e ≡ None) (write_refusals es (K.len old)) → WritesAll K es old r new
-    → WritesBits K (write_run es (K.len old)) old r new
+    → WritesBits K (write_sequence es (K.len old)) old r new
 unfolding WritesAll
 WritesBits-all K [] old r new sound room fine w =
     subst (λ (s : Result (Unit {0}) Error). WritesBits K [] old s new) (sym w.0)
     (subst (λ (z : _). Appended K old [] z) (sym w.1) (Appended-nil K old sound))
 WritesBits-all K (e ∷ es) old r new sound room fine (inl h) =
-    let x = accepted (e (K.len old)) in
-    let rest = write_run es (K.len old + length x) in
+    let x = accepted_bits (e (K.len old)) in
+    let rest = write_sequence es (K.len old + length x) in
     let near = within_less K.limit (K.len old + length x) _ (omega (arith, length-append x rest)) room in
     let here = WritesBits-from K e x old r new sound near (accepted-word (e (K.len old)) fine.0) h.1 in
     WritesBits-first K x rest old r new h.0 here
 WritesBits-all K (e ∷ es) old r new sound room fine (inr (mid, first, others)) =
-    let x = accepted (e (K.len old)) in
-    let rest = write_run es (K.len old + length x) in
+    let x = accepted_bits (e (K.len old)) in
+    let rest = write_sequence es (K.len old + length x) in
     let near = within_less K.limit (K.len old + length x) _ (omega (arith, length-append x rest)) room in
     let here = WritesBits-from K e x old (Ok tt) mid sound near (accepted-word (e (K.len old)) fine.0) first in
     let place : K.len mid ≡ K.len old + length x = K.appends_len old mid x here.grown in
     let far = within_less K.limit (K.len old + length x + length rest) _ (omega (arith, length-append x rest)) room in
     let later = WritesBits-all K es mid r new here.sound
-    (subst (λ (n : ℕ). IsWithin K.limit (n + length (write_run es n))) (sym place) far)
+    (subst (λ (n : ℕ). IsWithin K.limit (n + length (write_sequence es n))) (sym place) far)
     (subst (λ (n : ℕ). AllByRecursion (λ e. e ≡ None) (write_refusals es n)) (sym place) fine.1) others in
     WritesBits-later K x rest old mid r new here
-    (subst (λ (n : ℕ). WritesBits K (write_run es n) mid r new) place later)
+    (subst (λ (n : ℕ). WritesBits K (write_sequence es n) mid r new) place later)
 
 -- values that fit are packed
 pub WritesBits-packed : {S : Type 0} (K : Sink S) (fields : List Field) (vs : List FieldValue) (old : S)
     (r : Result (Unit {0}) Error) (new : S) → IsLayout fields → Fit fields vs
     → WritesAll K (field_writes K.order fields vs ++ align ∷ []) old r new → K.failed old ≡ false → K.limit ≡ None
-    → WritesBits K (packed K.order fields vs (K.len old)) old r new
+    → WritesBits K (packed_bits K.order fields vs (K.len old)) old r new
 WritesBits-packed K fields vs old r new layout fit w sound unlimited =
     let each = recursion_from_All IsField fields layout.in_range in
-    let room = subst (λ (m : Option ℕ). IsWithin m (K.len old + length (packed K.order fields vs (K.len old))))
+    let room = subst (λ (m : Option ℕ). IsWithin m (K.len old + length (packed_bits K.order fields vs (K.len old))))
     (sym unlimited) tt in
     WritesBits-all K (field_writes K.order fields vs ++ align ∷ []) old r new sound room
     (refusals-none K.order fields vs (K.len old) each fit) w
@@ -128,7 +128,7 @@ result_err (Ok b) h = absurd h
 result_err (Err y) h = ap Err h
 
 -- what is made of the calls that are left is made of them all
-abbrev pub Remains : {S : Type 0} → Sink S → List WriteEntry → S → List WriteEntry → S → Type 0
+abbrev pub Remains : {S : Type 0} → Sink S → List Encoder → S → List Encoder → S → Type 0
 Remains {S} K all old left now = (r : Result (Unit {0}) Error) (new : S) → WritesAll K left now r new
     → WritesAll K all old r new
 
@@ -169,7 +169,7 @@ Packing-more {S} K fields vs i d old rest behind now new h known w is =
       fit = subst (λ (us : List FieldValue). Fit (drop (i + 1) fields) us) (sym is)
           (Packing-fits K fields vs i d old rest now h known).1;
       remains = λ r z others. known.remains r z
-          (subst (λ (es : List WriteEntry). WritesAll K es now r z) (sym (writes_first K.order fields i d rest h))
+          (subst (λ (es : List Encoder). WritesAll K es now r z) (sym (writes_first K.order fields i d rest h))
           (all_more K e (more (drop (value_count (get_or fields i d)) rest)) now new r z w
           (subst (λ (us : List FieldValue). WritesAll K (more us) new r z) is others)));
     }
@@ -181,7 +181,7 @@ pub Packing-fault : {S : Type 0} (K : Sink S) (fields : List Field) (vs : List F
     → WritesAll K (field_writes K.order fields vs) old r new
 Packing-fault K fields vs i d old rest now r error new h known is w =
     known.remains r new
-    (subst (λ (es : List WriteEntry). WritesAll K es now r new) (sym (writes_first K.order fields i d rest h))
+    (subst (λ (es : List Encoder). WritesAll K es now r new) (sym (writes_first K.order fields i d rest h))
     (all_err K (field_write K.order (get_or fields i d) rest)
     (field_writes K.order (drop (i + 1) fields) (drop (value_count (get_or fields i d)) rest)) now r error new is
     w))
@@ -196,13 +196,13 @@ Packing-end K fields vs i old rest now end known =
 
 -- ---- a new writer of a stream
 
-length-packed : (o : Order) (fields : List Field) (vs : List FieldValue) → length (packed o fields vs 0) % 8 ≡ 0
+length-packed : (o : Order) (fields : List Field) (vs : List FieldValue) → length (packed_bits o fields vs 0) % 8 ≡ 0
 length-packed o fields vs =
-    let w = write_run (field_writes o fields vs) 0 in
-    let last = write_run (align ∷ []) (0 + length w) in
-    let parts : length (packed o fields vs 0) ≡ length w + length last =
-    ap length (write_run-append (field_writes o fields vs) (align ∷ []) 0) ∙ length-append w last in
-    let rest : length last ≡ to_boundary (0 + length w) = ap length (append-nil (accepted (align (0 + length w))))
+    let w = write_sequence (field_writes o fields vs) 0 in
+    let last = write_sequence (align ∷ []) (0 + length w) in
+    let parts : length (packed_bits o fields vs 0) ≡ length w + length last =
+    ap length (write_sequence-append (field_writes o fields vs) (align ∷ []) 0) ∙ length-append w last in
+    let rest : length last ≡ to_boundary (0 + length w) = ap length (append-nil (accepted_bits (align (0 + length w))))
     ∙ length-replicate (to_boundary (0 + length w)) false in
     omega (arith, parts, rest)
 
@@ -210,11 +210,11 @@ length-packed o fields vs =
 pub PackedBytes-from : (o : Order) (fields : List Field) (vs : List FieldValue)
     (held : Option (List ℕ)) (references : List Reference) (s t : WriterState) → t.queued < 8 → s
     ≡ new_writer_state held references
-    → Carries o s (packed o fields vs (8 * s.port.sent + s.queued)) t → PackedBytes o fields vs held t.port.bytes
+    → Carries o s (packed_bits o fields vs (8 * s.port.sent + s.queued)) t → PackedBytes o fields vs held t.port.bytes
 PackedBytes-from o fields vs held references s t few fresh was =
-    let c : Carries o (new_writer_state held references) (packed o fields vs 0) t =
-    subst (λ (u : WriterState). Carries o u (packed o fields vs (8 * u.port.sent + u.queued)) t) fresh was in
-    let x = packed o fields vs 0 in
+    let c : Carries o (new_writer_state held references) (packed_bits o fields vs 0) t =
+    subst (λ (u : WriterState). Carries o u (packed_bits o fields vs (8 * u.port.sent + u.queued)) t) fresh was in
+    let x = packed_bits o fields vs 0 in
     let whole : x ≡ bits o c.bytes ++ word o t.queued t.queue = ap (λ (u : List Bool). u ++ x) (sym (word-none o 0))
     ∙ c.word in
     let rest : t.queued ≡ 0 = omega (
@@ -268,12 +268,12 @@ pub PackingRefused-from : {S : Type 0} (K : Sink S) (may : Refusal → Type 0) (
     → ((x : Refusal) → K.may x → may x) → K.len old ≡ 0
     → ((x : List Bool) (known : Option (List ℕ)) → K.fills old x known → (bytes : List ℕ) × Appends held known bytes
     × (rest : List Bool) × (x ≡ bits K.order bytes ++ rest))
-    → WriteRefused K old (packed K.order fields vs (K.len old)) error new → f ≡ fault 0 (write_reason error)
+    → WriteRefused K old (packed_bits K.order fields vs (K.len old)) error new → f ≡ fault 0 (write_reason error)
     → PackingRefused may K.order fields vs held f (K.contents new)
 PackingRefused-from K may fields vs held old new error f is none fills h why =
-    let whole : packed K.order fields vs (K.len old) ≡ packed K.order fields vs 0 =
-    ap (packed K.order fields vs) none in
-    let went = fills h.front h.refusal.before h.before in
+    let whole : packed_bits K.order fields vs (K.len old) ≡ packed_bits K.order fields vs 0 =
+    ap (packed_bits K.order fields vs) none in
+    let went = fills h.prefix h.refusal.before h.before in
     record {
       refusal = h.refusal;
       allowed = is h.refusal h.allowed;

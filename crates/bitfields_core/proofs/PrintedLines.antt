@@ -19,7 +19,7 @@ use Rattle.bitfields_core.specs.declared.field_value.ValueKind.TheVariants as Ki
 use Rattle.bitfields_core.specs.Decimal.{bytes_text, bytes_within, decimal_below, signed_within}
 use Rattle.bitfields_core.specs.Fault.{fault}
 use Rattle.bitfields_core.specs.Layout.{IsField, one_more}
-use Rattle.bitfields_core.specs.Value.{ended, ended_lines, lines, values, value_and, value_count, value_in, value_kind, value_list, value_of, value_text, kind_count, some_value, Fit, FitsKind, IsKind, printed_line, printed_lines}
+use Rattle.bitfields_core.specs.Value.{without_empty_last, ended_lines, lines, values, value_and, value_count, value_in, value_kind, value_list, value_of, value_text, kind_count, some_value, Fit, FitsKind, IsKind, printed_line, printed_lines}
 use Rattle.bitfields_core.proofs.BytesLemmas.{bytes_text-lacks, bytes_within-Ok, bytes_within-bytes_text}
 use Rattle.bitfields_core.proofs.DecimalLemmas.{decimal_below-decimal, decimal-of_below, decimal_lacks, limit_small, signed_decimal-lacks, signed_decimal-of_within, signed_within-signed_decimal}
 use Rattle.bitfields_core.proofs.ValueLemmas.{kind-in_range, some_value-Ok, value_and-Ok}
@@ -46,7 +46,7 @@ lines-printed_lines : (vs : List FieldValue) → AllByRecursion (λ v. lacks_end
 lines-printed_lines vs h =
     let count : length (map value_text vs ++ [] ∷ []) - 1 ≡ length (map value_text vs) =
     rw length-append (omega arith) in
-    ap ended (parts-printed_lines vs h) ∙ ended-empty (map value_text vs) (length (map value_text vs ++ [] ∷ []) - 1)
+    ap without_empty_last (parts-printed_lines vs h) ∙ ended-empty (map value_text vs) (length (map value_text vs ++ [] ∷ []) - 1)
     count
 
 value_small : (n v : ℕ) → n ≤ 128 → v < 2 ^ n → v < 10 ^ 64

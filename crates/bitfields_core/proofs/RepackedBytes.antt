@@ -6,7 +6,7 @@ use Rattle.std.proofs.lemmas.List.{nil_from_length}
 use Rattle.bitstream_io.specs.Error.{Error}
 use Rattle.bitstream_io.specs.Error.TheVariants as errors
 use Rattle.bitstream_io.specs.Fault.{refusal_of}
-use Rattle.bitstream_io.specs.Gather.{seen}
+use Rattle.bitstream_io.specs.Gather.{result_map}
 use Rattle.bitstream_io.specs.Refusal.{Refusal, IsTrueEnd, MayRefuseRead, MayRefuseWrite, TrueEnds, refused_read}
 use Rattle.bitstream_io.specs.Streams.{InputStream, OutputStream}
 use Rattle.bitstream_io.specs.Word.{Order, bits}
@@ -19,7 +19,7 @@ use Rattle.bitfields_core.specs.declared.field_value.FieldValue.{FieldValue}
 use Rattle.bitfields_core.specs.Fault.{fault}
 use Rattle.bitfields_core.specs.Layout.{IsLayout}
 use Rattle.bitfields_core.specs.Packing.{PackingRefused, PacksValues, write_reason}
-use Rattle.bitfields_core.specs.Repacking.{exact_read, repacked, unnamed, unnamed_last, unnamed_result, with_alignment, AreRepacked, IsNoEnd, IsRepacked, PackedFault, ReadPacked, ReadsPackedBytes, ReadToLast, refused_output, Repacks}
+use Rattle.bitfields_core.specs.Repacking.{exact_read, unpack_aligned, without_field, without_last_field, unnamed_result, with_alignment, AreRepacked, IsNoEnd, IsRepacked, PackedFault, ReadPacked, ReadsPackedBytes, ReadToLast, refused_output, Repacks}
 use Rattle.bitfields_core.specs.Unpacking.{Unpacks, Stops, says_by}
 use Rattle.bitfields_core.specs.Value.{Fit}
 use Rattle.bitfields_core.proofs.ExactRuns.{ends_at_a_byte, named, same_bytes, values_fit}
@@ -44,7 +44,7 @@ packed_known may o fields known after (Ok vs) result h is =
     after) (sym is) (record {
       gone = h.gone;
       loses = h.taken.loses;
-      says = λ more. ap (unnamed_last (length fields)) (h.says more) ∙ ap (Unpacks vs) size;
+      says = λ more. ap (without_last_field (length fields)) (h.says more) ∙ ap (Unpacks vs) size;
     })
 packed_known may o fields known after (Err g) result h is =
     subst (λ (r : Result (List FieldValue) Fault). PackedKnown may o fields known r
@@ -59,7 +59,7 @@ packed_stream I o fields old new (Err f) h = h
 
 -- values that were read fit
 pub packed_fits : {R V : Type 0} (I : InputStream R) (o : Order) (fields : List Field) (old new : R) (view : V → List FieldValue) (r : Result V Fault) → IsLayout fields
-    → ReadsPackedBytes I o fields old (seen view r) new → IfOk r (λ v. Fit fields (view v))
+    → ReadsPackedBytes I o fields old (result_map view r) new → IfOk r (λ v. Fit fields (view v))
 packed_fits I o fields old new view (Ok v) layout h =
     values_fit o fields (bits o h.gone ++ []) (view v) (8 * length h.gone) layout
     (named (length fields) (says_by exact_read o 1 (with_alignment fields) 0 (bits o h.gone ++ [])) (view v)
@@ -74,8 +74,8 @@ pub packed_again : {R W : Type 0} (I : InputStream R) (O : OutputStream W) (o : 
     → Repacks I O o fields input output r input_after output_after
 packed_again I O o fields input input_after output output_after vs (Ok done) layout read packs =
     let xs = read.reads.gone in
-    let says : repacked o fields (bits o xs) ≡ Unpacks vs (8 * length xs) =
-    ap (repacked o fields) (sym (append-nil (bits o xs))) ∙ read.reads.says [] in
+    let says : unpack_aligned o fields (bits o xs) ≡ Unpacks vs (8 * length xs) =
+    ap (unpack_aligned o fields) (sym (append-nil (bits o xs))) ∙ read.reads.says [] in
     record {
       vs = vs;
       read = read;
@@ -90,7 +90,7 @@ kept : (b : Bool) (f : Fault) → (if b then fault 0 f.reason else f).reason ≡
 kept true f = refl
 kept false f = refl
 
-unnamed-reason : (n : ℕ) (f : Fault) → (unnamed n f).reason ≡ f.reason
+unnamed-reason : (n : ℕ) (f : Fault) → (without_field n f).reason ≡ f.reason
 unnamed-reason n f = kept (f.field == n + 1) f
 
 -- the reasons of an output
@@ -117,10 +117,10 @@ module _ {R : Type 0} (I : InputStream R) (ends : TrueEnds (MayRefuseRead I)) (o
 
   -- what all bytes say, by those that were read
   say : {vs : List FieldValue} {behind : Option (List ℕ)} (h : ReadPacked o fields (I.remaining input) vs behind)
-      (rest : List ℕ) → xs ≡ h.gone ++ rest → repacked o fields (bits o xs) ≡ Unpacks vs (8 * length h.gone)
+      (rest : List ℕ) → xs ≡ h.gone ++ rest → unpack_aligned o fields (bits o xs) ≡ Unpacks vs (8 * length h.gone)
   say h rest is =
-      ap (λ (bytes : List ℕ). repacked o fields (bits o bytes)) is
-      ∙ ap (repacked o fields) (bits-append o h.gone rest) ∙ h.says (bits o rest)
+      ap (λ (bytes : List ℕ). unpack_aligned o fields (bits o bytes)) is
+      ∙ ap (unpack_aligned o fields) (bits-append o h.gone rest) ∙ h.says (bits o rest)
 
   -- the fields were not read
   pub not_read : {f : Fault} {after : Option (List ℕ)}
@@ -130,7 +130,7 @@ module _ {R : Type 0} (I : InputStream R) (ends : TrueEnds (MayRefuseRead I)) (o
       (MayRefuseRead I) g ends h in
       elim why [
         | inl memory ↦ inl (inl (ap (λ (f : Fault). f.reason) is ∙ unnamed-reason (length fields) g ∙ memory))
-        | inr says ↦ inr (inl (ap (unnamed_last (length fields)) says ∙ ap Stops (sym is)))
+        | inr says ↦ inr (inl (ap (without_last_field (length fields)) says ∙ ap Stops (sym is)))
       ]
 
   -- the input did not end behind them

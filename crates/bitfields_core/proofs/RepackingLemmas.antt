@@ -10,7 +10,7 @@ use Rattle.bitfields_core.specs.declared.field.Field.{Field}
 use Rattle.bitfields_core.specs.declared.field.Field.TheVariants.{Align}
 use Rattle.bitfields_core.specs.declared.field_value.FieldValue.{FieldValue}
 use Rattle.bitfields_core.specs.Fault.{fault}
-use Rattle.bitfields_core.specs.Repacking.{exact_read, unnamed, with_alignment, ReadsPacked}
+use Rattle.bitfields_core.specs.Repacking.{exact_read, without_field, with_alignment, ReadsPacked}
 use Rattle.bitfields_core.specs.Unpacking.{ReadsField, ReadsFields}
 use Rattle.bitfields_core.proofs.UnpackingLemmas.{next_field, Remaining, Remaining-end, Remaining-err, Remaining-more}
 
@@ -36,7 +36,7 @@ alignment_at fields =
 -- ---- the fields' calls
 
 -- a field's fault keeps its number
-unnamed_here : (n i : ℕ) (why : Reason) → i < n → unnamed n (fault (i + 1) why) ≡ fault (i + 1) why
+unnamed_here : (n i : ℕ) (why : Reason) → i < n → without_field n (fault (i + 1) why) ≡ fault (i + 1) why
 unnamed_here n i why h = rw (ne_eqb (i + 1) (n + 1) (λ e. omega (arith, h, e))) refl
 
 module _ {R : Type 0} (K : BitSource R) (fields : List Field) {old new : R} where
@@ -46,7 +46,7 @@ module _ {R : Type 0} (K : BitSource R) (fields : List Field) {old new : R} wher
   stopped_at {i = i} {why = why} {f = f} h is reads = record {
     answer = Err f;
     reads = reads;
-    names = ap Err (is ∙ sym (unnamed_here (length fields) i why h) ∙ ap (unnamed (length fields)) (sym is));
+    names = ap Err (is ∙ sym (unnamed_here (length fields) i why h) ∙ ap (without_field (length fields)) (sym is));
   }
 
   module _ {i : ℕ} (at : i ≡ length fields) (now : R) (vs : List FieldValue)

@@ -7,7 +7,7 @@ use Rattle.std.proofs.lemmas.List.Elements.{recursion_from_All}
 use Rattle.bitstream_io.specs.Alignment.{to_boundary}
 use Rattle.bitstream_io.specs.Error.{Error}
 use Rattle.bitstream_io.specs.Refusal.{Refusal}
-use Rattle.bitstream_io.specs.Run.{write_run, write_refusals}
+use Rattle.bitstream_io.specs.Sequence.{write_sequence, write_refusals}
 use Rattle.bitstream_io.specs.Sink.{Sink, IsWithin, WritesAll}
 use Rattle.bitstream_io.specs.Vbr.{vbr_word}
 use Rattle.bitstream_io.specs.Word.{Order, High, bits, zig}
@@ -24,12 +24,12 @@ use Rattle.bitfields_core.specs.declared.field.GroupSize.TheVariants.{Four, Eigh
 use Rattle.bitfields_core.specs.declared.field_value.FieldValue.{FieldValue}
 use Rattle.bitfields_core.specs.Fault.{fault}
 use Rattle.bitfields_core.specs.Layout.{IsField, IsLayout, group_bits}
-use Rattle.bitfields_core.specs.Packing.{field_word, field_write, field_writes, packed, WritesBits}
+use Rattle.bitfields_core.specs.Packing.{field_word, field_write, field_writes, packed_bits, WritesBits}
 use Rattle.bitfields_core.specs.Size.{size_of, spelt_size, Sizes}
 use Rattle.bitfields_core.specs.Value.{value_count, first_unsigned, first_signed, first_bytes, Fit, FitsField}
 use Rattle.bitfields_core.proofs.FieldCalls.{unsigned_first, signed_first, bytes_first, field_word-written, run-more, refusals-more}
 use Rattle.bitfields_core.proofs.PackingLemmas.{WritesBits-all}
-use Rattle.bitstream_io.proofs.RunLemmas.{write_run-append}
+use Rattle.bitstream_io.proofs.SequenceLemmas.{write_sequence-append}
 
 -- ---- a field's word
 
@@ -92,19 +92,19 @@ word-length o p Align vs at i h = record {
 
 -- those of values that fit, in the two orders of bits
 pub run-length : (o p : Order) (fields : List Field) (vs : List FieldValue) (at : ℕ) → AllByRecursion IsField fields
-    → Fit fields vs → HaveOneLength (length fields * 2 ^ 32) (write_run (field_writes o fields vs) at)
-    (write_run (field_writes p fields vs) at)
+    → Fit fields vs → HaveOneLength (length fields * 2 ^ 32) (write_sequence (field_writes o fields vs) at)
+    (write_sequence (field_writes p fields vs) at)
 run-length o p [] vs at i h = record { same = refl; few = omega arith }
 run-length o p (f ∷ fs) vs at i h =
     let us = drop (value_count f) vs in
     let w = field_word o f vs at in
     let v = field_word p f vs at in
-    let x = write_run (field_writes o fs us) (at + length w) in
-    let y = write_run (field_writes p fs us) (at + length v) in
+    let x = write_sequence (field_writes o fs us) (at + length w) in
+    let y = write_sequence (field_writes p fs us) (at + length v) in
     let first = word-length o p f vs at i.0 h.0 in
     let others = run-length o p fs us (at + length w) i.1 h.1 in
     let same : length x ≡ length y = others.same
-    ∙ ap (λ (n : ℕ). length (write_run (field_writes p fs us) (at + n))) first.same in
+    ∙ ap (λ (n : ℕ). length (write_sequence (field_writes p fs us) (at + n))) first.same in
     let in_o = ap length (run-more (field_write o f vs) (field_writes o fs us) w at
     (field_word-written o f vs at i.0 h.0)) ∙ length-append w x in
     let in_p = ap length (run-more (field_write p f vs) (field_writes p fs us) v at
@@ -155,30 +155,30 @@ counts-size K fields vs old r new w layout fit sound none never room =
     let es = field_writes K.order fields vs in
     let each = recursion_from_All IsField fields layout.in_range in
     let small = size_of-le K.order fields vs layout fit in
-    let size = ap (λ (n : ℕ). n + length (write_run es n)) none ∙ zero-add (size_of K.order fields vs) in
+    let size = ap (λ (n : ℕ). n + length (write_sequence es n)) none ∙ zero-add (size_of K.order fields vs) in
     let all = WritesBits-all K es old r new sound (room _ (omega (arith, size, small)))
     (writes-accepted K.order fields vs (K.len old) each fit) w in
-    let answer = done K (write_run es (K.len old)) old r new never all in
+    let answer = done K (write_sequence es (K.len old)) old r new never all in
     (answer.0, answer.1 ∙ size)
 
 -- ---- the packed bits
 
 -- the words, and zeros up to a whole byte
-pub packed-size : (o : Order) (fields : List Field) (vs : List FieldValue) → packed o fields vs 0
-    ≡ write_run (field_writes o fields vs) 0 ++ replicate (to_boundary (size_of o fields vs)) false
+pub packed-size : (o : Order) (fields : List Field) (vs : List FieldValue) → packed_bits o fields vs 0
+    ≡ write_sequence (field_writes o fields vs) 0 ++ replicate (to_boundary (size_of o fields vs)) false
 packed-size o fields vs =
     let n = size_of o fields vs in
-    write_run-append (field_writes o fields vs) (align ∷ []) 0
-    ∙ ap (λ (p : ℕ). write_run (field_writes o fields vs) 0 ++ write_run (align ∷ []) p) (zero-add n)
-    ∙ ap (λ (w : List Bool). write_run (field_writes o fields vs) 0 ++ w)
+    write_sequence-append (field_writes o fields vs) (align ∷ []) 0
+    ∙ ap (λ (p : ℕ). write_sequence (field_writes o fields vs) 0 ++ write_sequence (align ∷ []) p) (zero-add n)
+    ∙ ap (λ (w : List Bool). write_sequence (field_writes o fields vs) 0 ++ w)
     (append-nil (replicate (to_boundary n) false))
 
 pub packed-bytes : (o : Order) (fields : List Field) (vs : List FieldValue) (bytes : List ℕ)
-    → bits o bytes ≡ packed o fields vs 0
+    → bits o bytes ≡ packed_bits o fields vs 0
     → 8 * length bytes ≡ size_of o fields vs + to_boundary (size_of o fields vs)
 packed-bytes o fields vs bytes is =
     let n = size_of o fields vs in
-    let words = write_run (field_writes o fields vs) 0 in
+    let words = write_sequence (field_writes o fields vs) 0 in
     let zeros = replicate (to_boundary n) false in
     omega (
       arith,

@@ -102,7 +102,7 @@ constant_parts : (xs ys : List ℕ) → All (λ b. (b == 61) ≡ false) xs → c
     ≡ constant_after (decimal_within 1 32 xs) ys
 constant_parts xs ys lacks =
     ap (λ (sign : Option ℕ). constant_at sign (xs ++ 61 ∷ ys)) (first_sign xs ys lacks)
-    ∙ ap (λ (front : List ℕ). constant_after (decimal_within 1 32 front) (drop (length xs + 1) (xs ++ 61 ∷ ys)))
+    ∙ ap (λ (prefix : List ℕ). constant_after (decimal_within 1 32 prefix) (drop (length xs + 1) (xs ++ 61 ∷ ys)))
     (take-append_seam xs (61 ∷ ys))
     ∙ ap (constant_after (decimal_within 1 32 xs)) (drop-append-add xs (61 ∷ ys) 1)
 
@@ -196,13 +196,13 @@ size_spelt {P = P} rest (Some n) make f e h found =
         found size (ap decimal (size_by (n == 4) (n == 8) n size refl refl is) ∙ written) same
 
 -- a constant that is spelt is the one that is written
-constant_after_spelt : {P : Type 0} (front back : List ℕ) (n : ℕ) (number : Option ℕ) (f : Field)
-    → decimal_within 1 32 front ≡ Some n → decimal_within 0 (2 ^ n - 1) back ≡ number
+constant_after_spelt : {P : Type 0} (prefix back : List ℕ) (n : ℕ) (number : Option ℕ) (f : Field)
+    → decimal_within 1 32 prefix ≡ Some n → decimal_within 0 (2 ^ n - 1) back ≡ number
     → option_map (Constant n) number ≡ Some f
-    → ((n v : ℕ) → IsField (Constant n v) → decimal n ++ 61 ∷ decimal v ≡ front ++ 61 ∷ back → Constant n v ≡ f → P) → P
-constant_after_spelt front back n None f e d h found = absurd (cc)
-constant_after_spelt front back n (Some v) f e d h found =
-    let p = decimal-of_within 1 32 n front (lit< tt) e in
+    → ((n v : ℕ) → IsField (Constant n v) → decimal n ++ 61 ∷ decimal v ≡ prefix ++ 61 ∷ back → Constant n v ≡ f → P) → P
+constant_after_spelt prefix back n None f e d h found = absurd (cc)
+constant_after_spelt prefix back n (Some v) f e d h found =
+    let p = decimal-of_within 1 32 n prefix (lit< tt) e in
     let some : 1 ≤ n = p.0 in
     let few : n ≤ 32 = p.1 in
     let top = limit_small n (omega arith) in
@@ -211,15 +211,15 @@ constant_after_spelt front back n (Some v) f e d h found =
     let least : 0 ≤ n = omega arith in
     let some_number : 2 ^ 0 ≤ 2 ^ n = pow_mono least in
     let same : Constant n v ≡ f = cc in
-    found n v (some, few, omega arith) (ap (λ t. t ++ 61 ∷ decimal v) p.2 ∙ ap (λ t. front ++ 61 ∷ t) q.2) same
+    found n v (some, few, omega arith) (ap (λ t. t ++ 61 ∷ decimal v) p.2 ∙ ap (λ t. prefix ++ 61 ∷ t) q.2) same
 
-constant_bits_spelt : {P : Type 0} (front back : List ℕ) (bits : Option ℕ) (f : Field)
-    → decimal_within 1 32 front ≡ bits
+constant_bits_spelt : {P : Type 0} (prefix back : List ℕ) (bits : Option ℕ) (f : Field)
+    → decimal_within 1 32 prefix ≡ bits
     → constant_after bits back ≡ Some f
-    → ((n v : ℕ) → IsField (Constant n v) → decimal n ++ 61 ∷ decimal v ≡ front ++ 61 ∷ back → Constant n v ≡ f → P) → P
-constant_bits_spelt front back None f e h found = absurd (cc)
-constant_bits_spelt front back (Some n) f e h found =
-    constant_after_spelt front back n (decimal_within 0 (2 ^ n - 1) back) f e refl h found
+    → ((n v : ℕ) → IsField (Constant n v) → decimal n ++ 61 ∷ decimal v ≡ prefix ++ 61 ∷ back → Constant n v ≡ f → P) → P
+constant_bits_spelt prefix back None f e h found = absurd (cc)
+constant_bits_spelt prefix back (Some n) f e h found =
+    constant_after_spelt prefix back n (decimal_within 0 (2 ^ n - 1) back) f e refl h found
 
 constant_spelt : {P : Type 0} (rest : List ℕ) (sign : Option ℕ) (f : Field) → position (λ b. b == 61) rest ≡ sign
     → constant_at sign rest ≡ Some f

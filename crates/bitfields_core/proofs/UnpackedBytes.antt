@@ -7,7 +7,7 @@ use Rattle.std.specs.declared.io.ErrorKind.{ErrorKind}
 use Rattle.std.proofs.Common.{◌≡◌, ℕ, ◌+◌, List, [], ◌∷◌, ◌++◌, length, drop, Option, Some, Result, Ok, Err, refl, sym, ap, ap₂, ◌∙◌, ◌⊎◌, subst, arith, append_assoc, length-append, inl, inr}
 use Rattle.std.proofs.Math.Seq.{drop-append_seam}
 use Rattle.bitstream_io.specs.Word.{Order, bits}
-use Rattle.bitstream_io.specs.Gather.{seen}
+use Rattle.bitstream_io.specs.Gather.{result_map}
 use Rattle.bitstream_io.specs.Fault.{read_refusal_of}
 use Rattle.bitstream_io.specs.Refusal.{Refusal, MayRefuse, MayRefuseRead, TrueEnds}
 use Rattle.bitstream_io.specs.Streams.{InputStream}
@@ -20,7 +20,7 @@ use Rattle.bitfields_core.specs.declared.fault.Reason.TheVariants.{OutOfMemory}
 use Rattle.bitfields_core.specs.declared.field.Field.{Field}
 use Rattle.bitfields_core.specs.declared.field_value.FieldValue.{FieldValue}
 use Rattle.bitfields_core.specs.Fault.{fault}
-use Rattle.bitfields_core.specs.Unpacking.{FieldCalls, Unpacks, Stops, says_by, unpacked, field_read, read_reason, in_lines, ReadsFields, ReadsLines, SaidValues, FieldsFault, TakesLeastBytes, UnpackedBytes, UnpacksBytes, IsSaid}
+use Rattle.bitfields_core.specs.Unpacking.{FieldCalls, Unpacks, Stops, says_by, unpack_bits, field_read, read_reason, in_lines, ReadsFields, ReadsLines, SaidValues, FieldsFault, TakesLeastBytes, UnpackedBytes, UnpacksBytes, IsSaid}
 use Rattle.bitfields_core.proofs.UnpackingLemmas.{ComesTo, ComesTo-calls, ComesTo-references}
 
 -- a new reader fetched the bytes that the bits taken reach into
@@ -76,7 +76,7 @@ module _ (calls : FieldCalls) (may allowed : Refusal → Type 0) (o : Order) (fi
       let size : t.taken ≡ h.at + length h.tail =
       omega (arith, h.taken, h.place, ap length h.cut, length-append h.head h.tail) in
       inl (record {
-        front = h.front;
+        prefix = h.prefix;
         here = h.here;
         back = h.back;
         parts = h.parts;
@@ -85,7 +85,7 @@ module _ (calls : FieldCalls) (may allowed : Refusal → Type 0) (o : Order) (fi
         gone = h.gone;
         values = h.values;
         at = h.at;
-        before = told_by o (says_by calls o 1 h.front 0) h.gone h.word h.rest (Unpacks h.values h.at) h.held h.before;
+        before = told_by o (says_by calls o 1 h.prefix 0) h.gone h.word h.rest (Unpacks h.values h.at) h.held h.before;
         len = length h.tail;
         answer = h.answer;
         found = ap ((calls o h.here).reads h.at) (behind_head o h.gone h.word h.head h.tail h.rest h.at h.held h.cut h.place)
@@ -96,7 +96,7 @@ module _ (calls : FieldCalls) (may allowed : Refusal → Type 0) (o : Order) (fi
         says = told_whatever o (says_by calls o 1 fields 0) h.gone h.word h.rest (Stops f) h.held h.says;
       })
   FieldsKnown-from known references (Err f) t is demands (inr (inl (inl h))) = inr (inl (inl (record {
-    front = h.front;
+    prefix = h.prefix;
     here = h.here;
     back = h.back;
     parts = h.parts;
@@ -107,14 +107,14 @@ module _ (calls : FieldCalls) (may allowed : Refusal → Type 0) (o : Order) (fi
         h.took.taken;
     values = h.values;
     at = h.at;
-    before = told_by o (says_by calls o 1 h.front 0) h.took.gone h.word t.queue (Unpacks h.values h.at) h.took.parts
+    before = told_by o (says_by calls o 1 h.prefix 0) h.took.gone h.word t.queue (Unpacks h.values h.at) h.took.parts
         h.before;
     value = h.value;
-    says = told_by o (says_by calls o 1 (h.front ++ h.here ∷ []) 0) h.took.gone h.word t.queue
+    says = told_by o (says_by calls o 1 (h.prefix ++ h.here ∷ []) 0) h.took.gone h.word t.queue
         (Unpacks (h.values ++ h.value ∷ []) t.taken) h.took.parts h.says;
   })))
   FieldsKnown-from known references (Err f) t is demands (inr (inl (inr h))) = inr (inl (inr (record {
-    front = h.front;
+    prefix = h.prefix;
     here = h.here;
     back = h.back;
     parts = h.parts;
@@ -125,7 +125,7 @@ module _ (calls : FieldCalls) (may allowed : Refusal → Type 0) (o : Order) (fi
     taken = bytes_taken known references (length h.word) h.took.gone t demands h.took.loses h.took.fetched
         h.took.taken;
     values = h.values;
-    before = told_by o (says_by calls o 1 h.front 0) h.took.gone h.word t.queue (Unpacks h.values t.taken) h.took.parts
+    before = told_by o (says_by calls o 1 h.prefix 0) h.took.gone h.word t.queue (Unpacks h.values t.taken) h.took.parts
         h.before;
   })))
   FieldsKnown-from known references (Err f) t is demands (inr (inr h)) = inr (inr (record {
@@ -158,11 +158,11 @@ in_lines_known may o fields old new (Ok vs) h =
 in_lines_known may o fields old new (Err f) h = h
 
 -- a refusal of a stream that is seen through another state is one of that stream
-pub MayRefuse-seen : {R S : Type 0} (f : S → R) (name : S → GName) (known : R → Option (List ℕ))
+pub MayRefuse-map : {R S : Type 0} (f : S → R) (name : S → GName) (known : R → Option (List ℕ))
     (references : R → List Reference) (refuses : R → ℕ → ErrorKind → R → Type 0) (x : Refusal)
     → MayRefuse (λ s. known (f s)) (λ s. by_name (name s) ∷ references (f s)) (λ s n kind t. refuses (f s) n kind (f t))
     x → MayRefuse known references refuses x
-MayRefuse-seen f name known references refuses x h = record {
+MayRefuse-map f name known references refuses x h = record {
   old = f h.old;
   new = f h.new;
   capacity = h.capacity;
@@ -206,7 +206,7 @@ Unpacks-from K allowed fields known references old new result is fresh h =
 pub UnpacksBytes-exit : {R V : Type 0} (I : InputStream R) (o : Order)
     (fields : List Field) (old new : R) (view : V → List ℕ) (r : Result V Fault) (f : Fault)
     → IsErrAnd r (λ e. e ≡ f) → UnpacksBytes I o fields old (Err f) new
-    → UnpacksBytes I o fields old (seen view r) new
+    → UnpacksBytes I o fields old (result_map view r) new
 UnpacksBytes-exit I o fields old new view (Ok v) f h k = absurd h
 UnpacksBytes-exit I o fields old new view (Err e) f h k =
     subst (λ (x : Fault). UnpacksBytes I o fields old (Err x) new) (sym h) k
@@ -243,7 +243,7 @@ pub said : {R : Type 0} (I : InputStream R) (o : Order) (fields : List Field) (o
 said I o fields old new (Ok text) h ends xs told = record {
   values = h.values;
   len = h.len;
-  says = said_by o (unpacked o 1 fields 0) (I.remaining old) (I.remaining new) h.gone xs (Unpacks h.values h.len) h.taken.loses told
+  says = said_by o (unpack_bits o 1 fields 0) (I.remaining old) (I.remaining new) h.gone xs (Unpacks h.values h.len) h.taken.loses told
       h.says;
   prints = h.prints;
 }

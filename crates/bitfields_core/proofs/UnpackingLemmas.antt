@@ -8,7 +8,7 @@ use Rattle.std.specs.Io.KnownBytes.{Consumes}
 use Rattle.bitstream_io.specs.Word.{Order, bits}
 use Rattle.bitstream_io.proofs.WordLemmas.{bits-append}
 use Rattle.bitstream_io.specs.Error.{Error}
-use Rattle.bitstream_io.specs.Entry.{ReadEntry, Takes}
+use Rattle.bitstream_io.specs.Codec.{Decoder, Done}
 use Rattle.bitstream_io.specs.Fault.{read_refusal_of}
 use Rattle.bitstream_io.specs.Refusal.{Refusal, IsTrueEnd}
 use Rattle.bitstream_io.specs.Own.{OwnAnswer}
@@ -168,7 +168,7 @@ Unpacking-buffer_refused K fields i d old now text f h known asks is = record {
 
 -- ---- what the calls come to
 
-first_parts : {A : Type 0} (o : Order) (e : ReadEntry A) (v : A) (s t : ReaderState) (h : ReadDone o e s (Ok v) t)
+first_parts : {A : Type 0} (o : Order) (e : Decoder A) (v : A) (s t : ReaderState) (h : ReadDone o e s (Ok v) t)
     → s.queue ++ bits o h.gone ≡ h.word ++ t.queue
 first_parts o e v s t h = h.parts ∙ ap (λ (w : List Bool). h.word ++ w) (sym h.queue)
 
@@ -183,12 +183,12 @@ module _ (calls : FieldCalls) where
   -- the calls of the first fields answered, the next one told a reason, and this word was taken until then
   pub record ToldFields (o : Order) (k : ℕ) (fields : List Field) (old : ReaderState) (f : Fault) (new : ReaderState) :
       Type 0 where
-    pub front : List Field
+    pub prefix : List Field
     pub here : Field
     pub back : List Field
-    pub parts : fields ≡ front ++ here ∷ back
+    pub parts : fields ≡ prefix ++ here ∷ back
     pub why : Reason
-    pub reason : f ≡ fault (k + length front) why
+    pub reason : f ≡ fault (k + length prefix) why
     pub word : List Bool
     pub head : List Bool
     pub tail : List Bool
@@ -203,42 +203,42 @@ module _ (calls : FieldCalls) where
     pub values : List FieldValue
     pub at : ℕ
     pub place : at ≡ old.taken + length head
-    pub before : (more : List Bool) → says_by calls o k front old.taken (word ++ more) ≡ Unpacks values at
+    pub before : (more : List Bool) → says_by calls o k prefix old.taken (word ++ more) ≡ Unpacks values at
     pub answer : Result (Result (Option FieldValue) Reason) Error
-    pub found : (more : List Bool) → (calls o here).reads at (tail ++ more) ≡ Takes (length tail) answer
+    pub found : (more : List Bool) → (calls o here).reads at (tail ++ more) ≡ Done (length tail) answer
     pub tells : TellsReason answer why
     pub says : (more : List Bool) → says_by calls o k fields old.taken (word ++ more) ≡ Stops f
 
   -- the calls of the first fields answered, and no memory was left for the line of the last of them
   pub record LineRefusedFields (o : Order) (k : ℕ) (fields : List Field) (old : ReaderState) (f : Fault)
       (new : ReaderState) : Type 0 where
-    pub front : List Field
+    pub prefix : List Field
     pub here : Field
     pub back : List Field
-    pub parts : fields ≡ front ++ here ∷ back
-    pub reason : f ≡ fault (k + length front) OutOfMemory
+    pub parts : fields ≡ prefix ++ here ∷ back
+    pub reason : f ≡ fault (k + length prefix) OutOfMemory
     pub word : List Bool
     pub took : Took o old word new
     pub values : List FieldValue
     pub at : ℕ
-    pub before : (more : List Bool) → says_by calls o k front old.taken (word ++ more) ≡ Unpacks values at
+    pub before : (more : List Bool) → says_by calls o k prefix old.taken (word ++ more) ≡ Unpacks values at
     pub value : FieldValue
-    pub says : (more : List Bool) → says_by calls o k (front ++ here ∷ []) old.taken (word ++ more)
+    pub says : (more : List Bool) → says_by calls o k (prefix ++ here ∷ []) old.taken (word ++ more)
         ≡ Unpacks (values ++ value ∷ []) new.taken
 
   -- the calls of the first fields answered, and no memory was left for the bytes of the next of them
   pub record BufferRefusedFields (o : Order) (k : ℕ) (fields : List Field) (old : ReaderState) (f : Fault)
       (new : ReaderState) : Type 0 where
-    pub front : List Field
+    pub prefix : List Field
     pub here : Field
     pub back : List Field
-    pub parts : fields ≡ front ++ here ∷ back
+    pub parts : fields ≡ prefix ++ here ∷ back
     pub asks : asks_memory here ≡ true
-    pub reason : f ≡ fault (k + length front) OutOfMemory
+    pub reason : f ≡ fault (k + length prefix) OutOfMemory
     pub word : List Bool
     pub took : Took o old word new
     pub values : List FieldValue
-    pub before : (more : List Bool) → says_by calls o k front old.taken (word ++ more) ≡ Unpacks values new.taken
+    pub before : (more : List Bool) → says_by calls o k prefix old.taken (word ++ more) ≡ Unpacks values new.taken
 
   -- the calls of the first fields answered, and no memory was left for a field
   abbrev pub MemoryRefusedFields : Order → ℕ → List Field → ReaderState → Fault → ReaderState → Type 0
@@ -298,9 +298,9 @@ module _ (calls : FieldCalls) where
       (s t z : ReaderState) → ReadDone o (calls o f) s (Ok (Ok v)) t → ToldFields o (k + 1) fs t why z
       → ToldFields o k (f ∷ fs) s why z
   ToldFields-later o k f fs v why s t z h x =
-      let number : k + 1 + length x.front ≡ k + length (f ∷ x.front) = omega arith in
+      let number : k + 1 + length x.prefix ≡ k + length (f ∷ x.prefix) = omega arith in
       record {
-        front = f ∷ x.front;
+        prefix = f ∷ x.prefix;
         here = x.here;
         back = x.back;
         parts = ap (λ (gs : List Field). f ∷ gs) x.parts;
@@ -321,7 +321,7 @@ module _ (calls : FieldCalls) where
         values = value_list v ++ x.values;
         at = x.at;
         place = omega (arith, h.taken, x.place, length-append h.word x.head);
-        before = word_then o k f x.front v s t h x.word (Unpacks x.values x.at) x.before;
+        before = word_then o k f x.prefix v s t h x.word (Unpacks x.values x.at) x.before;
         answer = x.answer;
         found = x.found;
         tells = x.tells;
@@ -332,9 +332,9 @@ module _ (calls : FieldCalls) where
       Fault) (s t z : ReaderState) → ReadDone o (calls o f) s (Ok (Ok v)) t → LineRefusedFields o (k + 1) fs t why z
       → LineRefusedFields o k (f ∷ fs) s why z
   LineRefusedFields-later o k f fs v why s t z h x =
-      let place : k + 1 + length x.front ≡ k + length (f ∷ x.front) = omega arith in
+      let place : k + 1 + length x.prefix ≡ k + length (f ∷ x.prefix) = omega arith in
       record {
-        front = f ∷ x.front;
+        prefix = f ∷ x.prefix;
         here = x.here;
         back = x.back;
         parts = ap (λ (gs : List Field). f ∷ gs) x.parts;
@@ -343,10 +343,10 @@ module _ (calls : FieldCalls) where
         took = Took-trans o h.word x.word s t z (took o (calls o f) (Ok v) s t h) x.took;
         values = value_list v ++ x.values;
         at = x.at;
-        before = word_then o k f x.front v s t h x.word (Unpacks x.values x.at) x.before;
+        before = word_then o k f x.prefix v s t h x.word (Unpacks x.values x.at) x.before;
         value = x.value;
         says = λ more.
-            word_then o k f (x.front ++ x.here ∷ []) v s t h x.word (Unpacks (x.values ++ x.value ∷ []) z.taken) x.says
+            word_then o k f (x.prefix ++ x.here ∷ []) v s t h x.word (Unpacks (x.values ++ x.value ∷ []) z.taken) x.says
             more
             ∙ ap (λ (us : List FieldValue). Unpacks us z.taken)
             (sym (append_assoc (value_list v) x.values (x.value ∷ [])));
@@ -356,9 +356,9 @@ module _ (calls : FieldCalls) where
       Fault) (s t z : ReaderState) → ReadDone o (calls o f) s (Ok (Ok v)) t
       → BufferRefusedFields o (k + 1) fs t why z → BufferRefusedFields o k (f ∷ fs) s why z
   BufferRefusedFields-later o k f fs v why s t z h x =
-      let place : k + 1 + length x.front ≡ k + length (f ∷ x.front) = omega arith in
+      let place : k + 1 + length x.prefix ≡ k + length (f ∷ x.prefix) = omega arith in
       record {
-        front = f ∷ x.front;
+        prefix = f ∷ x.prefix;
         here = x.here;
         back = x.back;
         parts = ap (λ (gs : List Field). f ∷ gs) x.parts;
@@ -367,7 +367,7 @@ module _ (calls : FieldCalls) where
         word = h.word ++ x.word;
         took = Took-trans o h.word x.word s t z (took o (calls o f) (Ok v) s t h) x.took;
         values = value_list v ++ x.values;
-        before = word_then o k f x.front v s t h x.word (Unpacks x.values z.taken) x.before;
+        before = word_then o k f x.prefix v s t h x.word (Unpacks x.values z.taken) x.before;
       }
 
   UnpackingRefusedFields-later : (o : Order) (may : Refusal → Type 0) (k : ℕ) (f : Field) (fs : List Field)
@@ -419,7 +419,7 @@ module _ (calls : FieldCalls) where
   ToldFields-here o k f fs r why s t tells h says =
       let number : k ≡ k + 0 = omega arith in
       record {
-        front = [];
+        prefix = [];
         here = f;
         back = fs;
         parts = refl;
@@ -472,7 +472,7 @@ module _ (calls : FieldCalls) where
   LineRefusedFields-here o k f fs v s t h =
       let place : k ≡ k + 0 = omega arith in
       record {
-        front = [];
+        prefix = [];
         here = f;
         back = fs;
         parts = refl;
@@ -492,7 +492,7 @@ module _ (calls : FieldCalls) where
   BufferRefusedFields-here o k f fs s fine asks =
       let place : k ≡ k + 0 = omega arith in
       record {
-        front = [];
+        prefix = [];
         here = f;
         back = fs;
         parts = refl;

@@ -17,7 +17,7 @@ use Rattle.bitfields_core.proofs.BytesLemmas.{bytes_within-Ok}
 use Rattle.bitfields_core.proofs.DecimalLemmas.{decimal_below-lt, signed_decimal-of_within}
 use Rattle.bitfields_core.proofs.LayoutLemmas.{after, after-one_more}
 use Rattle.bitfields_core.proofs.MemoryLemmas.{value_expected}
-use Rattle.bitstream_io.specs.Gather.{seen}
+use Rattle.bitstream_io.specs.Gather.{result_map}
 use Rattle.bitfields_core.specs.declared.fault.Reason.TheVariants.{ValueLeftOver}
 
 pub some_value-Ok : {A : Type 0} (kind : A → FieldValue) (r : Result A Reason) (o : Option FieldValue)
@@ -106,6 +106,6 @@ values-Fit k (field ∷ fields) lines vs h =
     subst (λ us. Fit (field ∷ fields) us) p.4 (first.0, subst (λ us. Fit fields us) (sym first.1) rest)
 
 pub IfOk-Fit : {V : Type 0} (fields : List Field) (lines : List (List ℕ)) (view : V → List FieldValue)
-    (r : Result V Fault) → IsUnlessMemory (values 1 fields lines) (seen view r) → IfOk r (λ v. Fit fields (view v))
+    (r : Result V Fault) → IsUnlessMemory (values 1 fields lines) (result_map view r) → IfOk r (λ v. Fit fields (view v))
 IfOk-Fit fields lines view (Ok v) h = values-Fit 1 fields lines (view v) (value_expected h)
 IfOk-Fit fields lines view (Err e) h = tt

@@ -28,13 +28,13 @@ abbrev pub bit_order : NamedOrder → Order
 bit_order Big = High
 bit_order Little = Low
 
--- what is asked of the program: a command, an order of bits and the text of a layout
+-- a request to the program: a command, an order of bits and the text of a layout
 pub record Request : Type 0 where
   pub command : Command
   pub order : Order
   pub layout : List ℕ
 
--- what is asked for, if there is a command and an order
+-- the request, if there is a command and an order
 abbrev pub request_with : Option Command → Option NamedOrder → List ℕ → Option Request
 request_with (Some command) (Some order) layout = Some (record {
   command = command;
@@ -45,7 +45,7 @@ request_with (Some command) (Some order) layout = Some (record {
 request_with (Some command) None layout = None
 request_with None order layout = None
 
--- what words ask for: three words, a command, an order of bits and a layout, and no others
+-- the request of a list of arguments: three of them, a command, an order of bits and a layout
 abbrev pub request_of : List (List ℕ) → Option Request
 request_of [] = None
 request_of (command ∷ []) = None

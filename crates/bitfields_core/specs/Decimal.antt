@@ -34,7 +34,7 @@ abbrev pub positive : Result ℕ Reason → Result ℤ Reason
 positive (Ok n) = Ok (pos n)
 positive (Err why) = Err why
 
--- the negative of a number that a text spells behind its sign, which 0 has not
+-- the negative of a number that a text spells after its sign; 0 has none
 abbrev pub negative : Result ℕ Reason → Result ℤ Reason
 negative (Ok zero) = Err ValueMisspelt
 negative (Ok (suc n)) = Ok (negsuc n)
@@ -53,10 +53,10 @@ signed_within n [] = Err ValueMisspelt
 signed_within n (first ∷ rest) = signed_after n first rest
 
 -- the parts between single spaces
-abbrev pub spaced : List ℕ → List (List ℕ)
-spaced text = slice_split (λ b. b == 32) text
+abbrev pub split_spaces : List ℕ → List (List ℕ)
+split_spaces text = slice_split (λ b. b == 32) text
 
--- whether the number of a decimal is a byte
+-- true if the number of a decimal is a byte
 abbrev pub is_byte : List ℕ → Bool
 is_byte text = nat_lt (decimal_value text) 256
 
@@ -69,7 +69,7 @@ bytes_of_parts n parts =
 
 -- the n bytes that a text spells, as decimals with single spaces between, or the reason why it does not
 abbrev pub bytes_within : ℕ → List ℕ → Result (List ℕ) Reason
-bytes_within n text = bytes_of_parts n (spaced text)
+bytes_within n text = bytes_of_parts n (split_spaces text)
 
 -- bytes as decimals, with single spaces between
 abbrev pub bytes_text : List ℕ → List ℕ

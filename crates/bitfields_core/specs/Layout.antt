@@ -26,7 +26,7 @@ abbrev pub constant_after : Option ℕ → List ℕ → Option Field
 constant_after None text = None
 constant_after (Some n) text = option_map (Constant n) (decimal_within 0 (2 ^ n - 1) text)
 
--- the constant that a text spells whose `=` stands at this place
+-- the constant that a text spells whose `=` is at this place
 abbrev pub constant_at : Option ℕ → List ℕ → Option Field
 constant_at None text = None
 constant_at (Some sign) text = constant_after (decimal_within 1 32 (take sign text)) (drop (sign + 1) text)
@@ -59,12 +59,12 @@ field_of (letter ∷ rest) = field_after letter rest
 abbrev pub segments : List ℕ → List (List ℕ)
 segments text = slice_split (λ b. b == 44) text
 
--- a list with one item more in front; an error stays
+-- a list with one more item at its start; an error is kept
 abbrev pub one_more : {A E : Type 0} → A → Result (List A) E → Result (List A) E
 one_more x (Ok xs) = Ok (x ∷ xs)
 one_more x (Err e) = Err e
 
--- the field number k in front of the others, or the fault if its text spells none
+-- the field number k before the others, or the fault if its text spells none
 abbrev pub field_and : ℕ → Option Field → Result (List Field) Fault → Result (List Field) Fault
 field_and k None others = Err (fault k BadLayout)
 field_and k (Some f) others = one_more f others
@@ -79,7 +79,7 @@ abbrev pub layout_of : List ℕ → Result (List Field) Fault
 layout_of text =
     if nat_lt 256 (length (segments text)) then Err (fault 0 TooManyFields) else fields_of 1 (segments text)
 
--- memory was refused, or the answer is this one
+-- memory was refused, or the result is this one
 abbrev pub IsUnlessMemory : {A : Type 0} → Result A Fault → Result A Fault → Type 0
 IsUnlessMemory expected result = (result ≡ Err (fault 0 OutOfMemory)) ⊎ (result ≡ expected)
 
@@ -103,7 +103,7 @@ abbrev pub group_bits : GroupSize → ℕ
 group_bits Four = 4
 group_bits Eight = 8
 
--- how a field is written: its letter, and its number if it has one; a constant has two, with `=` between them
+-- the spelling of a field: its letter, and its number if it has one; a constant has two, with `=` between them
 abbrev pub field_text : Field → List ℕ
 field_text (Unsigned n) = 117 ∷ decimal n
 field_text (Signed n) = 105 ∷ decimal n

@@ -7,11 +7,11 @@ use Rattle.bitstream_io.specs.Vbr.{vbr_word}
 use Rattle.bitstream_io.specs.Word.{Order, bits, word, signed_word, zig}
 use Rattle.bitstream_io.specs.Error.{Error}
 use Rattle.bitstream_io.specs.Error.TheVariants as errors
-use Rattle.bitstream_io.specs.Entry.{WriteEntry}
+use Rattle.bitstream_io.specs.Codec.{Encoder}
 use Rattle.bitstream_io.specs.Fault.{refusal_of}
 use Rattle.bitstream_io.specs.Refusal.{Refusal, MayRefuseWrite}
 use Rattle.bitstream_io.specs.Streams.{OutputStream}
-use Rattle.bitstream_io.specs.Run.{write_run}
+use Rattle.bitstream_io.specs.Sequence.{write_sequence}
 use Rattle.bitstream_io.specs.Sink.{Sink, Appended, WriteRefused}
 use Rattle.bitstream_io.specs.WriteTable.{unsigned, signed, unary_word, vbr, signed_vbr, buffer, zeros, align}
 use Rattle.bitfields_core.specs.declared.fault.Reason.{Reason}
@@ -25,7 +25,7 @@ use Rattle.bitfields_core.specs.Layout.{group_bits}
 use Rattle.bitfields_core.specs.Value.{value_count, first_unsigned, first_signed, first_bytes}
 
 -- the write call of a field whose value is the first of these
-abbrev pub field_write : Order → Field → List FieldValue → WriteEntry
+abbrev pub field_write : Order → Field → List FieldValue → Encoder
 field_write o (Unsigned n) vs = unsigned o 128 n (first_unsigned vs)
 field_write o (Signed n) vs = signed o 128 n (first_signed vs)
 field_write o (Unary stop) vs = unary_word stop (first_unsigned vs)
@@ -37,7 +37,7 @@ field_write o (Constant n v) vs = unsigned o 32 n v
 field_write o (Padding n) vs = zeros n
 field_write o Align vs = align
 
--- the word of a field whose value is the first of these, behind this many bits
+-- the word of a field whose value is the first of these, after this many bits
 abbrev pub field_word : Order → Field → List FieldValue → ℕ → List Bool
 field_word o (Unsigned n) vs at = word o n (first_unsigned vs)
 field_word o (Signed n) vs at = signed_word o n (first_signed vs)
@@ -51,13 +51,13 @@ field_word o (Padding n) vs at = replicate n false
 field_word o Align vs at = replicate (to_boundary at) false
 
 -- the write calls of fields with these values
-abbrev pub field_writes : Order → List Field → List FieldValue → List WriteEntry
+abbrev pub field_writes : Order → List Field → List FieldValue → List Encoder
 field_writes o [] vs = []
 field_writes o (field ∷ fields) vs = field_write o field vs ∷ field_writes o fields (drop (value_count field) vs)
 
--- what the write calls of the fields append from a place on, and a last alignment
-abbrev pub packed : Order → List Field → List FieldValue → ℕ → List Bool
-packed o fields vs at = write_run (field_writes o fields vs ++ align ∷ []) at
+-- the bits that the write calls of the fields append from a place on, and a last alignment
+abbrev pub packed_bits : Order → List Field → List FieldValue → ℕ → List Bool
+packed_bits o fields vs at = write_sequence (field_writes o fields vs ++ align ∷ []) at
 
 -- ---- to a sink and to a stream
 
@@ -76,7 +76,7 @@ pub record PackedBytes (o : Order) (fields : List Field) (vs : List FieldValue) 
     Type 0 where
   pub bytes : List ℕ
   pub grows : Appends old new bytes
-  pub says : bits o bytes ≡ packed o fields vs 0
+  pub says : bits o bytes ≡ packed_bits o fields vs 0
 
 -- The stream refused a request to send bytes, as it may refuse, and there were bytes to send. The bytes that it took
 -- before are the first of them, and it is as the refusal left it.
@@ -85,11 +85,11 @@ pub record PackingRefused (may : Refusal → Type 0) (o : Order) (fields : List 
   pub refusal : Refusal
   pub allowed : may refusal
   pub reason : f ≡ fault 0 (write_reason (refusal_of refusal.kind))
-  pub some : 8 ≤ length (packed o fields vs 0)
+  pub some : 8 ≤ length (packed_bits o fields vs 0)
   pub bytes : List ℕ
   pub grows : Appends old refusal.before bytes
   pub rest : List Bool
-  pub begins : packed o fields vs 0 ≡ bits o bytes ++ rest
+  pub begins : packed_bits o fields vs 0 ≡ bits o bytes ++ rest
   pub after : new ≡ refusal.after
 
 -- values were packed, or the stream refused a request
@@ -99,8 +99,8 @@ PacksValues O o fields vs old (Ok done) new = PackedBytes o fields vs (O.content
 PacksValues O o fields vs old (Err f) new =
     PackingRefused (MayRefuseWrite O) o fields vs (O.contents old) f (O.contents new)
 
--- The values were packed, or the first fault of the input was answered and the stream is as it was. Else memory was
--- refused and the stream is as it was, or the stream refused a request.
+-- The values were packed, or the first fault of the input was returned and the stream is unchanged. Else memory
+-- was refused and the stream is unchanged, or the stream refused a request.
 abbrev pub Packs : {W : Type 0} → OutputStream W → Order → List Field → Result (List FieldValue) Fault → W → Result (Unit {0}) Fault → W → Type 0
 Packs O o fields (Ok vs) old (Ok done) new = PackedBytes o fields vs (O.contents old) (O.contents new)
 Packs O o fields (Ok vs) old (Err f) new = ((f ≡ fault 0 OutOfMemory) × (new ≡ old))

@@ -1,4 +1,4 @@
--- What a call of the program does to its streams.
+-- The effect of a run of the program on its streams.
 use Rattle.std.specs.Prelude.{◌≡◌, ◌⊎◌, ℕ, List, [], ◌∷◌, ◌++◌, length, Option, Some, None, Result, Ok, Err}
 use Rattle.std.specs.Fmt.{decimal}
 use Rattle.std.specs.Io.KnownBytes.{Appends}
@@ -24,14 +24,14 @@ use Rattle.bitfields_core.specs.Value.{lines, values}
 
 -- ---- packing
 
--- the input was read to its end, and what its lines spell for the fields is this
+-- the input was read to its end, and its lines spell these values for the fields
 pub record SpelledInput (fields : List Field) (input : Option (List ℕ)) (spelt : Result (List FieldValue) Fault)
     (input_after : Option (List ℕ)) : Type 0 where
   pub bytes : List ℕ
   pub reads : ReadToEnd input bytes input_after
   pub spells : values 1 fields (lines bytes) ≡ spelt
 
--- the values that the input's lines spell were packed, and the output was flushed behind their bytes
+-- the values that the input's lines spell were packed, and the output was flushed after their bytes
 pub record PackedInput {R W : Type 0} (I : InputStream R) (O : OutputStream W) (o : Order)
     (fields : List Field) (input : R) (output : W) (input_after : R) (output_after : W) : Type 0 where
   pub vs : List FieldValue
@@ -40,16 +40,16 @@ pub record PackedInput {R W : Type 0} (I : InputStream R) (O : OutputStream W) (
   pub packs : PackedBytes o fields vs (O.contents output) (O.contents filled)
   pub flushed : Flushed O filled output_after
 
--- the values that the input's lines spell were packed, and the flush behind their bytes was refused
+-- the values that the input's lines spell were packed, and the flush after their bytes was refused
 pub record UnflushedBytes {W : Type 0} (O : OutputStream W) (o : Order) (fields : List Field)
     (vs : List FieldValue) (output : W) (f : Fault) (output_after : W) : Type 0 where
   pub filled : W
   pub packs : PackedBytes o fields vs (O.contents output) (O.contents filled)
   pub refused : RefusedOutput O filled 0 f output_after
 
--- Why an input was not packed: it refused to be read, its lines have a fault, or memory was refused, and then the
--- output is as it was.
--- Else all lines had been read, and the output refused a request for the packed bytes, or the flush behind them.
+-- The reasons that an input was not packed: it refused to be read, its lines have a fault, or memory was
+-- refused, and then the output is unchanged. Else all lines had been read, and the output refused a request for
+-- the packed bytes, or the flush after them.
 pub data PackingFault {R W : Type 0} (I : InputStream R) (refuses_rest : R → ErrorKind → R → Type 0)
     (O : OutputStream W) (o : Order) (fields : List Field) (input : R) (output : W) (f : Fault) (input_after : R)
     (output_after : W) : Type 0 where
@@ -76,7 +76,7 @@ PacksInput I refuses_rest O o fields input output (Err f) input_after output_aft
 
 -- ---- unpacking
 
--- the input's bits were unpacked, the lines of their values written, and the output was flushed behind them
+-- the input's bits were unpacked, the lines of their values written, and the output was flushed after them
 pub record UnpackedInput {R W : Type 0} (I : InputStream R) (O : OutputStream W) (o : Order)
     (fields : List Field) (input : R) (output : W) (input_after : R) (output_after : W) : Type 0 where
   pub text : List ℕ
@@ -85,17 +85,16 @@ pub record UnpackedInput {R W : Type 0} (I : InputStream R) (O : OutputStream W)
   pub writes : Appends (O.contents output) (O.contents filled) text
   pub flushed : Flushed O filled output_after
 
--- the lines were written, and the flush behind them was refused
+-- the lines were written, and the flush after them was refused
 pub record UnflushedLines {W : Type 0} (O : OutputStream W) (output : W) (text : List ℕ) (f : Fault)
     (output_after : W) : Type 0 where
   pub filled : W
   pub writes : Appends (O.contents output) (O.contents filled) text
   pub refused : RefusedOutput O filled 0 f output_after
 
--- Why an input was not unpacked: its bits have a fault, or it refused a request, or memory was refused, at a field, and
--- then the
--- output is as it was. Else all fields had been read, and the output refused the one request for all lines, or the
--- flush behind them.
+-- The reasons that an input was not unpacked: its bits have a fault, or it refused a request, or memory was
+-- refused, at a field, and then the output is unchanged. Else all fields had been read, and the output refused
+-- the one request for all lines, or the flush after them.
 pub data UnpackingFault {R W : Type 0} (I : InputStream R) (O : OutputStream W) (o : Order)
     (fields : List Field) (input : R) (output : W) (f : Fault) (input_after : R) (output_after : W) : Type 0 where
   stopped_input : UnpacksBytes I o fields input (Err f) input_after
@@ -117,14 +116,14 @@ UnpacksInput I O o fields input output (Err f) input_after output_after =
 
 -- ---- repacking
 
--- the input was repacked, and the output was flushed behind the bytes
+-- the input was repacked, and the output was flushed after the bytes
 pub record RepackedInput {R W : Type 0} (I : InputStream R) (O : OutputStream W) (o : Order) (fields : List Field)
     (input : R) (output : W) (input_after : R) (output_after : W) : Type 0 where
   pub filled : W
   pub repacks : RepackedBytes I O o fields input output input_after filled
   pub flushed : Flushed O filled output_after
 
--- Why an input was not repacked, or the flush behind the bytes was refused.
+-- The reasons that an input was not repacked, or the flush after the bytes was refused.
 pub data RepackedFault {R W : Type 0} (I : InputStream R) (O : OutputStream W) (o : Order) (fields : List Field)
     (input : R) (output : W) (f : Fault) (input_after : R) (output_after : W) : Type 0 where
   not_repacked :
@@ -146,7 +145,8 @@ RepacksInput I O o fields input output (Err f) input_after output_after =
 abbrev pub size_line : Order → List Field → List FieldValue → List ℕ
 size_line o fields vs = decimal (size_of o fields vs) ++ 10 ∷ []
 
--- the line of the size of the values that the input's lines spell was written, and the output was flushed behind it
+-- the line of the size of the values that the input's lines spell was written, and the output was flushed after
+-- it
 pub record SizedInput {R W : Type 0} (I : InputStream R) (O : OutputStream W) (o : Order)
     (fields : List Field) (input : R) (output : W) (input_after : R) (output_after : W) : Type 0 where
   pub vs : List FieldValue
@@ -155,8 +155,8 @@ pub record SizedInput {R W : Type 0} (I : InputStream R) (O : OutputStream W) (o
   pub writes : Appends (O.contents output) (O.contents filled) (size_line o fields vs)
   pub flushed : Flushed O filled output_after
 
--- Why an input's values are not known: it refused to be read, its lines have a fault, or memory was refused behind its
--- end.
+-- The reasons that an input's values are not known: it refused to be read, its lines have a fault, or memory
+-- was refused after its end.
 abbrev pub ValuesFault : {R : Type 0} → InputStream R → (R → ErrorKind → R → Type 0) → List Field → R → Fault → R
     → Type 0
 ValuesFault I refuses_rest fields input f input_after =
@@ -164,8 +164,9 @@ ValuesFault I refuses_rest fields input f input_after =
     ⊎ SpelledInput fields (I.remaining input) (Err f) (I.remaining input_after)
     ⊎ ((bytes : List ℕ) × ReadToEnd (I.remaining input) bytes (I.remaining input_after) × (f ≡ fault 0 OutOfMemory))
 
--- Why the size of an input's values was not written: the values are not known, or memory for the line was refused, and
--- then the output is as it was. Else the output refused the one request for the line, or the flush behind it.
+-- The reasons that the size of an input's values was not written: the values are not known, or memory for the
+-- line was refused, and then the output is unchanged. Else the output refused the one request for the line, or
+-- the flush after it.
 pub data SizingFault {R W : Type 0} (I : InputStream R) (refuses_rest : R → ErrorKind → R → Type 0)
     (O : OutputStream W) (o : Order) (fields : List Field) (input : R) (output : W) (f : Fault) (input_after : R)
     (output_after : W) : Type 0 where
@@ -201,8 +202,8 @@ abbrev pub IsMemoryRefused : {R W : Type 0} → R → W → Result (Unit {0}) Fa
 IsMemoryRefused input output result input_after output_after = (result ≡ Err (fault 0 OutOfMemory))
     × (input_after ≡ input) × (output_after ≡ output)
 
--- The fields of a layout are packed or unpacked. Or the layout has a fault, or memory was refused; that is answered,
--- and no stream is touched.
+-- The fields of a layout are packed or unpacked. Or the layout has a fault, or memory was refused; that is
+-- returned, and no stream is touched.
 abbrev pub Follows : {R W : Type 0} → InputStream R → (R → ErrorKind → R → Type 0) → OutputStream W → Command → Order
     → Result (List Field) Fault → R → W → Result (Unit {0}) Fault → R → W → Type 0
 Follows I refuses_rest O command o (Ok fields) input output result input_after output_after =
@@ -211,7 +212,7 @@ Follows I refuses_rest O command o (Ok fields) input output result input_after o
 Follows I refuses_rest O command o (Err f) input output result input_after output_after =
     IsUnlessMemory (Err f) result × (input_after ≡ input) × (output_after ≡ output)
 
--- what is asked for is done; if nothing is, that is answered, and no stream is touched
+-- the task is done; if there is none, the reason is returned, and no stream is touched
 abbrev pub Calls : {R W : Type 0} → InputStream R → (R → ErrorKind → R → Type 0) → OutputStream W → Option Request → R
     → W → Result (Unit {0}) Fault → R → W → Type 0
 Calls I refuses_rest O (Some request) input output result input_after output_after =

@@ -1,7 +1,7 @@
--- Sizes: how many bits the values of fields take.
+-- Sizes: the number of bits of the values of fields.
 use Rattle.std.specs.Prelude.{ℕ, List, length, Result, Ok, Err}
 use Rattle.bitstream_io.specs.Word.{Order}
-use Rattle.bitstream_io.specs.Run.{write_run}
+use Rattle.bitstream_io.specs.Sequence.{write_sequence}
 use Rattle.bitfields_core.specs.declared.fault.Fault.{Fault}
 use Rattle.bitfields_core.specs.declared.field.Field.{Field}
 use Rattle.bitfields_core.specs.declared.field_value.FieldValue.{FieldValue}
@@ -10,7 +10,7 @@ use Rattle.bitfields_core.specs.Packing.{field_writes}
 
 -- the number of bits of the fields' words, before the last alignment
 abbrev pub size_of : Order → List Field → List FieldValue → ℕ
-size_of o fields vs = length (write_run (field_writes o fields vs) 0)
+size_of o fields vs = length (write_sequence (field_writes o fields vs) 0)
 
 -- the size of the values that are spelt, or the fault in them
 abbrev pub spelt_size : Order → List Field → Result (List FieldValue) Fault → Result ℕ Fault

@@ -1,4 +1,4 @@
--- What a request of a stream leaves.
+-- The state that a request of a stream leaves.
 use Rattle.std.specs.Prelude.{◌≡◌, ℕ, List, Option}
 use Rattle.std.specs.Io.KnownBytes.{Consumes, IsAtEnd, Keeps}
 use Rattle.std.specs.declared.io.ErrorKind.{ErrorKind}
@@ -18,8 +18,8 @@ pub record RefusedInput {R : Type 0} (refuses_rest : R → ErrorKind → R → T
   pub refused : refuses_rest input kind input_after
   pub reason : f ≡ fault 0 (refusal_reason kind)
 
--- The output refused a request to write the given number of bytes (none: to flush), as it may refuse. It is as the
--- refusal left it.
+-- The output refused a request to write this number of bytes (0: to flush), as it may refuse. The refusal left
+-- it as it is.
 pub record RefusedOutput {W : Type 0} (O : OutputStream W) (output : W) (wanted : ℕ) (f : Fault) (output_after : W) :
     Type 0 where
   pub kind : ErrorKind

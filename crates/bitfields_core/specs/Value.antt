@@ -1,4 +1,5 @@
--- Value lines: what an input says for the fields of a layout, and what is printed of values.
+-- Value lines: the values that an input spells for the fields of a layout, and the lines that are printed for
+-- values.
 use Rattle.std.specs.Prelude.{ℕ, ℤ, pos, ◌≤◌, ◌≡◌, ◌+◌, ◌-◌, ◌^◌, ◌<◌, ◌==◌, ⊤, All, if◌then◌else◌, List, [], ◌∷◌, ◌++◌, length, take, drop, slice_index_or, Option, Some, None, Result, Ok, Err}
 use Rattle.std.specs.List.{slice_split, flat_map}
 use Rattle.std.specs.Fmt.{decimal, signed_decimal}
@@ -17,15 +18,15 @@ use Rattle.bitfields_core.specs.Fault.{fault}
 use Rattle.bitfields_core.specs.Layout.{one_more}
 
 -- the parts, without an empty last one
-abbrev pub ended : List (List ℕ) → List (List ℕ)
-ended parts =
+abbrev pub without_empty_last : List (List ℕ) → List (List ℕ)
+without_empty_last parts =
     if length (slice_index_or parts (length parts - 1) []) == 0 then take (length parts - 1) parts else parts
 
 -- the lines of an input: each ends in LF, which the last may lack
 abbrev pub lines : List ℕ → List (List ℕ)
-lines input = ended (slice_split (λ b. b == 10) input)
+lines input = without_empty_last (slice_split (λ b. b == 10) input)
 
--- what the value of a field is
+-- the kind of a field's value
 abbrev pub value_kind : Field → ValueKind
 value_kind (Unsigned n) = Kind.Unsigned n
 value_kind (Signed n) = Kind.Signed n
@@ -78,7 +79,7 @@ abbrev pub value_list : Option FieldValue → List FieldValue
 value_list None = []
 value_list (Some v) = v ∷ []
 
--- the value of field number k in front of the others, or its fault
+-- the value of field number k before the others, or its fault
 abbrev pub value_and : ℕ → Result (Option FieldValue) Reason → Result (List FieldValue) Fault
     → Result (List FieldValue) Fault
 value_and k (Err why) others = Err (fault k why)
@@ -103,17 +104,17 @@ FitsKind kind vs = ⊥
 abbrev pub FitsField : Field → List FieldValue → Type 0
 FitsField field vs = FitsKind (value_kind field) vs
 
--- the unsigned number that stands first, else 0
+-- the unsigned number that comes first, else 0
 abbrev pub first_unsigned : List FieldValue → ℕ
 first_unsigned (Value.Unsigned v ∷ vs) = v
 first_unsigned vs = 0
 
--- the signed number that stands first, else 0
+-- the signed number that comes first, else 0
 abbrev pub first_signed : List FieldValue → ℤ
 first_signed (Value.Signed x ∷ vs) = x
 first_signed vs = pos 0
 
--- the bytes that stand first, else none
+-- the bytes that come first, else none
 abbrev pub first_bytes : List FieldValue → List ℕ
 first_bytes (Value.Bytes bytes ∷ vs) = bytes
 first_bytes vs = []
@@ -123,7 +124,7 @@ abbrev pub Fit : List Field → List FieldValue → Type 0
 Fit [] vs = vs ≡ []
 Fit (field ∷ fields) vs = FitsField field vs × Fit fields (drop (value_count field) vs)
 
--- a value as it is printed
+-- the printed form of a value
 abbrev pub value_text : FieldValue → List ℕ
 value_text (Value.Unsigned v) = decimal v
 value_text (Value.Signed x) = signed_decimal x

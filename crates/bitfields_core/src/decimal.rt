@@ -122,7 +122,7 @@ fn non_negative(value: u128) -> i128
     value as i128
 }
 
-/// Returns the negative number of `width` bits that a decimal spells behind a sign.
+/// Returns the negative number of `width` bits that a decimal spells after a sign.
 fn negative(width: u32, text: &[u8]) -> Result<i128, Reason>
     requires some { 1 ≤ width }
     requires most { width ≤ 128 }
@@ -143,7 +143,7 @@ fn half(width: u32) -> u128
     1 << (width - 1)
 }
 
-/// Returns the negative of a number that stands behind a sign.
+/// Returns the negative of a number that follows a sign.
 fn negated(value: u128) -> Result<i128, Reason>
     requires { value ≤ 2 ^ 127 }
     ensures { result ≡ negative_of (Ok value) }

@@ -1,4 +1,4 @@
-//! Why a call fails, and how that is printed.
+//! The reasons that a call fails, and their printed text.
 
 ghost use Rattle.std.specs.Prelude.{◌≡◌};
 ghost use Rattle.bitfields_core.specs.Fault.{fault, reason_status, reason_text};
@@ -8,7 +8,7 @@ use std::alloc::{AllocError, AllocFailed};
 use std::io;
 use std::io::ErrorKind;
 
-/// Why a call fails.
+/// The reasons that a call fails.
 #[derive(Clone, Copy, Debug, PartialEq, Eq, Drop)]
 pub enum Reason {
     /// There are not three arguments, or they do not name a command and an order of bits.
@@ -31,10 +31,9 @@ pub enum Reason {
     ConstantDiffers,
     /// A variable-width word or a unary run passes its limit.
     LimitPassed,
-    /// Bits of a padding or an alignment are not all 0. Only packed bytes that are repacked are
-    /// asked for that.
+    /// Bits of a padding or an alignment are not all 0. Only repacking checks that.
     PaddingNotZero,
-    /// A byte stands behind the last field's. Only packed bytes that are repacked may not have one.
+    /// A byte follows the last field. Only packed bytes that are repacked may not have one.
     BytesLeftOver,
     /// A stream refused a request.
     StreamFault,
@@ -42,8 +41,8 @@ pub enum Reason {
     OutOfMemory,
 }
 
-/// How a call fails: the program's status, the field (counted from 1, or 0 if none is named), and
-/// the reason.
+/// The failure of a call: the program's status, the field (counted from 1, or 0 if none is named),
+/// and the reason.
 #[derive(Clone, Copy, Debug, PartialEq, Eq, Drop)]
 pub struct Fault {
     pub status: u8,

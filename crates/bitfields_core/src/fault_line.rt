@@ -6,8 +6,8 @@ ghost use Rattle.bitfields_core.specs.Fault.{fault_line};
 use crate::fault::Fault;
 use std::marker::Model;
 
-/// The line of a fault: `bitfields: field K: REASON`, and LF. It stands in a buffer of its own. So
-/// making it takes no memory, which may be what the fault is about.
+/// The line of a fault: `bitfields: field K: REASON`, and LF. It has a buffer of its own. So making
+/// it does not allocate: the fault may be that memory was refused.
 #[derive(Drop)]
 pub struct FaultLine {
     buffer: [u8; 64],

@@ -16,7 +16,7 @@ pub enum Field {
     Unary(bool),
     /// `v4` and `v8`: a number of variable width.
     Variable(GroupSize),
-    /// `l4` and `l8`: the same, of which the groups that are read may end in groups of 0.
+    /// `l4` and `l8`: the same, but the groups that are read may end in groups of 0.
     Lenient(GroupSize),
     /// `s4` and `s8`: a signed number of variable width.
     SignedVariable(GroupSize),
@@ -31,7 +31,7 @@ pub enum Field {
     Align,
 }
 
-/// How many bits each group of a number of variable width has.
+/// The number of bits of each group of a number of variable width.
 #[derive(Clone, Copy, Drop)]
 pub enum GroupSize {
     /// 4 bits.

@@ -70,7 +70,7 @@ impl fmt::Display for Spaced<'_> {
     }
 }
 
-/// What the value of a field is, and so what its line spells.
+/// The kind of a field's value, which decides what its line spells.
 #[derive(Clone, Copy, Drop)]
 pub enum ValueKind {
     /// The field has no value, and no line.
@@ -83,7 +83,7 @@ pub enum ValueKind {
     Bytes(u32),
 }
 
-/// Returns what the value of a field is.
+/// Returns the kind of a field's value.
 pub fn value_kind(field: Field) -> ValueKind
     ensures kind { result ≡ value_kind_of field }
     ensures in_range { IsField field → IsKind result }
@@ -105,7 +105,7 @@ pub fn value_kind(field: Field) -> ValueKind
 ///
 /// # Errors
 ///
-/// If memory is refused, which only bytes ask for.
+/// If memory is refused. Only bytes allocate.
 pub fn value_in(
     alloc: Global,
     field: Field,
@@ -166,7 +166,7 @@ fn bytes_in(
     }
 }
 
-/// Returns the unsigned number of `width` bits that stands first.
+/// Returns the unsigned number of `width` bits that comes first.
 pub fn first_unsigned(width: u32, values: &[FieldValue]) -> u128
     requires { FitsKind (ValueKind.Unsigned width) values.now }
     ensures first { result ≡ first_unsigned_of values.now }
@@ -178,7 +178,7 @@ pub fn first_unsigned(width: u32, values: &[FieldValue]) -> u128
     }
 }
 
-/// Returns the signed number of `width` bits that stands first.
+/// Returns the signed number of `width` bits that comes first.
 pub fn first_signed(width: u32, values: &[FieldValue]) -> i128
     requires { FitsKind (ValueKind.Signed width) values.now }
     ensures first { result ≡ first_signed_of values.now }
@@ -190,7 +190,7 @@ pub fn first_signed(width: u32, values: &[FieldValue]) -> i128
     }
 }
 
-/// Returns the bytes, `count` of them, that stand first.
+/// Returns the bytes, `count` of them, that come first.
 pub fn first_bytes(count: u32, values: &[FieldValue]) -> &[u8]
     requires { FitsKind (ValueKind.Bytes count) values.now }
     ensures { result.now ≡ first_bytes_of values.now }
@@ -205,7 +205,7 @@ pub fn first_bytes(count: u32, values: &[FieldValue]) -> &[u8]
 ///
 /// # Errors
 ///
-/// If memory is refused. A part of the line may stand then.
+/// If memory is refused. A part of the line may be written then.
 pub fn print_value(lines: &mut String, value: FieldValue) -> Result<(), AllocError>
     ensures { OnOk result (string_bytes lines.new ≡ string_bytes lines.old ++ printed_line value) }
 {

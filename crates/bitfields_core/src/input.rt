@@ -11,7 +11,8 @@ use std::io::Read;
 
 /// An input that can be read to its end: any `Read`.
 pub trait Input: Source {
-    // How it may refuse to be read to its end, and with which kind. Of a `Read` std tells nothing.
+    // The ways in which it may refuse to be read to its end, and the kinds. std's contract does not
+    // state this for a `Read`.
     ghost refuses_rest: { Self → ErrorKind → Self → Type 0 };
 
     /// Reads all bytes that are left.

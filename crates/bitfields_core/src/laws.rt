@@ -4,16 +4,16 @@ ghost use Rattle.std.specs.Prelude.{◌≡◌, ◌≢◌, ◌++◌, ◌+◌, ◌
 ghost use Rattle.std.specs.List.{All};
 ghost use Rattle.bitstream_io.specs.Word.{Order, bits, word, number};
 ghost use Rattle.bitstream_io.specs.Alignment.{to_boundary};
-ghost use Rattle.bitstream_io.specs.Entry.{TooFew, Takes};
+ghost use Rattle.bitstream_io.specs.Codec.{Incomplete, Done};
 ghost use Rattle.bitstream_io.specs.Error.{Error};
-ghost use Rattle.bitstream_io.specs.Run.{write_run, write_refusals, read_run};
+ghost use Rattle.bitstream_io.specs.Sequence.{write_sequence, write_refusals, read_sequence};
 ghost use Rattle.bitstream_io.specs.WriteTable.{align};
 ghost use Rattle.bitfields_core.specs.Fault.{fault};
 ghost use Rattle.bitfields_core.specs.Layout.{layout_of, layout_text, IsField, IsLayout};
-ghost use Rattle.bitfields_core.specs.Packing.{packed, field_word, field_writes};
-ghost use Rattle.bitfields_core.specs.Repacking.{HasOneWord, repacked};
+ghost use Rattle.bitfields_core.specs.Packing.{packed_bits, field_word, field_writes};
+ghost use Rattle.bitfields_core.specs.Repacking.{HasOneWord, unpack_aligned};
 ghost use Rattle.bitfields_core.specs.Size.{size_of};
-ghost use Rattle.bitfields_core.specs.Unpacking.{unpacked, Unpacks, Stops, values_and, field_read, read_reason, answered};
+ghost use Rattle.bitfields_core.specs.Unpacking.{unpack_bits, Unpacks, Stops, values_and, field_read, read_reason, unpack_answers};
 ghost use Rattle.bitfields_core.specs.Value.{lines, values, printed_lines, ended_lines, value_count, value_list, Fit, FitsField};
 
 use crate::fault::Reason;
@@ -42,36 +42,36 @@ pub fn values_are_spelt()
 pub fn packed_values_are_unpacked()
     ensures { (o : Order) (k : ℕ) (fields : List Field) (vs : List FieldValue) (at : ℕ) (rest : List Bool)
         → All IsField fields → Fit fields vs
-        → (let written = write_run (field_writes o fields vs) at in
-        unpacked o k fields at (written ++ rest) ≡ Unpacks vs (at + length written)) }
+        → (let written = write_sequence (field_writes o fields vs) at in
+        unpack_bits o k fields at (written ++ rest) ≡ Unpacks vs (at + length written)) }
 {}
 
 /// The packed bits of an input's values are unpacked as the lines of this input, each ended by LF.
 pub fn packed_lines_are_unpacked()
     ensures { (o : Order) (fields : List Field) (input : List ℕ) (vs : List FieldValue) (bytes : List ℕ)
-        → IsLayout fields → values 1 fields (lines input) ≡ Ok vs → bits o bytes ≡ packed o fields vs 0
-        → (unpacked o 1 fields 0 (bits o bytes)
-        ≡ Unpacks vs (length (write_run (field_writes o fields vs) 0)))
+        → IsLayout fields → values 1 fields (lines input) ≡ Ok vs → bits o bytes ≡ packed_bits o fields vs 0
+        → (unpack_bits o 1 fields 0 (bits o bytes)
+        ≡ Unpacks vs (length (write_sequence (field_writes o fields vs) 0)))
         × (printed_lines vs ≡ ended_lines (lines input)) }
 {}
 
 /// Packing makes the fields' write calls, none of which is rejected, and a last alignment.
-pub fn packing_is_a_write_run()
+pub fn packing_is_a_write_sequence()
     ensures words { (o : Order) (fields : List Field) (vs : List FieldValue) (at : ℕ)
-        → write_run (field_writes o fields vs ++ align ∷ []) at ≡ packed o fields vs at }
+        → write_sequence (field_writes o fields vs ++ align ∷ []) at ≡ packed_bits o fields vs at }
     ensures accepted { (o : Order) (fields : List Field) (vs : List FieldValue) (at : ℕ)
         → All IsField fields → Fit fields vs
         → All (λ r. r ≡ None) (write_refusals (field_writes o fields vs ++ align ∷ []) at) }
 {}
 
-/// The packed bits are as many as their size says, and then zeros up to a whole byte. Values that fit
+/// The number of packed bits is the size, and then zeros follow up to a whole byte. Values that fit
 /// have one size in both orders of bits, and at most 2^40 bits.
 pub fn packed_values_have_their_size()
     ensures bits { (o : Order) (fields : List Field) (vs : List FieldValue)
-        → packed o fields vs 0
-        ≡ write_run (field_writes o fields vs) 0 ++ replicate (to_boundary (size_of o fields vs)) false }
+        → packed_bits o fields vs 0
+        ≡ write_sequence (field_writes o fields vs) 0 ++ replicate (to_boundary (size_of o fields vs)) false }
     ensures bytes { (o : Order) (fields : List Field) (vs : List FieldValue) (bytes : List ℕ)
-        → bits o bytes ≡ packed o fields vs 0
+        → bits o bytes ≡ packed_bits o fields vs 0
         → 8 * length bytes ≡ size_of o fields vs + to_boundary (size_of o fields vs) }
     ensures order { (o p : Order) (fields : List Field) (vs : List FieldValue)
         → IsLayout fields → Fit fields vs → size_of o fields vs ≡ size_of p fields vs }
@@ -80,84 +80,84 @@ pub fn packed_values_have_their_size()
 {}
 
 /// Unpacking makes the fields' read calls, up to the first whose bits are too few.
-pub fn unpacking_is_a_read_run()
+pub fn unpacking_is_a_read_sequence()
     ensures { (o : Order) (k : ℕ) (fields : List Field) (at : ℕ) (bits : List Bool)
-        → unpacked o k fields at bits
-        ≡ answered k fields at (read_run (map (field_read o) fields) at bits) }
+        → unpack_bits o k fields at bits
+        ≡ unpack_answers k fields at (read_sequence (map (field_read o) fields) at bits) }
 {}
 
-/// The packed bits are the words of the fields, one behind the other, with zeros up to the next byte
+/// The packed bits are the words of the fields, one after the other, with zeros up to the next byte
 /// boundary at the end.
 pub fn packing_goes_by_fields()
     ensures word { (o : Order) (f : Field) (fields : List Field) (vs : List FieldValue) (at : ℕ)
         → IsField f → FitsField f vs → (let written = field_word o f vs at in
-        packed o (f ∷ fields) vs at
-        ≡ written ++ packed o fields (drop (value_count f) vs) (at + length written)) }
+        packed_bits o (f ∷ fields) vs at
+        ≡ written ++ packed_bits o fields (drop (value_count f) vs) (at + length written)) }
     ensures number { (o : Order) (n v : ℕ) (fields : List Field) (vs : List FieldValue) (at : ℕ)
         → n ≤ 128 → v < 2 ^ n
-        → packed o (Field.Unsigned n ∷ fields) (FieldValue.Unsigned v ∷ vs) at
-        ≡ word o n v ++ packed o fields vs (at + n) }
+        → packed_bits o (Field.Unsigned n ∷ fields) (FieldValue.Unsigned v ∷ vs) at
+        ≡ word o n v ++ packed_bits o fields vs (at + n) }
     ensures align { (o : Order) (fields : List Field) (vs : List FieldValue) (at : ℕ)
-        → packed o (Field.Align ∷ fields) vs at
-        ≡ replicate (to_boundary at) false ++ packed o fields vs (at + to_boundary at) }
-    ensures end { (o : Order) (at : ℕ) → packed o [] [] at ≡ replicate (to_boundary at) false }
+        → packed_bits o (Field.Align ∷ fields) vs at
+        ≡ replicate (to_boundary at) false ++ packed_bits o fields vs (at + to_boundary at) }
+    ensures end { (o : Order) (at : ℕ) → packed_bits o [] [] at ≡ replicate (to_boundary at) false }
 {}
 
-/// A field's value is that of its word, which its read call finds. If the call finds no value, its
-/// error or its own reason is the fault, and if it has too few bits left, the bits ended. A field's
-/// number is that of its word. The bits of an alignment say nothing. Those of a constant must hold
-/// its number.
+/// The value of a field is the value of its word, which its read call finds. If the call finds no
+/// value, its error or its own reason is the fault, and if it has too few bits left, the bits
+/// ended. The number of a field is the number of its word. The bits of an alignment mean nothing.
+/// The bits of a constant must hold its number.
 pub fn unpacking_goes_by_fields()
     ensures word { (o : Order) (k : ℕ) (f : Field) (fields : List Field) (vs : List FieldValue) (at : ℕ)
         (rest : List Bool) → IsField f → FitsField f vs → (let written = field_word o f vs at in
-        unpacked o k (f ∷ fields) at (written ++ rest)
-        ≡ values_and (take (value_count f) vs) (unpacked o (k + 1) fields (at + length written) rest)) }
+        unpack_bits o k (f ∷ fields) at (written ++ rest)
+        ≡ values_and (take (value_count f) vs) (unpack_bits o (k + 1) fields (at + length written) rest)) }
     ensures value { (o : Order) (k : ℕ) (f : Field) (fields : List Field) (at : ℕ) (w rest : List Bool)
-        (v : Option FieldValue) → (field_read o f).reads at (w ++ rest) ≡ Takes (length w) (Ok (Ok v))
-        → unpacked o k (f ∷ fields) at (w ++ rest)
-        ≡ values_and (value_list v) (unpacked o (k + 1) fields (at + length w) rest) }
+        (v : Option FieldValue) → (field_read o f).reads at (w ++ rest) ≡ Done (length w) (Ok (Ok v))
+        → unpack_bits o k (f ∷ fields) at (w ++ rest)
+        ≡ values_and (value_list v) (unpack_bits o (k + 1) fields (at + length w) rest) }
     ensures reason { (o : Order) (k : ℕ) (f : Field) (fields : List Field) (at n : ℕ) (bits : List Bool)
-        (why : Reason) → (field_read o f).reads at bits ≡ Takes n (Ok (Err why))
-        → unpacked o k (f ∷ fields) at bits ≡ Stops (fault k why) }
+        (why : Reason) → (field_read o f).reads at bits ≡ Done n (Ok (Err why))
+        → unpack_bits o k (f ∷ fields) at bits ≡ Stops (fault k why) }
     ensures error { (o : Order) (k : ℕ) (f : Field) (fields : List Field) (at n : ℕ) (bits : List Bool)
-        (e : Error) → (field_read o f).reads at bits ≡ Takes n (Err e)
-        → unpacked o k (f ∷ fields) at bits ≡ Stops (fault k (read_reason e)) }
-    ensures too_few { (o : Order) (k : ℕ) (f : Field) (fields : List Field) (at : ℕ) (bits : List Bool)
-        → (field_read o f).reads at bits ≡ TooFew
-        → unpacked o k (f ∷ fields) at bits ≡ Stops (fault k Reason.BitsEnded) }
+        (e : Error) → (field_read o f).reads at bits ≡ Done n (Err e)
+        → unpack_bits o k (f ∷ fields) at bits ≡ Stops (fault k (read_reason e)) }
+    ensures incomplete { (o : Order) (k : ℕ) (f : Field) (fields : List Field) (at : ℕ) (bits : List Bool)
+        → (field_read o f).reads at bits ≡ Incomplete
+        → unpack_bits o k (f ∷ fields) at bits ≡ Stops (fault k Reason.BitsEnded) }
     ensures number { (o : Order) (k n : ℕ) (fields : List Field) (at : ℕ) (w rest : List Bool)
         → n ≤ 128 → length w ≡ n
-        → unpacked o k (Field.Unsigned n ∷ fields) at (w ++ rest)
-        ≡ values_and (FieldValue.Unsigned (number o w) ∷ []) (unpacked o (k + 1) fields (at + n) rest) }
+        → unpack_bits o k (Field.Unsigned n ∷ fields) at (w ++ rest)
+        ≡ values_and (FieldValue.Unsigned (number o w) ∷ []) (unpack_bits o (k + 1) fields (at + n) rest) }
     ensures align { (o : Order) (k : ℕ) (fields : List Field) (at : ℕ) (w rest : List Bool)
         → length w ≡ to_boundary at
-        → unpacked o k (Field.Align ∷ fields) at (w ++ rest)
-        ≡ unpacked o (k + 1) fields (at + to_boundary at) rest }
+        → unpack_bits o k (Field.Align ∷ fields) at (w ++ rest)
+        ≡ unpack_bits o (k + 1) fields (at + to_boundary at) rest }
     ensures constant { (o : Order) (k n v : ℕ) (fields : List Field) (at : ℕ) (w rest : List Bool)
         → n ≤ 32 → length w ≡ n → number o w ≡ v
-        → unpacked o k (Field.Constant n v ∷ fields) at (w ++ rest) ≡ unpacked o (k + 1) fields (at + n) rest }
+        → unpack_bits o k (Field.Constant n v ∷ fields) at (w ++ rest) ≡ unpack_bits o (k + 1) fields (at + n) rest }
     ensures constant_differs { (o : Order) (k n v : ℕ) (fields : List Field) (at : ℕ) (w rest : List Bool)
         → n ≤ 32 → length w ≡ n → number o w ≢ v
-        → unpacked o k (Field.Constant n v ∷ fields) at (w ++ rest) ≡ Stops (fault k Reason.ConstantDiffers) }
+        → unpack_bits o k (Field.Constant n v ∷ fields) at (w ++ rest) ≡ Stops (fault k Reason.ConstantDiffers) }
     ensures few { (o : Order) (k n : ℕ) (fields : List Field) (at : ℕ) (bits : List Bool)
         → n ≤ 128 → length bits < n
-        → unpacked o k (Field.Unsigned n ∷ fields) at bits ≡ Stops (fault k Reason.BitsEnded) }
+        → unpack_bits o k (Field.Unsigned n ∷ fields) at bits ≡ Stops (fault k Reason.BitsEnded) }
     ensures few_to_align { (o : Order) (k : ℕ) (fields : List Field) (at : ℕ) (bits : List Bool)
         → length bits < to_boundary at
-        → unpacked o k (Field.Align ∷ fields) at bits ≡ Stops (fault k Reason.BitsEnded) }
+        → unpack_bits o k (Field.Align ∷ fields) at bits ≡ Stops (fault k Reason.BitsEnded) }
     ensures few_for_constant { (o : Order) (k n v : ℕ) (fields : List Field) (at : ℕ) (bits : List Bool)
         → n ≤ 32 → length bits < n
-        → unpacked o k (Field.Constant n v ∷ fields) at bits ≡ Stops (fault k Reason.BitsEnded) }
+        → unpack_bits o k (Field.Constant n v ∷ fields) at bits ≡ Stops (fault k Reason.BitsEnded) }
 {}
 
-/// What repacking accepts of a layout whose values have one word each is exactly what packing writes
-/// for some input.
+/// If the values of a layout have one word each, repacking accepts exactly the bytes that packing
+/// writes for some input.
 pub fn repacked_bytes_are_packed()
     ensures packed { (o : Order) (fields : List Field) (bytes : List ℕ) (vs : List FieldValue)
         → IsLayout fields → All HasOneWord fields
-        → repacked o fields (bits o bytes) ≡ Unpacks vs (8 * length bytes)
-        → (input : List ℕ) × (values 1 fields (lines input) ≡ Ok vs) × (bits o bytes ≡ packed o fields vs 0) }
+        → unpack_aligned o fields (bits o bytes) ≡ Unpacks vs (8 * length bytes)
+        → (input : List ℕ) × (values 1 fields (lines input) ≡ Ok vs) × (bits o bytes ≡ packed_bits o fields vs 0) }
     ensures repacked { (o : Order) (fields : List Field) (bytes input : List ℕ) (vs : List FieldValue)
-        → IsLayout fields → values 1 fields (lines input) ≡ Ok vs → bits o bytes ≡ packed o fields vs 0
-        → repacked o fields (bits o bytes) ≡ Unpacks vs (8 * length bytes) }
+        → IsLayout fields → values 1 fields (lines input) ≡ Ok vs → bits o bytes ≡ packed_bits o fields vs 0
+        → unpack_aligned o fields (bits o bytes) ≡ Unpacks vs (8 * length bytes) }
 {}

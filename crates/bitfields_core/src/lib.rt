@@ -1,9 +1,9 @@
-//! Layouts of bit fields, and what they mean: packs decimal values into bit fields, counts their bits,
-//! unpacks bit fields into decimal values, and repacks them.
+//! Layouts of bit fields, and their meaning: packs decimal values into bit fields, counts their
+//! bits, unpacks bit fields into decimal values, and repacks them.
 //!
-//! [`parse_layout`] gives the [`Layout`] that a text spells. [`pack`], [`unpack`], [`size`] and
-//! [`repack`] do what a layout means, in either order of bits. [`run`] is a whole call of the program,
-//! over its words and its streams, and [`report`] prints why a call failed, which is a [`Fault`].
+//! [`parse_layout`] returns the [`Layout`] that a text spells. [`pack`], [`unpack`], [`size`] and
+//! [`repack`] use a layout, in either order of bits. [`run`] is a whole run of the program, on its
+//! arguments and its streams, and [`report`] prints the reason of a failure, which is a [`Fault`].
 //!
 //! - [`laws`]: laws of layouts and values, whatever parses or packs them
 #![tactic(auto)]

@@ -4,7 +4,7 @@ ghost use Rattle.std.specs.Prelude.{◌≡◌, false, None, [], ◌∷◌, ◌++
 ghost use Rattle.bitstream_io.specs.Sink.{Writes, WritesAll};
 ghost use Rattle.bitstream_io.specs.WriteTable.{align, unary_word, vbr, signed_vbr};
 ghost use Rattle.bitfields_core.specs.Layout.{group_bits};
-ghost use Rattle.bitfields_core.specs.Packing.{field_write, field_writes, packed, WritesBits, write_reason as write_reason_of, Packs, PacksValues};
+ghost use Rattle.bitfields_core.specs.Packing.{field_write, field_writes, packed_bits, WritesBits, write_reason as write_reason_of, Packs, PacksValues};
 ghost use Rattle.bitfields_core.specs.Value.{lines as lines_of, values as values_of, FitsField, Fit};
 
 use crate::fault::{Fault, Reason};
@@ -21,10 +21,10 @@ use std::alloc::Global;
 /// # Errors
 ///
 /// At the first value field with a fault: `ValueMissing` if its line is missing, `ValueMisspelt` if
-/// the line spells no value of the field's kind, `ValueDoesNotFit` if the number needs more bits. Else
-/// `ValueLeftOver` (field 0) if lines remain, or `OutOfMemory` (field 0). The stream is as it was
-/// then, since all values are read before the first byte is written. Else `StreamFault` or
-/// `OutOfMemory` (field 0), as the stream refuses; the stream is as the refusal left it.
+/// the line spells no value of the field's kind, `ValueDoesNotFit` if the number needs more bits.
+/// Else `ValueLeftOver` (field 0) if lines remain, or `OutOfMemory` (field 0). The stream is
+/// unchanged then, since all values are read before the first byte is written. Else `StreamFault`
+/// or `OutOfMemory` (field 0), as the stream refuses; the stream is as the refusal left it.
 pub fn pack<E: Endianness, W: Target>(
     alloc: Global,
     layout: &Layout,
@@ -64,8 +64,8 @@ pub fn pack_values<E: Endianness, W: Target>(
 ///
 /// # Errors
 ///
-/// The error of the first call that answers one. No call is made after it. A sink without a limit
-/// answers none, unless its stream refuses or it has failed.
+/// The error of the first call that returns one. No call is made after it. A sink without a limit
+/// returns none, unless its stream refuses or it has failed.
 pub fn pack_to<W: BitWrite>(
     layout: &Layout,
     values: &[FieldValue],
@@ -75,7 +75,7 @@ pub fn pack_to<W: BitWrite>(
     ensures calls { WritesAll W.sink (field_writes W.sink.order layout.now values.now ++ align ∷ [])
         writer.old result writer.new }
     ensures adds { W.sink.failed writer.old ≡ false → W.sink.limit ≡ None
-        → WritesBits W.sink (packed W.sink.order layout.now values.now (W.sink.len writer.old))
+        → WritesBits W.sink (packed_bits W.sink.order layout.now values.now (W.sink.len writer.old))
         writer.old result writer.new }
 {
     append_fields(layout.fields(), values, writer)?;
@@ -86,7 +86,7 @@ pub fn pack_to<W: BitWrite>(
 ///
 /// # Errors
 ///
-/// The error of the first call that answers one. No call is made after it.
+/// The error of the first call that returns one. No call is made after it.
 pub fn append_fields<W: BitWrite>(
     fields: &[Field],
     values: &[FieldValue],

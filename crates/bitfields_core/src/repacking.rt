@@ -1,7 +1,7 @@
 //! Repacking: packed bytes, read and packed again.
 
 ghost use Rattle.std.specs.Prelude.{◌≡◌, ℕ, List, Some, IfOk};
-ghost use Rattle.bitstream_io.specs.Gather.{seen};
+ghost use Rattle.bitstream_io.specs.Gather.{result_map};
 ghost use Rattle.bitstream_io.specs.Refusal.{MayRefuseRead, TrueEnds};
 ghost use Rattle.bitfields_core.specs.Layout.{IsLayout};
 ghost use Rattle.bitfields_core.specs.Repacking.{Ends, IsRepacked, ReadsPackedBytes, Repacks};
@@ -22,11 +22,11 @@ use std::io::ErrorKind;
 ///
 /// # Errors
 ///
-/// Those of [`unpack`](crate::unpack), and `PaddingNotZero` at the first field `pN` or
-/// `a` whose bits are not all 0 (field 0 for those behind the last field). Then `BytesLeftOver` (field
-/// 0) if there is a byte behind the last field's, or `StreamFault` or `OutOfMemory` (field 0) as the
-/// input refuses the request for that byte. The output is as it was then. Else `StreamFault` or
-/// `OutOfMemory` (field 0), as the output refuses.
+/// The errors of [`unpack`](crate::unpack), and `PaddingNotZero` at the first field `pN` or `a`
+/// whose bits are not all 0 (field 0 for the bits after the last field). Then `BytesLeftOver`
+/// (field 0) if there is a byte after the last field, or `StreamFault` or `OutOfMemory` (field 0)
+/// as the input refuses the request for that byte. The output is unchanged then. Else `StreamFault`
+/// or `OutOfMemory` (field 0), as the output refuses.
 pub fn repack<E: Endianness, R: Source, W: Target>(
     alloc: Global,
     layout: &Layout,
@@ -54,7 +54,7 @@ fn read_packed<E: Endianness, R: Source>(
     input: &mut R,
 ) -> Result<Vec<FieldValue>, Fault>
     ensures reads { ReadsPackedBytes R.stream E.order layout.now
-        input.old (seen (λ v. v.items) result) input.new }
+        input.old (result_map (λ v. v.items) result) input.new }
     ensures fit { IfOk result (λ v. Fit layout.now v.items) }
     ensures is_layout { IsLayout layout.now }
 {

@@ -18,7 +18,7 @@ use crate::unpacking::unpack;
 use bitstream_io::{BigEndian, Endianness, LittleEndian, Target};
 use std::alloc::{AllocError, Global};
 
-/// What to do with a layout.
+/// The tasks for a layout.
 #[derive(Clone, Copy, Drop)]
 pub enum Command {
     Pack,
@@ -36,9 +36,9 @@ pub enum NamedOrder {
     Little,
 }
 
-/// Runs the program on its arguments, without the program's name. Returns its status: 0, or that of
-/// a fault. The fault's line is then printed on `faults` by one request. If the line can't be
-/// printed, the status stays as it is.
+/// Runs the program on its arguments, without the program's name. Returns its status: 0, or the
+/// status of a fault. The fault's line is then printed on `faults` by one request. If the line
+/// can't be printed, the status stays the same.
 ///
 /// The input is any `Read`. The output and the stream for faults are any `Write`, or a target that
 /// is lent. The output is written and flushed only if the whole layout succeeded: at a status of 2,

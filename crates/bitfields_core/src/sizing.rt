@@ -1,4 +1,4 @@
-//! Sizes: how many bits the values of an input take.
+//! Sizes: the number of bits of the values of an input.
 
 ghost use Rattle.bitfields_core.specs.Size.{Sizes};
 ghost use Rattle.bitfields_core.specs.Value.{lines as lines_of, values as values_of};
@@ -10,12 +10,13 @@ use crate::values::values;
 use bitstream_io::BitsWritten;
 use std::alloc::Global;
 
-/// Returns the number of bits of the values that an input spells for a layout: those of the fields'
-/// words, without the last alignment. It is the same in both orders of bits. Nothing is written.
+/// Returns the number of bits of the values that an input spells for a layout: the sum of the
+/// fields' words, without the last alignment. It is the same in both orders of bits. Nothing is
+/// written.
 ///
 /// # Errors
 ///
-/// Those of [`pack`](crate::pack), before it writes.
+/// The errors of [`pack`](crate::pack), before it writes.
 pub fn size(alloc: Global, layout: &Layout, input: &[u8]) -> Result<u64, Fault>
     ensures { Sizes layout.now (values_of 1 layout.now (lines_of input.now)) result }
 {

@@ -1,10 +1,10 @@
-//! Packed fields, read so that no other bits would say the same.
+//! Packed fields, read strictly: only the bits that packing writes are accepted.
 
 ghost use Rattle.std.specs.Prelude.{◌≡◌, ◌≤◌, IfOk, None, length};
 ghost use Rattle.bitstream_io.specs.Alignment.{to_boundary};
-ghost use Rattle.bitstream_io.specs.Gather.{seen};
+ghost use Rattle.bitstream_io.specs.Gather.{result_map};
 ghost use Rattle.bitstream_io.specs.Reads.{Reads};
-ghost use Rattle.bitfields_core.specs.Repacking.{exact_read, if_zeros as if_zeros_of, zeros_entry, ReadsPacked};
+ghost use Rattle.bitfields_core.specs.Repacking.{exact_read, if_zeros as if_zeros_of, zeros_decoder, ReadsPacked};
 ghost use Rattle.bitfields_core.specs.Unpacking.{byte_count, ReadsField};
 
 use crate::fault::{Fault, Reason};
@@ -20,14 +20,14 @@ use std::alloc::Global;
 ///
 /// # Errors
 ///
-/// As [`unpack_from`](crate::unpacking::unpack_from) has them, and `PaddingNotZero` at the first
-/// field `pN` or `a` whose bits are not all 0. Of the last alignment the fault names no field.
+/// The errors of [`unpack_from`](crate::unpacking::unpack_from), and `PaddingNotZero` at the first
+/// field `pN` or `a` whose bits are not all 0. For the last alignment the fault names no field.
 pub fn read_packed_from<R: BitRead>(
     alloc: Global,
     fields: &[Field],
     reader: &mut R,
 ) -> Result<Vec<FieldValue>, Fault>
-    ensures { ReadsPacked R.source fields.now reader.old (seen (λ v. v.items) result) reader.new }
+    ensures { ReadsPacked R.source fields.now reader.old (result_map (λ v. v.items) result) reader.new }
 {
     let mut values = Vec::new(alloc);
     for (index, field) in fields.iter().enumerate() {
@@ -109,7 +109,7 @@ fn if_zeros(zero: bool) -> Result<Option<FieldValue>, Reason>
 
 /// Reads `bits` bits. Returns whether all are 0.
 fn read_zeros<R: BitRead>(bits: u32, reader: &mut R) -> Result<bool, Error>
-    ensures { Reads R.source (zeros_entry bits) reader.old result reader.new }
+    ensures { Reads R.source (zeros_decoder bits) reader.old result reader.new }
 {
     if bits <= 128 {
         let word: u128 = reader.read_unsigned_var(bits)?;
@@ -123,7 +123,7 @@ fn read_zeros<R: BitRead>(bits: u32, reader: &mut R) -> Result<bool, Error>
 /// Reads the bits up to the next byte boundary, at most this many. Returns whether all are 0.
 fn read_to_boundary<R: BitRead>(most: u32, reader: &mut R) -> Result<bool, Error>
     requires { to_boundary (R.source.state reader.old).taken ≤ most }
-    ensures { Reads R.source (zeros_entry (to_boundary (R.source.state reader.old).taken))
+    ensures { Reads R.source (zeros_decoder (to_boundary (R.source.state reader.old).taken))
         reader.old result reader.new }
 {
     if reader.byte_aligned() {

@@ -1,9 +1,9 @@
 //! Unpacking: the lines of the values that bits hold for the fields of a layout.
 
 ghost use Rattle.std.specs.Prelude.{◌≡◌, ◌++◌, ◌^◌, ℕ, List, Some, true, length, string_bytes, IfOk, IsErr, IsSome, OnOk, None, Ok, Err, if◌then◌else◌};
-ghost use Rattle.bitstream_io.specs.Gather.{seen};
+ghost use Rattle.bitstream_io.specs.Gather.{result_map};
 ghost use Rattle.bitstream_io.specs.Refusal.{MayRefuseRead, TrueEnds};
-ghost use Rattle.bitstream_io.specs.ReadTable.{unary_entry, vbr_entry, any_vbr_entry, signed_vbr_entry};
+ghost use Rattle.bitstream_io.specs.ReadTable.{unary_decoder, vbr_decoder, any_vbr_decoder, signed_vbr_decoder};
 ghost use Rattle.bitstream_io.specs.Reads.{Reads};
 ghost use Rattle.bitfields_core.specs.Layout.{group_bits};
 ghost use Rattle.bitfields_core.specs.Unpacking.{asks_memory, byte_count, field_read, read_reason as read_reason_of, IsSaid, ReadsField, ReadsLines, UnpacksBytes};
@@ -23,22 +23,22 @@ use std::alloc::{AllocError, Global};
 ///
 /// # Errors
 ///
-/// `BitsEnded` at the first field whose bits are not all there, `ConstantDiffers` at the first
-/// constant whose bits hold another number, `LimitPassed` at the first whose number passes its
-/// limit or ends in a redundant group, `StreamFault` or `OutOfMemory` at the field for which the
-/// stream refused a request,
-/// `OutOfMemory` at the field for whose bytes or line memory was refused. If each refusal of the
-/// stream is a true end, as of a `Slice`, the bits alone decide the answer, memory aside.
+/// `BitsEnded` at the first field whose bits are not all there. `ConstantDiffers` at the first
+/// constant whose bits hold another number. `LimitPassed` at the first field whose number passes
+/// its limit or ends in a redundant group. `StreamFault` or `OutOfMemory` at the field for which
+/// the stream refused a request. `OutOfMemory` at the field for whose bytes or line memory was
+/// refused. If each refusal of the stream is a true end, as with a `Slice`, the bits alone decide
+/// the result, memory aside.
 pub fn unpack<E: Endianness, R: Source>(
     alloc: Global,
     layout: &Layout,
     input: &mut R,
 ) -> Result<Vec<u8>, Fault>
     ensures unpacks { UnpacksBytes R.stream E.order layout.now
-        input.old (seen (λ v. v.items) result) input.new }
+        input.old (result_map (λ v. v.items) result) input.new }
     ensures said { TrueEnds (MayRefuseRead R.stream) → (xs : List ℕ)
         → R.stream.remaining input.old ≡ Some xs
-        → IsSaid E.order layout.now xs (seen (λ v. v.items) result) }
+        → IsSaid E.order layout.now xs (result_map (λ v. v.items) result) }
 {
     let mut reader = BitReader::<Lent<R>, E>::new(Lent::new(input));
     let lines = unpack_from(alloc, layout.fields(), &mut reader)?;
@@ -50,14 +50,15 @@ pub fn unpack<E: Endianness, R: Source>(
 ///
 /// # Errors
 ///
-/// At the first field whose call answers an error, at the first constant whose bits hold another
-/// number, or at the first field for whose bytes or line memory is refused. No call is made after it.
+/// At the first field whose call returns an error, at the first constant whose bits hold another
+/// number, or at the first field for whose bytes or line memory is refused. No call is made after
+/// it.
 pub fn unpack_from<R: BitRead>(
     alloc: Global,
     fields: &[Field],
     reader: &mut R,
 ) -> Result<String, Fault>
-    ensures { ReadsLines R.source fields.now reader.old (seen (λ s. string_bytes s) result) reader.new }
+    ensures { ReadsLines R.source fields.now reader.old (result_map (λ s. string_bytes s) result) reader.new }
 {
     let mut lines = String::new(alloc);
     for (index, field) in fields.iter().enumerate() {
@@ -136,7 +137,7 @@ pub fn unpack_field<R: BitRead>(
 
 /// Reads a unary number with this stop bit.
 fn read_run<R: BitRead>(stop: bool, reader: &mut R) -> Result<u32, Error>
-    ensures { Reads R.source (unary_entry stop) reader.old result reader.new }
+    ensures { Reads R.source (unary_decoder stop) reader.old result reader.new }
 {
     match stop {
         false => reader.read_unary::<Bits<0>>(),
@@ -146,7 +147,7 @@ fn read_run<R: BitRead>(stop: bool, reader: &mut R) -> Result<u32, Error>
 
 /// Reads a number in groups of this size.
 fn read_groups<R: BitRead>(size: GroupSize, reader: &mut R) -> Result<u64, Error>
-    ensures { Reads R.source (vbr_entry R.source.order (group_bits size) 64 (2 ^ 64))
+    ensures { Reads R.source (vbr_decoder R.source.order (group_bits size) 64 (2 ^ 64))
         reader.old result reader.new }
 {
     match size {
@@ -157,7 +158,7 @@ fn read_groups<R: BitRead>(size: GroupSize, reader: &mut R) -> Result<u64, Error
 
 /// Reads a number in groups of this size, which may end in groups of 0.
 fn read_any_groups<R: BitRead>(size: GroupSize, reader: &mut R) -> Result<u64, Error>
-    ensures { Reads R.source (any_vbr_entry R.source.order (group_bits size) 64 (2 ^ 64))
+    ensures { Reads R.source (any_vbr_decoder R.source.order (group_bits size) 64 (2 ^ 64))
         reader.old result reader.new }
 {
     match size {
@@ -168,7 +169,7 @@ fn read_any_groups<R: BitRead>(size: GroupSize, reader: &mut R) -> Result<u64, E
 
 /// Reads a signed number in groups of this size.
 fn read_signed_groups<R: BitRead>(size: GroupSize, reader: &mut R) -> Result<i64, Error>
-    ensures { Reads R.source (signed_vbr_entry R.source.order (group_bits size) 64)
+    ensures { Reads R.source (signed_vbr_decoder R.source.order (group_bits size) 64)
         reader.old result reader.new }
 {
     match size {

@@ -4,7 +4,7 @@ ghost use Rattle.std.specs.Prelude.{◌≡◌, ◌+◌, ◌++◌, [], ◌∷◌,
 ghost use Rattle.std.specs.List.{All};
 ghost use Rattle.bitfields_core.specs.Fault.{fault};
 ghost use Rattle.bitfields_core.specs.Layout.{IsField, IsLayout, IsUnlessMemory};
-ghost use Rattle.bitstream_io.specs.Gather.{seen};
+ghost use Rattle.bitstream_io.specs.Gather.{result_map};
 ghost use Rattle.bitfields_core.specs.Value.{lines as lines_of, values as values_of, value_in as value_in_of, value_count as value_count_of, Fit, value_list};
 
 use crate::fault::{Fault, Reason};
@@ -18,10 +18,10 @@ use std::alloc::Global;
 ///
 /// # Errors
 ///
-/// Those of [`pack`](crate::pack), before it writes.
+/// The errors of [`pack`](crate::pack), before it writes.
 pub fn values(alloc: Global, layout: &Layout, input: &[u8]) -> Result<Vec<FieldValue>, Fault>
     ensures values { IsUnlessMemory (values_of 1 layout.now (lines_of input.now))
-        (seen (λ v. v.items) result) }
+        (result_map (λ v. v.items) result) }
     ensures fit { IfOk result (λ v. Fit layout.now v.items) }
 {
     let lines = lines(alloc, input)?;
@@ -31,7 +31,7 @@ pub fn values(alloc: Global, layout: &Layout, input: &[u8]) -> Result<Vec<FieldV
 fn read_values(alloc: Global, fields: &[Field], lines: &[&[u8]]) -> Result<Vec<FieldValue>, Fault>
     requires { IsLayout fields.now }
     ensures { IsUnlessMemory (values_of 1 fields.now (map (λ x. x.now) lines.now))
-        (seen (λ v. v.items) result) }
+        (result_map (λ v. v.items) result) }
 {
     let mut values = Vec::new(alloc);
     let mut rest = lines;
@@ -75,7 +75,7 @@ pub fn value_count(field: Field) -> usize
     }
 }
 
-/// Returns the items behind those of the field: lines, or values.
+/// Returns the items after the items of the field: lines, or values.
 pub fn behind_value<T>(field: Field, items: &[T]) -> &[T]
     requires { value_count_of field ≤ length items.now }
     ensures { result.now ≡ drop (value_count_of field) items.now }

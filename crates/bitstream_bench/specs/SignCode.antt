@@ -1,11 +1,11 @@
 -- A code of a user's own: signs of numbers.
 use Rattle.std.specs.Prelude.{Bool, true, false, List, [], ◌∷◌, Option, Some, None, if◌then◌else◌}
-use Rattle.bitstream_io.specs.Entry.{ReadEntry, chain, gives}
-use Rattle.bitstream_io.specs.ReadTable.{bit_entry}
+use Rattle.bitstream_io.specs.Codec.{Decoder, and_then, pure}
+use Rattle.bitstream_io.specs.ReadTable.{bit_decoder}
 
 -- one bit that says whether there is a sign, and then the sign
-abbrev pub sign_entry : ReadEntry (Option Bool)
-sign_entry = chain bit_entry (λ signed. if signed then chain bit_entry (λ negative. gives (Some negative)) else gives
+abbrev pub sign_decoder : Decoder (Option Bool)
+sign_decoder = and_then bit_decoder (λ signed. if signed then and_then bit_decoder (λ negative. pure (Some negative)) else pure
     None)
 
 -- the word of no sign, or of a sign

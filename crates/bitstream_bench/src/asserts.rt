@@ -1,5 +1,5 @@
-//! Assertions as functions, and what a call answers as a truth. A test that is a list of calls with no
-//! branch takes a third of the time to prove that it takes with the macros and `?`.
+//! Assertions as functions, and the results of calls as truths. A test that is a list of calls with
+//! no branch takes a third of the time to prove that it takes with the macros and `?`.
 use bitstream_io::Error;
 use std::fmt::Debug;
 use std::process::Abort;
@@ -19,19 +19,19 @@ pub(crate) fn holds(rt: &impl Abort, what: bool) {
     assert!(rt; what);
 }
 
-/// Asserts that something holds, and else tells of what.
+/// Asserts that something holds, and names it if not.
 pub(crate) fn holds_of(rt: &impl Abort, what: bool, text: &str) {
     assert!(rt; what, "{text}");
 }
 
-/// Asserts that each of these holds, and else tells which does not.
+/// Asserts that each of these holds, and reports the first that does not.
 pub(crate) fn each_holds(rt: &impl Abort, what: &[bool]) {
     for (at, holds) in what.iter().enumerate() {
         assert!(rt; *holds, "{at}");
     }
 }
 
-/// Whether a call answers the wanted value.
+/// Returns true if a call returns the wanted value.
 pub(crate) fn gives<T: PartialEq + Drop, E: Drop>(answer: Result<T, E>, wanted: T) -> bool {
     match answer {
         Ok(value) => value == wanted,
@@ -39,12 +39,12 @@ pub(crate) fn gives<T: PartialEq + Drop, E: Drop>(answer: Result<T, E>, wanted: 
     }
 }
 
-/// Whether a call answers that the input has ended.
+/// Returns true if a call returns that the input has ended.
 pub(crate) fn ended<T: Drop>(answer: Result<T, Error>) -> bool {
     matches!(answer, Err(Error::EndOfInput))
 }
 
-/// Whether a call answers that its reader or writer has failed before.
+/// Returns true if a call returns that its reader or writer has failed before.
 pub(crate) fn failed<T: Drop>(answer: Result<T, Error>) -> bool {
     matches!(answer, Err(Error::Failed))
 }

@@ -25,7 +25,7 @@ fn goes_from_bits_to_bytes(rt: HostRuntime) {
     holds(&rt, second & third & last);
 }
 
-/// Whether a byte is read by a reader of bytes that is lent.
+/// Returns true if a lent reader of bytes reads a byte.
 fn lends_bytes<R: Source>(reader: &mut BitReader<R, BE>, wanted: u8) -> bool {
     match reader.bytereader() {
         Some(mut bytes) => gives(bytes.read(), wanted),
@@ -42,14 +42,14 @@ fn lends_the_stream_of_a_reader(rt: HostRuntime) {
     let third = lends_bytes(&mut reader, 0x3b);
     let last = gives(reader.read_unsigned_var(8), 0xc1_u8);
     each_holds(&rt, &[first, lent, second == [0xed], third, last]);
-    // Nothing is lent behind the end.
+    // Nothing is lent after the end.
     let end = ended(reader.read_bit());
     holds(&rt, end & reader.reader().is_none());
     same(&rt, reader.into_reader().len(), 0);
 }
 
-/// Whether a reader that took 12 bits, and one that met the end, go back to the start.
-fn goes_back<R: SeekSource>(reader: &mut BitReader<R, BE>, bits: u32) -> [bool; 7] {
+/// Checks that a reader that took 12 bits, and one that met the end, seek to the start.
+fn round_trip<R: SeekSource>(reader: &mut BitReader<R, BE>, bits: u32) -> [bool; 7] {
     [
         gives(reader.read_unsigned_var(bits), 0xb1e_u16),
         gives(reader.position_in_bits(), 12),
@@ -64,7 +64,7 @@ fn goes_back<R: SeekSource>(reader: &mut BitReader<R, BE>, bits: u32) -> [bool; 
 /// The width of the words is known only as the program runs.
 #[test]
 fn seeks_in_memory(rt: HostRuntime) {
-    each_holds(&rt, &goes_back(&mut BitReader::new(Slice::new(&D)), 12));
+    each_holds(&rt, &round_trip(&mut BitReader::new(Slice::new(&D)), 12));
 }
 
 /// Takes a writer by value.
@@ -72,7 +72,7 @@ fn writes_number<W: ByteWrite + Drop>(mut writer: W) -> bool {
     writer.write_as::<LE, u16>(0xc13b).is_ok()
 }
 
-/// Whether a number is written by a writer of bytes that is lent.
+/// Returns true if a lent writer of bytes writes a number.
 fn writes_lent<W: Target>(writer: &mut BitWriter<W, BE>) -> bool {
     match writer.bytewriter() {
         Some(mut bytes) => writes_number(&mut bytes),

@@ -1,6 +1,7 @@
-//! What no clause of the callers says: callers without contracts, types of a user's own on their happy path,
-//! that memory is not called refused while it is left, and the kind of a write with no room. What the others
-//! say of the formats' bytes is proved: the worked rows of `bitstream_callers`.
+//! The facts that no clause of the callers states: callers without contracts, types of a user's own
+//! on their happy path, that memory is not called refused while it is left, and the kind of a write
+//! with no room. The other facts on the formats' bytes are proved: the test vectors of
+//! `bitstream_callers`.
 use crate::asserts::{are, each_holds, ended, failed, gives, holds, same};
 use bitstream_callers::appending::append;
 use bitstream_callers::block_header::BlockHeader;
@@ -24,7 +25,7 @@ use bitstream_io::{
 use std::alloc::Global;
 use std::io::ErrorKind;
 use std::process::Abort;
-use test_streams::{Drip, Refuse};
+use test_streams::{Refuse, Short};
 
 /// The fields of a block, in their order.
 fn fields(info: &StreamInfo) -> [u64; 8] {
@@ -42,50 +43,51 @@ fn fields(info: &StreamInfo) -> [u64; 8] {
 
 const FIELDS: [u64; 8] = [4096, 4096, 1542, 8546, 44100, 2, 16, 304844];
 
-/// A STREAMINFO block: its fields, and the checksum behind them.
+/// A STREAMINFO block: its fields, and the checksum after them.
 const WHOLE_BLOCK: [u8; 34] = [
     0x10, 0x00, 0x10, 0x00, 0x00, 0x06, 0x06, 0x00, 0x21, 0x62, 0x0a, 0xc4, 0x42, 0xf0, 0x00, 0x04,
     0xa6, 0xcc, 0xfa, 0xf2, 0x69, 0x2f, 0xfd, 0xec, 0x2d, 0x5b, 0x30, 0x01, 0x76, 0xb4, 0x62, 0x88,
     0x7d, 0x92,
 ];
 
-/// Whether a block goes back to the bytes.
-fn goes_back(block: &StreamInfo) -> bool {
+/// Returns true if a block round-trips through its bytes.
+fn round_trip(block: &StreamInfo) -> bool {
     let mut built = [0; 34];
     let mut writer = BitWriter::<_, BE>::new(SliceMut::new(&mut built));
     writer.build(block).is_ok() & (built == WHOLE_BLOCK)
 }
 
-/// Whether a block has 272 bits, which a `u8` does not hold.
+/// Returns true if a block has 272 bits, which a `u8` does not hold.
 fn has_272_bits(block: &StreamInfo) -> bool {
     gives(block.bits::<u32>(), 272)
         & gives(block.bits_len::<u32, LE>(), 272)
         & matches!(block.bits::<u8>(), Err(Error::CounterOverflow))
 }
 
-/// How many bytes of a block went before each request that its fields make, and then all of them. A reader
-/// asks for the bytes that a field lacks, and a writer sends those that it fills; the 3 bits of the channels
-/// need none.
+/// The number of bytes of a block moved before each request that its fields make, and then all of
+/// them. A reader asks for the bytes that a field lacks, and a writer sends the bytes that it
+/// fills; the 3 bits of the channels need none.
 const READ: [usize; 9] = [0, 2, 4, 7, 10, 13, 14, 18, 34];
 
 const WRITTEN: [usize; 9] = [0, 2, 4, 7, 10, 12, 13, 18, 34];
 
-/// A stream that drips, and refuses behind the given number of requests.
-fn stream<S>(inner: S, served: usize) -> Refuse<Drip<S>> {
+/// A stream with short reads and writes, which refuses after `served` requests.
+fn stream<S>(inner: S, served: usize) -> Refuse<Short<S>> {
     Refuse {
-        inner: Drip { inner, drips: true },
+        inner: Short { inner, short: true },
         left: u32::try_from(served).ok(),
         once: false,
         kind: ErrorKind::ConnectionReset,
     }
 }
 
-/// Whether an answer is the refusal of such a stream.
+/// Returns true if a result is the refusal of this stream.
 fn refused<T: Drop>(answer: Result<T, Error>) -> bool {
     matches!(answer, Err(Error::Stream(ErrorKind::ConnectionReset)))
 }
 
-/// Whether a block is parsed if each request is served, and else the refusal is told, and the reader fails.
+/// Returns true if a block is parsed when each request is served, or else the result is the
+/// refusal, and the reader fails.
 fn parses<R: BitRead>(reader: &mut R, block: &StreamInfo, served: bool) -> bool {
     let answer: Result<StreamInfo, Error> = reader.parse();
     if served {
@@ -95,7 +97,8 @@ fn parses<R: BitRead>(reader: &mut R, block: &StreamInfo, served: bool) -> bool 
     }
 }
 
-/// Whether a block is built if each request is served, and else the refusal is told, and the writer fails.
+/// Returns true if a block is built when each request is served, or else the result is the refusal,
+/// and the writer fails.
 fn builds<W: BitWrite>(writer: &mut W, block: &StreamInfo, served: bool) -> bool {
     let answer = writer.build(block);
     if served {
@@ -105,8 +108,8 @@ fn builds<W: BitWrite>(writer: &mut W, block: &StreamInfo, served: bool) -> bool
     }
 }
 
-/// Asserts that a block is parsed over a stream that drips, and takes the bytes before a request that is
-/// refused.
+/// Asserts that a block is parsed over a stream with short reads, and takes the bytes before a
+/// request that is refused.
 fn parses_up_to_each(rt: &impl Abort, block: &StreamInfo, read: &[usize]) {
     for (served, read) in read.iter().enumerate() {
         let mut reader = BitReader::<_, BE>::new(stream(WHOLE_BLOCK.as_slice(), served));
@@ -117,8 +120,8 @@ fn parses_up_to_each(rt: &impl Abort, block: &StreamInfo, read: &[usize]) {
     }
 }
 
-/// Asserts that a block is built over a stream that drips, and hands on the bytes before a request that is
-/// refused.
+/// Asserts that a block is built over a stream with short writes, and hands on the bytes before a
+/// request that is refused.
 fn builds_up_to_each(rt: &impl Abort, alloc: Global, block: &StreamInfo, written: &[usize]) {
     for (served, written) in written.iter().enumerate() {
         let mut writer = BitWriter::<_, BE>::new(stream(Vec::new(alloc), served));
@@ -138,12 +141,12 @@ fn parses_and_builds_a_stream_info(rt: HostRuntime) {
     let block: StreamInfo = reader.parse().expect(&rt, "a block");
     same(&rt, fields(&block), FIELDS);
     are(&rt, &block.checksum, &WHOLE_BLOCK[18..]);
-    holds(&rt, goes_back(&block) & has_272_bits(&block));
+    holds(&rt, round_trip(&block) & has_272_bits(&block));
     parses_up_to_each(&rt, &block, &READ);
     builds_up_to_each(&rt, rt.alloc(), &block, &WRITTEN);
 }
 
-/// Whether a turn of a wheel is this byte.
+/// Returns true if a turn of a wheel is this byte.
 fn turns(turn: &[u8]) -> bool {
     match parse_turn(turn) {
         Ok(turned) => (turned.lost == 2) & (turned.angle == -3),
@@ -151,7 +154,7 @@ fn turns(turn: &[u8]) -> bool {
     }
 }
 
-/// Whether the data of a chunk are these bytes.
+/// Returns true if the data of a chunk are these bytes.
 fn has_data(alloc: Global, bytes: &[u8], wanted: &[u8]) -> bool {
     matches!(chunk(alloc, bytes), Ok(data) if data.as_slice() == wanted)
 }
@@ -177,7 +180,7 @@ const OPTIONS: [u8; 20] = [
     2, 4, 5, 0xb4, 4, 2, 8, 10, 0, 1, 2, 3, 0, 0, 0, 0, 1, 3, 3, 7,
 ];
 
-/// Whether options leave these bytes, and say this.
+/// Returns true if options leave these bytes, and have these values.
 fn options_say(
     bytes: &[u8],
     left: &[u8],
@@ -197,7 +200,7 @@ fn options_say(
         & (options.selective == selective)
 }
 
-/// Whether options end before the last of them does.
+/// Returns true if options end before the last of them does.
 fn options_end(bytes: &[u8]) -> bool {
     let mut options = TcpOptions {
         maximum_segment: None,
@@ -223,7 +226,7 @@ fn parses_tcp_options(rt: HostRuntime) {
     each_holds(&rt, &parsed);
 }
 
-/// Whether a vector was made that has these bytes.
+/// Returns true if the vector was made and has these bytes.
 fn has_bytes(made: Result<Vec<u8>, Error>, wanted: &[u8]) -> bool {
     matches!(made, Ok(bytes) if bytes.as_slice() == wanted)
 }
@@ -245,12 +248,12 @@ const SAMPLE: Sample = Sample {
     pressure: 101325,
 };
 
-/// Whether these samples of 12 bits are read.
+/// Returns true if these samples of 12 bits are read.
 fn reads_samples(alloc: Global, packed: &[u8], wanted: &[u16]) -> bool {
     matches!(parse_samples(alloc, packed, 2), Ok(samples) if samples.as_slice() == wanted)
 }
 
-/// A body that always wants memory meets the contracts of these callers.
+/// A body that always reports refused memory meets the contracts of these callers.
 #[test]
 fn serves_while_memory_is_left(rt: HostRuntime) {
     let packed = [0xab, 0xcd, 0xef];
@@ -271,7 +274,7 @@ fn serves_while_memory_is_left(rt: HostRuntime) {
     each_holds(&rt, &answers);
 }
 
-/// Whether a sample is refused for want of room.
+/// Returns true if a sample is refused for want of room.
 fn lacks_room(buffer: &mut [u8]) -> bool {
     matches!(
         SAMPLE.pack_into(buffer),
@@ -284,7 +287,7 @@ fn tells_that_a_buffer_is_too_short(rt: HostRuntime) {
     holds(&rt, lacks_room(&mut [0; 5]));
 }
 
-/// Whether a block's header tells its length of 32 bits, also by a counter.
+/// Returns true if a block's header has 32 bits, even by a counter.
 fn has_32_bits(header: &BlockHeader) -> bool {
     let mut counter = BitsWritten::<u8>::new();
     gives(header.bits::<u8>(), 32)
@@ -293,12 +296,12 @@ fn has_32_bits(header: &BlockHeader) -> bool {
         & (counter.written() == 32)
 }
 
-/// Whether a block's header is built.
+/// Returns true if a block's header is built.
 fn builds_header<W: BitWrite>(writer: &mut W, header: &BlockHeader) -> bool {
     writer.build(header).is_ok()
 }
 
-/// Whether a block's header is parsed.
+/// Returns true if a block's header is parsed.
 fn parses_header<R: BitRead>(reader: &mut R, header: BlockHeader) -> bool {
     gives(reader.parse::<BlockHeader>(), header)
 }
@@ -321,7 +324,7 @@ fn builds_and_parses_a_block_header(rt: HostRuntime) {
     );
 }
 
-/// Whether a port is built with two bytes of padding, and tells its length.
+/// Returns true if a port is built with two bytes of padding, and counts its length.
 fn builds_port<W: ByteWrite>(writer: &mut W) -> bool {
     let port = PaddedPort { number: 1 };
     writer.build_with(&port, &2).is_ok()
@@ -329,7 +332,7 @@ fn builds_port<W: ByteWrite>(writer: &mut W) -> bool {
         & gives(ToByteStreamUsing::bytes::<u8>(&port, 2), 4)
 }
 
-/// Whether a port is parsed with one byte of padding, and there is no other behind it.
+/// Returns true if a port is parsed with one byte of padding, and there is no other after it.
 fn parses_port<R: ByteRead>(reader: &mut R) -> bool {
     let first: Result<PaddedPort, Error> = reader.parse_with(&1);
     let second: Result<PaddedPort, Error> = reader.parse_using(1);
@@ -345,7 +348,7 @@ fn builds_and_parses_a_padded_port(rt: HostRuntime) {
     holds(&rt, parses_port(&mut reader));
 }
 
-/// Whether a reading is written in as many bits as its context says.
+/// Returns true if a reading is written in the number of bits that its context says.
 fn writes_reading(reading: Reading, bits: u32, bytes: &[u8]) -> bool {
     let mut built = [0; 4];
     let mut writer = BitWriter::<_, BE>::new(SliceMut::new(&mut built));
@@ -355,14 +358,15 @@ fn writes_reading(reading: Reading, bits: u32, bytes: &[u8]) -> bool {
     written & (built.as_slice() == bytes)
 }
 
-/// Whether a reading comes back from its bytes.
+/// Returns true if a reading is read back from its bytes.
 fn reads_reading(reading: Reading, bits: u32, bytes: &[u8]) -> bool {
     let mut reader = BitReader::<_, BE>::new(Slice::new(bytes));
     gives(reader.parse_with::<Reading>(&bits), reading)
         & gives(reader.parse_using::<Reading>(bits), reading)
 }
 
-/// Whether no reading is told as that, and a width that a value does not have as the reader's error.
+/// Returns true if a missing reading is reported as missing, and a width that a value does not have
+/// as the reader's error.
 fn misses_a_reading() -> bool {
     let mut reader = BitReader::<_, BE>::new(Slice::new(&[0x40]));
     let missing: Result<Reading, ReadingError> = reader.parse_using(5);
@@ -384,12 +388,12 @@ fn reads_types_with_a_context(rt: HostRuntime) {
     each_holds(&rt, &same);
 }
 
-/// Whether a packet's header is built, and tells its length.
+/// Returns true if a packet's header is built, and counts its length.
 fn builds_packet<W: ByteWrite>(writer: &mut W, header: &PacketHeader) -> bool {
     writer.build(header).is_ok() & gives(header.bytes::<u8>(), 3)
 }
 
-/// Whether a packet's header is parsed, and one of another version behind it is refused.
+/// Returns true if a packet's header is parsed, and one of another version after it is refused.
 fn parses_packets<R: ByteRead>(reader: &mut R, header: PacketHeader) -> bool {
     let first: Result<PacketHeader, PacketError> = reader.parse();
     let other: Result<PacketHeader, PacketError> = reader.parse();

@@ -7,7 +7,8 @@ use test_streams::RefuseMemory;
 
 type Tree = HuffmanTree<u16, Global>;
 
-/// The tree of one symbol more than the given number, from 0 on, each a bit longer than the one before it.
+/// Returns the tree of `branches` + 1 symbols, from 0 on, whose words are each a bit longer than
+/// the one before.
 fn chain(alloc: Global, branches: u16) -> Result<Tree, AllocError> {
     let mut tree = HuffmanTree::leaf(alloc, branches)?;
     for below in 0..branches {
@@ -16,7 +17,7 @@ fn chain(alloc: Global, branches: u16) -> Result<Tree, AllocError> {
     Ok(tree)
 }
 
-/// Whether these symbols are read, one after another.
+/// Returns true if these symbols are read, one after another.
 fn reads<R: BitRead>(reader: &mut R, tree: &Tree, symbols: &[u16]) -> bool {
     let mut same = true;
     for symbol in symbols {
@@ -34,8 +35,8 @@ fn writes<W: BitWrite>(writer: &mut W, tree: &Tree, symbols: &[u16]) -> bool {
     written & writer.byte_align().is_ok()
 }
 
-/// Writes the symbols one behind the other and reads them back, and returns how many bytes they take, or
-/// none if they are not the same.
+/// Writes the symbols one after the other and reads them back. Returns the number of bytes that
+/// they take, or none if they are not the same.
 fn come_back(alloc: Global, tree: &Tree, symbols: &[u16]) -> Option<usize> {
     let mut writer = BitWriter::<_, BE>::new(Vec::new(alloc));
     let written = writes(&mut writer, tree, symbols);
@@ -69,7 +70,7 @@ fn r12_long_chain(rt: HostRuntime) {
     same(&rt, bytes, Some(5001));
 }
 
-/// The tree of 20 symbols whose nodes have memory for the given number of blocks.
+/// Returns the tree of 20 symbols whose nodes have memory for `served` blocks.
 fn grown(alloc: Global, served: u32) -> Result<HuffmanTree<u16, RefuseMemory<Global>>, AllocError> {
     let mut tree = HuffmanTree::leaf(RefuseMemory::new(alloc, served), 0)?;
     for symbol in 1..20 {

@@ -1,4 +1,4 @@
-//! Counts of bits and checked values: tables of their answers.
+//! Counts of bits and checked values: tables of their results.
 use crate::asserts::{each_holds, holds};
 use bitstream_io::{
     BitCount, CheckedError, CheckedSigned, SignedBitCount, SignedInteger, UnsignedInteger,
@@ -8,7 +8,7 @@ use std::alloc::Global;
 /// The sum of 5 bits and a number, and their difference, without a sign bit and with one.
 type Sums = (Option<u32>, Option<u32>, Option<u32>);
 
-/// The sum and the differences of 5 bits and the given number, of at most 16, 3 and 8 bits.
+/// Returns the sum and the differences of 5 bits and `number`, of at most 16, 3 and 8 bits.
 fn sums(number: u32) -> Sums {
     let five = BitCount::<8>::new::<5>();
     let signed = SignedBitCount::<8>::new::<5>();
@@ -42,7 +42,7 @@ fn are_sums(rows: &[(u32, Sums)]) -> bool {
 /// The least and the greatest `i8`, and the least and the greatest `u8`, if there is such a count.
 type Ranges = Option<(i8, i8, u8, u8)>;
 
-/// The numbers of an `i8` and of a `u8` in the given number of bits.
+/// Returns the ranges of an `i8` and of a `u8` in `bits` bits.
 fn ranges(bits: u32) -> Ranges {
     let signed = SignedBitCount::<128>::try_from(bits).ok()?.range::<i8>();
     let unsigned = BitCount::<128>::try_from(bits).ok()?.range::<u8>();
@@ -75,7 +75,7 @@ fn are_ranges(rows: &[(u32, Ranges)]) -> bool {
 /// The high part of a number, and the count and the value of the low one, if there is such a count.
 type Parts = Option<(u8, u32, u8)>;
 
-/// The parts of 222 at the given number of bits.
+/// Returns the parts of 222 at `bits` bits.
 fn split(bits: u32) -> Parts {
     let mask = BitCount::<16>::try_from(bits).ok()?.mask_lsb::<u8>();
     let (high, low) = mask.split(222);
@@ -99,13 +99,13 @@ fn are_parts(rows: &[(u32, Parts)]) -> bool {
     right
 }
 
-/// What a signed value of the given number of bits is refused for.
+/// Returns the error for a signed value of `bits` bits.
 fn refused(bits: u32, value: i8) -> Option<CheckedError> {
     let count = SignedBitCount::<16>::try_from(bits).ok()?;
     CheckedSigned::new(count, value).err()
 }
 
-/// Whether a signed value of the given number of bits is refused as too great or too small.
+/// Returns true if a signed value of `bits` bits is refused as too great or too small.
 fn is_excessive(bits: u32, value: i8) -> bool {
     refused(bits, value) == Some(CheckedError::ExcessiveValue)
 }
@@ -132,8 +132,8 @@ fn are_ends(rows: &[(u32, i8, i8)]) -> bool {
     right
 }
 
-/// What the widths of all bits of the type and of one more are refused for; and that in four bits 5
-/// behind a sign bit of 1 is -3.
+/// Checks the errors for the width of the type and for one bit more; and that in four bits 5 after
+/// a sign bit of 1 is -3.
 fn whole_widths_and_signs() -> bool {
     refused(8, -128).is_none()
         & (refused(9, 0) == Some(CheckedError::ExcessiveBits))
@@ -153,7 +153,7 @@ fn r02_numbers_counts(rt: HostRuntime) {
     each_holds(&rt, &right);
 }
 
-/// Whether counts are printed as their numbers.
+/// Returns true if counts are printed as their numbers.
 fn prints(alloc: Global) -> bool {
     let count = BitCount::<16>::new::<12>();
     let signed = SignedBitCount::<16>::new::<7>();

@@ -7,7 +7,7 @@ use std::io;
 use std::io::ErrorKind;
 use std::process::Abort;
 
-/// Errors, their texts, and the kinds of the `io::Error`s that stand for them.
+/// Errors, their texts, and the kinds of the `io::Error`s to which they convert.
 const ROWS: [(Error, &str, ErrorKind); 15] = [
     (
         Error::ReadBits,
@@ -74,14 +74,14 @@ const ROWS: [(Error, &str, ErrorKind); 15] = [
     (Error::Failed, "failed before", ErrorKind::Other),
 ];
 
-/// Whether an error has this text, and this kind, also as an `io::Error`.
+/// Returns true if an error has this text and this kind, and the same kind as an `io::Error`.
 fn says(alloc: Global, error: Error, text: &str, kind: ErrorKind) -> bool {
     let own = error.kind() == kind;
     let said = matches!(format!(in alloc; "{error}"), Ok(said) if said.as_str() == text);
     said & own & (io::Error::from(error).kind() == kind)
 }
 
-/// Asserts that each of these errors says so.
+/// Asserts that each of these errors has its text and kind.
 fn each_says(rt: &impl Abort, alloc: Global, rows: [(Error, &str, ErrorKind); 15]) {
     for (error, text, kind) in rows {
         holds_of(rt, says(alloc, error, text, kind), text);

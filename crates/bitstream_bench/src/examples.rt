@@ -1,5 +1,5 @@
 //! The examples of the doc comments and of the front page, made by `.ci/examples` and compared by the
-//! gate: to change one, change it where it stands.
+//! gate: to change one, change it in its doc comment or page.
 use crate::asserts::{are, holds, same};
 
 #[test]

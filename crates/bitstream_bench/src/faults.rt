@@ -1,4 +1,4 @@
-//! Readers and writers behind a request that was refused.
+//! Readers and writers after a request that was refused.
 use crate::asserts::{are, each_holds, ended, failed, gives, holds, same};
 use bitstream_io::{
     BE, BitRead, BitReadExt, BitReader, BitWrite, BitWriteExt, BitWriter, Bits, ByteRead,
@@ -8,13 +8,13 @@ use std::alloc::Global;
 use std::io::ErrorKind;
 use test_streams::{Count, Endless, Refuse};
 
-/// Whether a call answers that its stream refused with this kind.
+/// Returns true if a call returns that its stream refused with this kind.
 fn refused<T: Drop>(answer: Result<T, Error>, wanted: ErrorKind) -> bool {
     matches!(answer, Err(Error::Stream(kind)) if kind == wanted)
 }
 
-/// Whether a writer whose second byte is refused has failed, also for values of no bits, while an array
-/// of no items makes no call.
+/// Returns true if a writer whose second byte is refused has failed, even for values of 0 bits,
+/// while an array of no items makes no call.
 fn fails_to_write<W: BitWrite>(writer: &mut W) -> bool {
     writer.write::<Bits<8>, u8>(1).is_ok()
         & refused(writer.write::<Bits<8>, u8>(2), ErrorKind::BrokenPipe)
@@ -22,7 +22,7 @@ fn fails_to_write<W: BitWrite>(writer: &mut W) -> bool {
         & writer.write::<Bits<8>, [u8; 0]>([]).is_ok()
 }
 
-/// Whether a reader whose second byte is refused has failed, and stands at no byte boundary.
+/// Returns true if a reader whose second byte is refused has failed, and is at no byte boundary.
 fn fails_to_read<R: BitRead>(alloc: Global, reader: &mut R) -> bool {
     gives(reader.read::<Bits<4>, u8>(), 11)
         & refused(reader.read::<Bits<8>, u8>(), ErrorKind::ConnectionReset)
@@ -30,7 +30,7 @@ fn fails_to_read<R: BitRead>(alloc: Global, reader: &mut R) -> bool {
         & failed(reader.read_to_vec(alloc, 0))
 }
 
-/// A failed writer lends its stream no more, and gives it up.
+/// A failed writer no longer lends its stream, but still returns it.
 #[test]
 fn r13_faults(rt: HostRuntime) {
     let mut writer = BitWriter::<_, BE>::new(Refuse {
@@ -68,8 +68,8 @@ fn a_refused_flush_fails_the_writer(rt: HostRuntime) {
     are(&rt, &writer.into_writer().inner, &[]);
 }
 
-/// A length that no stream has ends with the bytes: a reader of bits has failed then, and one of bytes
-/// answers for each call.
+/// A length that no stream has ends with the bytes: a reader of bits has failed then, and a reader
+/// of bytes returns the same for each call.
 #[test]
 fn r14_hostile(rt: HostRuntime) {
     let bytes = [7; 10];
@@ -81,7 +81,7 @@ fn r14_hostile(rt: HostRuntime) {
     holds(&rt, whole.read_to_vec(rt.alloc(), 0).is_ok());
 }
 
-/// A call that is made of several reads keeps those that were done: a group of 8 bits, 4096 bytes.
+/// A call of several reads keeps the reads that were done: a group of 8 bits, 4096 bytes.
 #[test]
 fn keeps_the_reads_before_a_failure(rt: HostRuntime) {
     let mut groups = SliceReader::<BE>::over(&[0x80]);
@@ -105,8 +105,8 @@ fn endless(byte: u8) -> BitReader<Count<Endless>, BE> {
     })
 }
 
-/// Whether a read stopped behind the group that passes its type, at a byte boundary, after as many
-/// requests, each of which was for a byte.
+/// Returns true if a read stopped after the group that passes its type, at a byte boundary, with
+/// one request for each byte.
 fn stopped<U: Drop>(
     answer: Result<U, Error>,
     reader: BitReader<Count<Endless>, BE>,
@@ -129,7 +129,7 @@ fn r14_groups_that_never_end(rt: HostRuntime) {
     holds(&rt, stopped(answer, reader, 32));
 }
 
-/// A run of 2^32 zeros is too long, behind as many bytes, each by a request of its own.
+/// A run of 2^32 zeros is too long. Each of its bytes takes a request of its own.
 #[test]
 fn r14_a_run_that_never_ends(rt: HostRuntime) {
     let mut reader = endless(0);

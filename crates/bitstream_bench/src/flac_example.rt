@@ -13,7 +13,7 @@ use std::num::NonZero;
 const FLAC: &[u8] =
     b"fLaC\x00\x00\x00\x22\x10\x00\x10\x00\x00\x06\x06\x00\x21\x62\x0a\xc4\x42\xf0\x00\x04\xa6\xcc\xfa\xf2\x69\x2f\xfd\xec\x2d\x5b\x30\x01\x76\xb4\x62\x88\x7d\x92\x04\x00\x00\x7a\x20\x00\x00\x00reference libFLAC 1.1.4 20070213\x04\x00\x00\x00\x16\x00\x00\x00title=2ch 44100  16bit\x10\x00\x00\x00album=Test Album\x0f\x00\x00\x00artist=Assorted\x0d\x00\x00\x00tracknumber=1";
 
-/// Whether a comment is the example's.
+/// Returns true if a comment is the example's.
 fn is_the_comment(comment: &VorbisComment) -> bool {
     let wanted = [
         "title=2ch 44100  16bit",
@@ -29,7 +29,7 @@ fn is_the_comment(comment: &VorbisComment) -> bool {
     same
 }
 
-/// Goes over what stands before the comment, and tells whether it is the example's.
+/// Skips the blocks before the comment, and returns true if the comment is the example's.
 fn goes_to_the_comment<R: BitRead>(reader: &mut R) -> bool {
     // stream marker
     let marked = gives(reader.read_to::<[u8; 4]>(), *b"fLaC");
@@ -75,14 +75,14 @@ fn is_the_stream(info: &StreamInfo) -> bool {
         & (info.checksum == *b"\xfa\xf2\x69\x2f\xfd\xec\x2d\x5b\x30\x01\x76\xb4\x62\x88\x7d\x92")
 }
 
-/// Reads the comment behind the other blocks of a file.
+/// Reads the comment after the other blocks of a file.
 fn comment(alloc: Global, file: &[u8]) -> Result<VorbisComment, CommentError> {
     let mut reader = BitReader::<_, BE>::over(file);
     let _ = goes_to_the_comment(&mut reader);
     reader.parse_using::<VorbisComment>(alloc)
 }
 
-/// Whether the bytes ended before a comment did.
+/// Returns true if the bytes ended before a comment did.
 fn ended(answer: Result<VorbisComment, CommentError>) -> bool {
     matches!(answer, Err(CommentError::Reader(Error::EndOfInput)))
 }

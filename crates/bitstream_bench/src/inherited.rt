@@ -1,5 +1,5 @@
-//! A reader, a writer and a reader of bytes of a user's own, which give the required calls alone: each other
-//! call is the body that the trait gives it.
+//! A reader, a writer and a reader of bytes of a user's own with only the required calls: each
+//! other call has the body of the trait.
 ghost use Rattle.bitstream_io.specs.ByteReads.{inner_byte_source};
 ghost use Rattle.bitstream_io.specs.Reads.{inner_source};
 ghost use Rattle.bitstream_io.specs.Sink.{inner_sink};
@@ -116,7 +116,7 @@ impl<R: ByteRead> ByteRead for OwnBytes<R> {
     }
 }
 
-/// Words, whole bytes behind a bit, and codes, big-endian, each to the end of a byte.
+/// Words, whole bytes after a bit, and codes, big-endian, each to the end of a byte.
 const WRITTEN: [u8; 35] = [
     0xce, 0x75, 0xaf, 0x00, 0x8f, 0x69, 0x9d, 0x80, 0, 0, 0, 0, 0, 0, 0, 0, 0, 0, 0, 0, 0, 0, 0,
     0x06, 0x82, 0x40, 0xa0, 0xc0, 0x81, 0x81, 0xff, 0x3f, 0xf3, 0xe0, 0x40,
@@ -172,7 +172,7 @@ fn calls_that_a_writer_inherits_write(rt: HostRuntime) {
     are(&rt, &bytes, &WRITTEN);
 }
 
-/// Whether the words are read.
+/// Returns true if the words are read.
 fn reads_words<R: BitRead>(reader: &mut R) -> bool {
     let same = gives(reader.read_bit(), true)
         & gives(reader.read_unsigned::<Bits<4>, u8>(), 9)
@@ -187,12 +187,12 @@ fn reads_words<R: BitRead>(reader: &mut R) -> bool {
     same
 }
 
-/// Whether a vector of one byte is read that is this.
+/// Returns true if a vector of one byte is read, and it is `byte`.
 fn reads_vector<R: BitRead>(alloc: Global, reader: &mut R, byte: u8) -> bool {
     matches!(reader.read_to_vec(alloc, 1), Ok(read) if read.as_slice() == [byte].as_slice())
 }
 
-/// Whether the bytes are read, and the zeros skipped.
+/// Returns true if the bytes are read, and the zeros skipped.
 fn reads_bytes<R: BitRead>(alloc: Global, reader: &mut R) -> bool {
     let mut bytes = [0; 1];
     let same = reader.skip(1).is_ok()
@@ -206,7 +206,7 @@ fn reads_bytes<R: BitRead>(alloc: Global, reader: &mut R) -> bool {
     same & (bytes == [0x1e])
 }
 
-/// Whether the numbers of variable width and the unary ones are read.
+/// Returns true if the numbers of variable width and the unary ones are read.
 fn reads_codes<R: BitRead>(reader: &mut R) -> bool {
     let same = gives(reader.read_unsigned_vbr::<Bits<4>, u8>(), 8)
         & gives(reader.read_unsigned_vbr_any::<Bits<4>, u8>(), 8)
@@ -218,7 +218,7 @@ fn reads_codes<R: BitRead>(reader: &mut R) -> bool {
     same
 }
 
-/// Whether a reader is at the end of its bytes, and fails there.
+/// Returns true if a reader is at the end of its bytes, and fails there.
 fn ends<R: BitRead>(reader: &mut R) -> bool {
     ended(reader.read_bit()) & failed(reader.read_unsigned_var::<u8>(0))
 }
@@ -239,12 +239,12 @@ fn calls_that_a_reader_inherits_read(rt: HostRuntime) {
     );
 }
 
-/// Whether a vector of the two bytes behind 5 is read.
+/// Returns true if a vector of the two bytes after 5 is read.
 fn reads_two<R: ByteRead>(alloc: Global, reader: &mut R) -> bool {
     matches!(reader.read_to_vec(alloc, 2), Ok(read) if read.as_slice() == [0x69, 0x9d].as_slice())
 }
 
-/// Whether each call that a reader of bytes inherits reads the bytes, and meets the end.
+/// Returns true if each call that a reader of bytes inherits reads the bytes, and meets the end.
 fn reads_each_byte<R: ByteRead>(alloc: Global, reader: &mut R) -> bool {
     let mut two = [0; 2];
     let read = reader.read_bytes(&mut two).is_ok()

@@ -1,5 +1,5 @@
-//! Readers and writers that are lent to a function which takes one by value: what they move, that the lender
-//! goes on behind it, and that many bytes are one request.
+//! Readers and writers that are lent to a function which takes one by value: the bytes that they
+//! move, that the lender continues after them, and that many bytes are one request.
 use crate::asserts::{are, each_holds, gives};
 use bitstream_io::{
     BE, BitRead, BitReader, BitWrite, BitWriter, ByteRead, ByteReader, ByteWrite, ByteWriter,
@@ -20,7 +20,8 @@ fn counted<S>(inner: S) -> Count<S> {
     }
 }
 
-/// Takes a reader by value, and tells whether it reads this number in so many bits, and fills a buffer.
+/// Takes a reader by value, and returns true if it reads this number in `bits` bits, and fills a
+/// buffer.
 fn reads<R: BitRead + Drop>(mut reader: R, bits: u32, number: u8, buf: &mut [u8]) -> bool {
     gives(reader.read_unsigned_var(bits), number) & reader.read_bytes(buf).is_ok()
 }
@@ -29,10 +30,10 @@ fn reads<R: BitRead + Drop>(mut reader: R, bits: u32, number: u8, buf: &mut [u8]
 fn lent_readers_read(rt: HostRuntime) {
     let mut bytes = [0; 2];
     let mut reader = BitReader::<_, BE>::new(counted(D.as_slice()));
-    let front = reads(reader.by_ref(), 4, 11, &mut bytes);
+    let prefix = reads(reader.by_ref(), 4, 11, &mut bytes);
     let behind = gives(reader.read_unsigned_var(8), 0xbc_u8);
     let requests = reader.into_reader().requests;
-    each_holds(&rt, &[front, bytes == [0x1e, 0xd3], behind, requests == 3]);
+    each_holds(&rt, &[prefix, bytes == [0x1e, 0xd3], behind, requests == 3]);
     let mut many = [0; 4096];
     let mut reader = BitReader::<_, BE>::new(counted(MANY.as_slice()));
     let all = reads(reader.by_ref(), 0, 0, &mut many);
@@ -40,7 +41,8 @@ fn lent_readers_read(rt: HostRuntime) {
     are(&rt, &many, &MANY);
 }
 
-/// Takes a writer by value, and tells whether it writes this number in so many bits, and these bytes.
+/// Takes a writer by value, and returns true if it writes this number in `bits` bits, and these
+/// bytes.
 fn writes<W: BitWrite + Drop>(mut writer: W, bits: u32, number: u8, bytes: &[u8]) -> bool {
     writer.write_unsigned_var(bits, number).is_ok() & writer.write_bytes(bytes).is_ok()
 }
@@ -48,10 +50,10 @@ fn writes<W: BitWrite + Drop>(mut writer: W, bits: u32, number: u8, bytes: &[u8]
 #[test]
 fn lent_writers_write(rt: HostRuntime) {
     let mut writer = BitWriter::<_, BE>::new(counted(Vec::new(rt.alloc())));
-    let front = writes(writer.by_ref(), 4, 11, &[0x1e, 0xd3]);
+    let prefix = writes(writer.by_ref(), 4, 11, &[0x1e, 0xd3]);
     let behind = writer.write_unsigned_var(12, 0xbc1_u16).is_ok();
     let stream = writer.into_writer();
-    each_holds(&rt, &[front, behind, stream.requests == 2]);
+    each_holds(&rt, &[prefix, behind, stream.requests == 2]);
     are(&rt, &stream.inner, &D);
     let mut writer = BitWriter::<_, BE>::new(counted(Vec::new(rt.alloc())));
     let all = writes(writer.by_ref(), 0, 0, &MANY);
@@ -60,12 +62,12 @@ fn lent_writers_write(rt: HostRuntime) {
     are(&rt, &stream.inner, &MANY);
 }
 
-/// Takes a reader of bytes by value, and tells whether it reads this byte, and fills a buffer.
+/// Takes a reader of bytes by value, and returns true if it reads this byte, and fills a buffer.
 fn reads_whole<R: ByteRead + Drop>(mut reader: R, byte: u8, buf: &mut [u8]) -> bool {
     gives(reader.read(), byte) & reader.read_bytes(buf).is_ok()
 }
 
-/// Takes a writer of bytes by value, and tells whether it writes this byte, and these.
+/// Takes a writer of bytes by value, and returns true if it writes this byte, and these.
 fn writes_whole<W: ByteWrite + Drop>(mut writer: W, byte: u8, bytes: &[u8]) -> bool {
     writer.write(byte).is_ok() & writer.write_bytes(bytes).is_ok()
 }
@@ -74,10 +76,10 @@ fn writes_whole<W: ByteWrite + Drop>(mut writer: W, byte: u8, bytes: &[u8]) -> b
 fn lent_readers_of_bytes_read(rt: HostRuntime) {
     let mut two = [0; 2];
     let mut reader = ByteReader::<_, BE>::new(counted(D.as_slice()));
-    let front = reads_whole(&mut reader, 0xb1, &mut two);
+    let prefix = reads_whole(&mut reader, 0xb1, &mut two);
     let behind = gives(reader.read(), 0xc1_u8);
     let requests = reader.into_reader().requests;
-    each_holds(&rt, &[front, two == [0xed, 0x3b], behind, requests == 3]);
+    each_holds(&rt, &[prefix, two == [0xed, 0x3b], behind, requests == 3]);
     let mut many = [0; 4095];
     let mut reader = ByteReader::<_, BE>::new(counted(MANY.as_slice()));
     let all = reads_whole(&mut reader, 0xa5, &mut many);
@@ -88,10 +90,10 @@ fn lent_readers_of_bytes_read(rt: HostRuntime) {
 #[test]
 fn lent_writers_of_bytes_write(rt: HostRuntime) {
     let mut writer = ByteWriter::<_, BE>::new(counted(Vec::new(rt.alloc())));
-    let front = writes_whole(&mut writer, 0xb1, &[0xed, 0x3b]);
+    let prefix = writes_whole(&mut writer, 0xb1, &[0xed, 0x3b]);
     let behind = writer.write(0xc1_u8).is_ok();
     let stream = writer.into_writer();
-    each_holds(&rt, &[front, behind, stream.requests == 3]);
+    each_holds(&rt, &[prefix, behind, stream.requests == 3]);
     are(&rt, &stream.inner, &D);
     let mut writer = ByteWriter::<_, BE>::new(counted(Vec::new(rt.alloc())));
     let all = writes_whole(&mut writer, 0xa5, &MANY[1..]);

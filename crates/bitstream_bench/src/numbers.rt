@@ -1,9 +1,9 @@
-//! What no clause of the library says of the ten integer types: std's `default`, and std's operators on the
-//! bits of signed numbers.
+//! The facts that no clause of the library states on the ten integer types: std's `default`, and
+//! std's operators on the bits of signed numbers.
 use crate::asserts::each_holds;
 use bitstream_io::Numeric;
 
-/// Whether these operators give of 5 and 3 what they should, and the default is 0.
+/// Returns true if these operators return the right values for 5 and 3, and the default is 0.
 fn operates<N: Numeric>(five: N, three: N) -> bool {
     (five & three == N::ONE)
         & (five | three == N::from_u8(7))

@@ -2,7 +2,8 @@
 use crate::asserts::{gives, holds};
 use bitstream_io::{BE, BitRead2, BitReader, Bits, Slice};
 
-/// Whether two numbers, a signed one, and the ones before a 0 are read from the bits 1010 1011 1110.
+/// Returns true if two numbers, a signed one, and the ones before a 0 are read from the bits 1010
+/// 1011 1110.
 fn reads_values<R: BitRead2>(reader: &mut R) -> bool {
     gives(reader.read_in::<Bits<4>, u8>(), 10)
         & gives(reader.read::<u8>(2), 2)

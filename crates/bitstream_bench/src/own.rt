@@ -11,7 +11,7 @@ fn writes_signs<W: BitWrite>(writer: &mut W) -> bool {
         & writer.byte_align().is_ok()
 }
 
-/// Whether three signs are read.
+/// Returns true if three signs are read.
 fn reads_signs<R: BitRead>(reader: &mut R) -> bool {
     gives(read_sign(reader), Some(true))
         & gives(read_sign(reader), None)

@@ -1,5 +1,6 @@
-//! Types that own memory: the comment of a FLAC file and its picture, and a parameter set with a list of parts. That
-//! they are not always refused memory no clause tells; `.ci/memory` refuses each growth of a comment.
+//! Types that own memory: the comment of a FLAC file and its picture, and a parameter set with a
+//! list of parts. No clause states that they are not always refused memory; `.ci/memory` refuses
+//! each growth of a comment.
 use crate::asserts::{each_holds, holds, same};
 use bitstream_callers::block_header::BlockHeader;
 use bitstream_callers::client_hello::{ClientHello, ClientHelloError};
@@ -18,10 +19,10 @@ use std::alloc::Global;
 const FILE: &[u8] =
     b"fLaC\x00\x00\x00\x22\x10\x00\x10\x00\x00\x01\x94\x00\x01\x94\x01\xf4\x00\xf0\x00\x00\x01\x90\x81\x0e\xad\xc1\x2a\xad\xa9\x8b\x31\xa5\x69\xfb\x12\x47\xe9\xe0\x84\x00\x00\x5c\x20\x00\x00\x00reference libFLAC 1.4.2 20221022\x03\x00\x00\x00\x0e\x00\x00\x00TITLE=Pr\xc3\xa9lude\x11\x00\x00\x00ARTIST=J. S. Bach\x09\x00\x00\x00DATE=1717";
 
-/// Where the comment's block begins.
+/// The place of the comment's block.
 const COMMENT: usize = 46;
 
-/// Whether texts are these.
+/// Returns true if the texts are `wanted`.
 fn texts_are(texts: &[Text], wanted: &[&str]) -> bool {
     let mut same = texts.len() == wanted.len();
     for (text, wanted) in texts.iter().zip(wanted) {
@@ -30,7 +31,7 @@ fn texts_are(texts: &[Text], wanted: &[&str]) -> bool {
     same
 }
 
-/// Whether a comment is that of the file.
+/// Returns true if a comment is the comment of the file.
 fn is_of_the_file(answer: Result<VorbisComment, CommentError>) -> bool {
     match answer {
         Ok(comment) => {
@@ -44,7 +45,7 @@ fn is_of_the_file(answer: Result<VorbisComment, CommentError>) -> bool {
     }
 }
 
-/// Goes over what stands before the comment in a file.
+/// Skips the blocks before the comment in a file.
 fn goes_to_the_comment<R: BitRead>(reader: &mut R) -> bool {
     reader.skip(32).is_ok()
         & reader.parse::<BlockHeader>().is_ok()
@@ -57,7 +58,7 @@ fn comment(alloc: Global, block: &[u8]) -> Result<VorbisComment, CommentError> {
     ByteReader::<_, BE>::over(block).parse_using(alloc)
 }
 
-/// Whether a block ends before its comment does.
+/// Returns true if a block ends before its comment does.
 fn ends(alloc: Global, block: &[u8]) -> bool {
     matches!(
         comment(alloc, block),
@@ -94,7 +95,7 @@ fn hostile_lengths_end(rt: HostRuntime) {
     holds(&rt, matches!(reader.read::<u8>(), Ok(b'x')));
 }
 
-/// Whether a set of two points is read from its bytes.
+/// Returns true if a set of two points is read from its bytes.
 fn is_read(answer: Result<ParameterSet, Error>) -> bool {
     match answer {
         Ok(set) => (set.profile == 5)
@@ -131,7 +132,7 @@ fn picture(alloc: Global, bytes: &[u8]) -> Result<Picture, Error> {
     BitReader::<_, BE>::over(bytes).parse_using(alloc)
 }
 
-/// Whether a picture is that of the block, and goes back to its bytes.
+/// Returns true if a picture is the picture of the block, and round-trips through its bytes.
 fn is_that_picture(picture: &Picture) -> bool {
     let mut built = [0; 50];
     let written = BitWriter::<_, BE>::over(&mut built).build(picture).is_ok();

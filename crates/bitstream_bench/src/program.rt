@@ -9,9 +9,10 @@ use bitfields_core::{Fault, Reason, parse_layout, run};
 use std::alloc::{AllocError, Global};
 use std::io::ErrorKind;
 use std::process::Abort;
-use test_streams::{Count, Drip, Refuse};
+use test_streams::{Count, Refuse, Short};
 
-/// Which request of each stream is refused, if any: the first is 0. Each later one is served again.
+/// The request of each stream that is refused, if any, counted from 0. Each later one is served
+/// again.
 #[derive(Clone, Copy, Drop)]
 struct Refused {
     input: Option<u32>,
@@ -27,19 +28,19 @@ const NONE: Refused = Refused {
     kind: ErrorKind::Other,
 };
 
-/// What became of a call.
+/// The outcome of a call.
 #[derive(Drop)]
 struct Ended {
     status: u8,
     output: Vec<u8>,
     faults: Vec<u8>,
-    /// How many bytes of the input were left.
+    /// The number of bytes of the input left.
     left: usize,
-    /// How many requests were made of the input, of the output and of the stream for faults.
+    /// The number of requests made of the input, of the output and of the stream for faults.
     requests: (u64, u64, u64),
 }
 
-/// What stands on the stream for faults before a call.
+/// The text on the stream for faults before a call.
 const BEFORE: &str = "before\n";
 
 /// The words of a text, or fewer if memory is refused.
@@ -75,14 +76,14 @@ fn stream<S>(inner: S, left: Option<u32>, kind: ErrorKind) -> Count<Refuse<S>> {
     }
 }
 
-/// Runs a call over an input that gives its bytes at once, or drips.
-fn play(alloc: Global, words: &str, bytes: &[u8], drips: bool, refused: Refused) -> Ended {
+/// Runs a call over an input that returns its bytes at once, or in short reads.
+fn play(alloc: Global, words: &str, bytes: &[u8], short: bool, refused: Refused) -> Ended {
     let words = split(alloc, words);
-    let drip = Drip {
+    let short_stream = Short {
         inner: bytes,
-        drips,
+        short,
     };
-    let mut input = stream(drip, refused.input, refused.kind);
+    let mut input = stream(short_stream, refused.input, refused.kind);
     let mut output = stream(Vec::new(alloc), refused.output, refused.kind);
     let mut faults = stream(bytes_of(alloc, BEFORE), refused.faults, refused.kind);
     let status = run(alloc, &words, &mut input, &mut output, &mut faults);
@@ -95,7 +96,8 @@ fn play(alloc: Global, words: &str, bytes: &[u8], drips: bool, refused: Refused)
     }
 }
 
-/// What stands on the stream for faults behind the line of this fault, or behind none if it is empty.
+/// Returns the text on the stream for faults after the line of this fault, or with no line if it is
+/// empty.
 fn faults_of(alloc: Global, fault: &str) -> Result<String, AllocError> {
     if fault.is_empty() {
         String::from_str(alloc, BEFORE)
@@ -104,8 +106,8 @@ fn faults_of(alloc: Global, fault: &str) -> Result<String, AllocError> {
     }
 }
 
-/// Whether a call ended with this status, wrote these bytes, and printed the line of this fault, or
-/// nothing if there is none.
+/// Returns true if a call ended with this status, wrote these bytes, and printed the line of this
+/// fault, or nothing if there is none.
 fn ends(alloc: Global, ended: &Ended, status: u8, output: &[u8], fault: &str) -> bool {
     let told = match faults_of(alloc, fault) {
         Ok(faults) => ended.faults.as_slice() == faults.as_bytes(),
@@ -114,14 +116,14 @@ fn ends(alloc: Global, ended: &Ended, status: u8, output: &[u8], fault: &str) ->
     told & (ended.status == status) & (ended.output.as_slice() == output)
 }
 
-/// Whether a row ends as it should, over an input that gives its bytes at once, over one that drips, and
-/// if one request is refused.
+/// Returns true if a row ends as it should, over an input that returns its bytes at once, over one
+/// with short reads, and if one request is refused.
 fn is_right(alloc: Global, row: &Row) -> bool {
     let at_once = play(alloc, row.0, row.1, false, NONE);
-    let dripping = play(alloc, row.0, row.1, true, NONE);
+    let short_reads = play(alloc, row.0, row.1, true, NONE);
     let (inputs, outputs, _) = at_once.requests;
     ends(alloc, &at_once, row.4, row.2, row.3)
-        & ends(alloc, &dripping, row.4, row.2, row.3)
+        & ends(alloc, &short_reads, row.4, row.2, row.3)
         & ends_at_each(alloc, row, inputs.max(outputs))
 }
 
@@ -172,7 +174,7 @@ fn moves_records_of_other_formats(rt: HostRuntime) {
     are_right(&rt, rt.alloc(), &PIPELINES);
 }
 
-/// A text and another behind it as often as this, or less often if memory is refused.
+/// Returns a text and `times` copies of another after it, or fewer if memory is refused.
 fn repeated(alloc: Global, first: &str, next: &str, times: usize) -> String {
     let mut text = String::new(alloc);
     let _ = text.push_str(first);
@@ -182,12 +184,12 @@ fn repeated(alloc: Global, first: &str, next: &str, times: usize) -> String {
     text
 }
 
-/// Whether a layout has 256 fields.
+/// Returns true if a layout has 256 fields.
 fn has_256_fields(alloc: Global, text: &str) -> bool {
     matches!(parse_layout(alloc, text), Ok(layout) if layout.fields().len() == 256)
 }
 
-/// Whether a layout has too many fields.
+/// Returns true if a layout has too many fields.
 fn has_too_many_fields(alloc: Global, text: &str) -> bool {
     let wanted = Fault::new(0, Reason::TooManyFields);
     matches!(parse_layout(alloc, text), Err(fault) if fault == wanted)
@@ -197,13 +199,14 @@ fn has_too_many_fields(alloc: Global, text: &str) -> bool {
 fn layouts_have_256_fields_at_most(rt: HostRuntime) {
     let most = repeated(rt.alloc(), "u1", ",u1", 255);
     holds(&rt, has_256_fields(rt.alloc(), most.as_str()));
-    // Their number comes before what they spell.
+    // Their number is checked before their spelling.
     let past = repeated(rt.alloc(), "x", ",u1", 256);
     holds(&rt, has_too_many_fields(rt.alloc(), past.as_str()));
 }
 
-/// A large call: a field, alone and behind another, how many of it a layout has, how many bytes each of them
-/// is, and how many bits that makes, as `size` prints it. Each byte is 122, a `z`.
+/// A large call: a field, alone and after another, the number of times that a layout has it, the
+/// number of bytes of each, and the number of bits in all, as `size` prints it. Each byte is 122, a
+/// `z`.
 #[derive(Drop)]
 struct Large(&'static str, &'static str, usize, usize, &'static str);
 
@@ -214,7 +217,7 @@ const LARGE: [Large; 3] = [
     Large("b200", ",b200", 250, 200, "400000\n"),
 ];
 
-/// Whether a command with this layout writes this for this input.
+/// Returns true if a command with this layout writes this for this input.
 fn writes(alloc: Global, command: &str, layout: &str, input: &str, output: &str) -> bool {
     match format!(in alloc; "{command} be {layout}") {
         Ok(words) => {
@@ -225,7 +228,7 @@ fn writes(alloc: Global, command: &str, layout: &str, input: &str, output: &str)
     }
 }
 
-/// Whether each command moves a large input.
+/// Checks that each command moves a large input.
 fn moves(alloc: Global, large: &Large) -> [bool; 4] {
     let Large(field, next, fields, decimals, size) = large;
     let layout = repeated(alloc, field, next, fields.saturating_sub(1));
@@ -249,22 +252,22 @@ fn move_each(rt: &impl Abort, alloc: Global, rows: &[Large]) {
     }
 }
 
-/// A body that wants memory only at a size meets the contracts.
+/// A body that reports refused memory from some size on meets the contracts.
 #[test]
 fn moves_large_inputs(rt: HostRuntime) {
     move_each(&rt, rt.alloc(), &LARGE);
 }
 
-/// Which stream refuses a request, and which of its requests, the first of which is 0.
+/// The stream that refuses a request, and the index of the request, from 0.
 #[derive(Clone, Copy, Drop)]
 enum Refusing {
     Input(u32),
     Output(u32),
 }
 
-/// A request of the input or of the output that is refused: which one, the field of the call's fault, how
-/// many of its bytes went before, and how many requests were made of the input, of the output and of the
-/// stream for faults.
+/// A refused request of the input or of the output: its stream and index, the field of the call's
+/// fault, the number of its bytes sent before, and the number of requests made of the input, of the
+/// output and of the stream for faults.
 #[derive(Drop)]
 struct Refusal(Refusing, usize, usize, (u64, u64, u64));
 
@@ -328,8 +331,8 @@ fn refused_at(refusing: Refusing, kind: ErrorKind) -> Refused {
     }
 }
 
-/// Whether the refused request was the last one made, with no output asked for behind one of the
-/// input's; `None` if the call never made it.
+/// Returns true if the refused request was the last one made, with no output asked for after one of
+/// the input's; `None` if the call never made it.
 fn is_last(ended: &Ended, refusing: Refusing) -> Option<bool> {
     let (input, output, _) = ended.requests;
     match refusing {
@@ -339,9 +342,10 @@ fn is_last(ended: &Ended, refusing: Refusing) -> Option<bool> {
     }
 }
 
-/// Whether a row ends as it should if a request is refused. If the call makes it, the last line of its
-/// faults is a stream fault, nothing more is asked, and only a beginning of the row's bytes is written,
-/// or none at all if it was the input's request. If not, the row ends as ever.
+/// Returns true if a row ends as it should if a request is refused. If the call makes it, the last
+/// line of its faults is a stream fault, nothing more is asked, and only a beginning of the row's
+/// bytes is written. If it was the input's request, none at all is written. If the call does not
+/// make it, the row ends as usual.
 fn ends_at(alloc: Global, row: &Row, refusing: Refusing) -> bool {
     let refused = refused_at(refusing, ErrorKind::ConnectionReset);
     let ended = play(alloc, row.0, row.1, false, refused);
@@ -356,7 +360,7 @@ fn ends_at(alloc: Global, row: &Row, refusing: Refusing) -> bool {
         & ended.faults.ends_with(b": stream fault\n")
 }
 
-/// Whether a row ends as it should if a request is refused with this kind.
+/// Returns true if a row ends as it should if a request is refused with this kind.
 fn ends_refused(
     alloc: Global,
     row: &Row,
@@ -366,16 +370,16 @@ fn ends_refused(
 ) -> bool {
     let Refusal(refusing, field, written, requests) = refusal;
     let ended = play(alloc, row.0, row.1, false, refused_at(*refusing, kind));
-    let front = row.2.get(..*written).unwrap_or(b"");
+    let prefix = row.2.get(..*written).unwrap_or(b"");
     match format!(in alloc; "{field}: {reason}") {
         Ok(fault) => {
-            ends(alloc, &ended, 5, front, fault.as_str()) & (ended.requests == *requests)
+            ends(alloc, &ended, 5, prefix, fault.as_str()) & (ended.requests == *requests)
         }
         Err(_) => false,
     }
 }
 
-/// Whether a row ends as it should if a request is refused with either kind.
+/// Returns true if a row ends as it should if a request is refused with either kind.
 fn ends_refused_by_each(alloc: Global, row: &Row, refusal: &Refusal) -> bool {
     let mut right = true;
     for (kind, reason) in KINDS {
@@ -403,8 +407,8 @@ fn asks_nothing_more_after_a_refusal(rt: HostRuntime) {
     are_refused(&rt, rt.alloc(), &REPACKED, &OF_REPACK);
 }
 
-/// Whether a row ends as it should if one of so many requests of its input or output is refused, and if
-/// the first one behind these is.
+/// Returns true if a row ends as it should if one of the first `requests` requests of its input or
+/// output is refused, and if the next one is.
 fn ends_at_each(alloc: Global, row: &Row, requests: u64) -> bool {
     let mut right = true;
     for at in 0..=u32::try_from(requests).unwrap_or(0) {
@@ -414,7 +418,7 @@ fn ends_at_each(alloc: Global, row: &Row, requests: u64) -> bool {
     right
 }
 
-/// Whether an unpacking whose input says at this request that it ends is told as that.
+/// Returns true if an unpacking whose input ends at this request reports the end as this fault.
 fn ends_at_an_end(alloc: Global, input: u32, fault: &str) -> bool {
     let refused = Refused {
         input: Some(input),
@@ -432,8 +436,8 @@ fn an_end_is_no_stream_fault(rt: HostRuntime) {
     holds(&rt, ends_at_an_end(rt.alloc(), 2, "5: bits ended"));
 }
 
-/// The call and the input of a row, how many bytes of the input are left, and how many requests are made
-/// of the input, of the output and of the stream for faults.
+/// The call and the input of a row, the number of bytes of the input left, and the number of
+/// requests made of the input, of the output and of the stream for faults.
 #[derive(Drop)]
 struct Demand(Row, usize, (u64, u64, u64));
 
@@ -449,13 +453,14 @@ const DEMANDS: [Demand; 9] = [
     Demand(Row("repack be u7", D, b"", "", 4), 3, (1, 0, 1)),
 ];
 
-/// Whether a call leaves as many bytes and makes as many requests.
+/// Returns true if a call leaves the number of bytes and makes the number of requests of the
+/// demand.
 fn asks_for(alloc: Global, demand: &Demand) -> bool {
     let ended = play(alloc, demand.0.0, demand.0.1, false, NONE);
     (ended.left == demand.1) & (ended.requests == demand.2)
 }
 
-/// Asserts that each of these calls asks for as many bytes and requests as it needs.
+/// Asserts that each of these calls asks only for the bytes and requests that it needs.
 fn ask_for(rt: &impl Abort, alloc: Global, demands: &[Demand]) {
     for demand in demands {
         holds_of(rt, asks_for(alloc, demand), demand.0.0);

@@ -1,6 +1,6 @@
-//! Worked rows of calls of the program: what stands on the input, and what becomes of it.
+//! Test vectors of calls of the program: the input, and the results.
 
-/// A call, what stands on its input, what it must write, the field and reason of its fault (none:
+/// A call, its input, the output that it must write, the field and reason of its fault (none:
 /// empty), and its status.
 #[derive(Drop)]
 pub(crate) struct Row(
@@ -26,7 +26,8 @@ pub(crate) const UNPACKED: Row = Row(
 /// Values of four kinds, and the lines that spell them.
 const FOUR_VALUES: &[u8] = b"5\n4\n8\n-3\n";
 
-/// By the table of fields: 3 bits, 5 up to a whole byte, 4 and the stop bit, two groups of 4, one group.
+/// The sizes of the fields: 3 bits, 5 up to a whole byte, 4 and the stop bit, two groups of 4, one
+/// group.
 pub(crate) const SIZED: Row = Row("size be u3,a,n1,v4,s4", b"5\n4\n8\n-3\n", b"25\n", "", 0);
 
 pub(crate) const ROWS: [Row; 15] = [
@@ -166,7 +167,7 @@ pub(crate) const HEADLINE: [Row; 33] = [
     Row("unpack be ", b"", b"", "1: bad layout", 2),
 ];
 
-/// Values of which the last is two bytes, and the lines that spell them.
+/// Values that end with two bytes, and the lines that spell them.
 const BYTES_LAST: &[u8] = b"5\n4\n8\n-3\n1 255\n";
 
 pub(crate) const BYTES: [Row; 28] = [
@@ -255,7 +256,7 @@ pub(crate) const BYTES: [Row; 28] = [
     Row("pack be b2", b"1 2\n3", b"", "0: value left over", 3),
 ];
 
-/// Constants: no line says their number, and other bits are a fault.
+/// Constants: no line spells their number, and other bits are a fault.
 pub(crate) const CONSTANTS: [Row; 23] = [
     Row("unpack be u2,c3=5", &[0xb1], b"", "2: constant differs", 4),
     Row("unpack be u2,c3=6", &[0xb1], b"2\n", "", 0),
@@ -519,7 +520,7 @@ pub(crate) const REPACKINGS: [Row; 34] = [
     Row("repack be u4", &[0x1f], b"", "0: padding not zero", 4),
     Row("repack le u4,a", &[0xf1], b"", "2: padding not zero", 4),
     Row("repack le u4", &[0x0f], &[0x0f], "", 0),
-    // A padding that is not zero comes before the byte left over, and behind bits that ended.
+    // A padding that is not zero comes before the byte left over, and after bits that ended.
     Row("repack be u7", &[0x01, 0x00], b"", "0: padding not zero", 4),
     Row("repack be p9", &[0x80], b"", "1: bits ended", 4),
     Row("repack be p130,u6", &[0x00; 17], &[0x00; 17], "", 0),
@@ -543,5 +544,5 @@ pub(crate) const REPACKINGS: [Row; 34] = [
     ),
 ];
 
-/// 128 bits that are 0, and then some of which one is not.
+/// 128 bits of 0, and then some bits that are not all 0.
 const PAST_WORD: &[u8] = &[0, 0, 0, 0, 0, 0, 0, 0, 0, 0, 0, 0, 0, 0, 0, 0, 0x01];

@@ -1,15 +1,16 @@
-//! Bytes in memory as a target: where a request is refused, and what was written until then.
+//! Bytes in memory as a target: the place where a request is refused, and the bytes written until
+//! then.
 use crate::asserts::{each_holds, failed, same};
 use bitstream_io::{BE, BitWrite, BitWriter, ByteWrite, ByteWriter, Endianness, Error, LE};
 use std::io::ErrorKind;
 use std::process::Abort;
 
-/// Whether a request was refused as there was no room for it.
+/// Returns true if a request was refused as there was no room for it.
 fn lacks_room(answer: Result<(), Error>) -> bool {
     matches!(answer, Err(Error::Stream(ErrorKind::WriteZero)))
 }
 
-/// An answer, or the one before it if that is an error.
+/// Returns a result, or the one before it if that is an error.
 fn first_error(before: Result<(), Error>, answer: Result<(), Error>) -> Result<(), Error> {
     match before {
         Ok(()) => answer,
@@ -26,8 +27,8 @@ fn write_packet<W: BitWrite>(writer: &mut W) -> Result<(), Error> {
     first_error(answer, writer.byte_align())
 }
 
-/// A packet that is written where there is room for a number of bytes: how many of it are written,
-/// and what then stands in memory that was filled with `ee`, in either order.
+/// A packet that is written into room for a number of bytes: the number of bytes written, and the
+/// memory after it, which was filled with `ee`, in either order.
 struct Row {
     room: usize,
     written: usize,
@@ -54,7 +55,7 @@ const ROWS: [Row; 7] = [
         big_endian: [0xb1, 0xed, 0xee, 0xee, 0xee, 0xee],
         little_endian: [0x1e, 0xdb, 0xee, 0xee, 0xee, 0xee],
     },
-    // The two bytes are one request, of which none is written.
+    // The two bytes are one request, and none of them is written.
     Row {
         room: 3,
         written: 2,
@@ -81,8 +82,8 @@ const ROWS: [Row; 7] = [
     },
 ];
 
-/// Checks one row: with enough room the packet is written, else it is refused for want of it and the
-/// writer fails; the buffer is `wanted`, of which `written` bytes are told as written.
+/// Checks one row: with enough room the packet is written, else it is refused for want of room and
+/// the writer fails; the buffer is `wanted`, and the first `written` bytes are reported as written.
 fn leaves<E: Endianness>(room: usize, written: usize, wanted: [u8; 6]) -> bool {
     let room = room.min(6);
     let mut memory = [0xee_u8; 6];

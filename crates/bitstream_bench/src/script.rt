@@ -7,7 +7,7 @@ use bitstream_io::{
 use std::alloc::Global;
 use std::io::ErrorKind;
 use std::process::Abort;
-use test_streams::{Drip, Refuse};
+use test_streams::{Refuse, Short};
 
 /// A list of calls with a number in more bits than its type has, or fewer calls if memory is refused.
 fn calls_with_one_too_wide(alloc: Global) -> Vec<WriteCall> {
@@ -20,7 +20,7 @@ fn calls_with_one_too_wide(alloc: Global) -> Vec<WriteCall> {
     calls
 }
 
-/// The answers to a list of writes, or none of them if memory is refused.
+/// Returns the results of a list of writes, or none of them if memory is refused.
 fn answers_of<W: BitWrite>(
     alloc: Global,
     writer: &mut W,
@@ -36,7 +36,7 @@ fn answers_of<W: BitWrite>(
     answers
 }
 
-/// Makes that list of calls, and tells whether the second of the five is refused, and it alone.
+/// Makes that list of calls, and returns true if only the second of the five is refused.
 fn refuses_one<W: BitWrite>(alloc: Global, writer: &mut W) -> bool {
     let calls = calls_with_one_too_wide(alloc);
     match answers_of(alloc, writer, &calls).as_slice() {
@@ -61,7 +61,7 @@ fn lists_of_writes_answer_each_call(rt: HostRuntime) {
     same(&rt, counter.written(), 8);
 }
 
-/// What a call of a list is to answer.
+/// The expected result of a call of a list.
 #[derive(Clone, Copy, Drop)]
 enum Want {
     Bit(bool),
@@ -77,7 +77,7 @@ enum Want {
     Failed,
 }
 
-/// Whether a call answered this value.
+/// Returns true if a call returned this value.
 fn is_value(answer: &Answer, want: Want) -> bool {
     match (answer, want) {
         (Answer::Bit(bit), Want::Bit(wanted)) => *bit == wanted,
@@ -90,7 +90,7 @@ fn is_value(answer: &Answer, want: Want) -> bool {
     }
 }
 
-/// Whether a call answered this error.
+/// Returns true if a call returned this error.
 fn is_error(error: &Error, want: Want) -> bool {
     match (error, want) {
         (Error::ReadBits, Want::Wide) => true,
@@ -102,7 +102,7 @@ fn is_error(error: &Error, want: Want) -> bool {
     }
 }
 
-/// Whether a call answered so.
+/// Returns true if a call returned the wanted result.
 fn is_wanted(answer: &Option<Result<Answer, Error>>, want: Want) -> bool {
     match answer {
         Some(Ok(value)) => is_value(value, want),
@@ -111,7 +111,7 @@ fn is_wanted(answer: &Option<Result<Answer, Error>>, want: Want) -> bool {
     }
 }
 
-/// The answers to a list of calls, or none of them if memory is refused.
+/// Returns the results of a list of calls, or none of them if memory is refused.
 fn answers_to<R: BitRead>(
     alloc: Global,
     reader: &mut R,
@@ -127,7 +127,7 @@ fn answers_to<R: BitRead>(
     answers
 }
 
-/// Whether a list of calls is answered so.
+/// Returns true if the calls of a list return the wanted results.
 fn are_answered<R: BitRead>(
     alloc: Global,
     reader: &mut R,
@@ -143,7 +143,7 @@ fn are_answered<R: BitRead>(
     answers.len() == wanted.len()
 }
 
-/// A list that reads behind the end of a byte, and its answers.
+/// A list that reads after the end of a byte, and its results.
 const PAST_THE_END: [ReadCall; 8] = [
     ReadCall::Bit,
     ReadCall::U8(9),
@@ -166,8 +166,8 @@ const PAST_THE_END_ANSWERS: [Want; 8] = [
     Want::Failed,
 ];
 
-/// A list that reads 1 in two groups by each call for numbers of variable width. The lenient calls alone
-/// answer it.
+/// A list that reads 1 in two groups by each call for numbers of variable width. Only the lenient
+/// calls return it.
 const GROUPS: [ReadCall; 6] = [
     ReadCall::Vbr4,
     ReadCall::AnyVbr4,
@@ -186,7 +186,7 @@ const GROUPS_ANSWERS: [Want; 6] = [
     Want::Redundant,
 ];
 
-/// A number, two bytes behind it, a number from the next byte and one bit more.
+/// A number, two bytes after it, a number from the next byte and one bit more.
 const PACKET: [ReadCall; 5] = [
     ReadCall::U8(4),
     ReadCall::Bytes(2),
@@ -195,7 +195,7 @@ const PACKET: [ReadCall; 5] = [
     ReadCall::Bit,
 ];
 
-/// What these answer up to one whose request is refused.
+/// The results of these calls up to one whose request is refused.
 const PACKET_REFUSED: [[Want; 5]; 4] = [
     [
         Want::Refused,
@@ -227,7 +227,7 @@ const PACKET_REFUSED: [[Want; 5]; 4] = [
     ],
 ];
 
-/// What they answer if only the end refuses.
+/// The results of these calls if only the end refuses.
 const PACKET_ANSWERS: [Want; 5] = [
     Want::Number(11),
     Want::Bytes([0x1e, 0xd3]),
@@ -250,15 +250,16 @@ fn lists_of_reads_answer_each_call(rt: HostRuntime) {
     let bytes = [0x90, 0x90, 0x90, 0x81, 0, 0x81, 0, 0x81, 0];
     let mut reader = BitReader::<_, BE>::new(Slice::new(&bytes));
     let groups = are_answered(rt.alloc(), &mut reader, &GROUPS, &GROUPS_ANSWERS);
-    let mut reader = BitReader::<_, BE>::new(Drip {
+    let mut reader = BitReader::<_, BE>::new(Short {
         inner: D.as_slice(),
-        drips: true,
+        short: true,
     });
-    let dripped = are_answered(rt.alloc(), &mut reader, &PACKET, &PACKET_ANSWERS);
-    each_holds(&rt, &[past, groups, dripped]);
+    let short_reads = are_answered(rt.alloc(), &mut reader, &PACKET, &PACKET_ANSWERS);
+    each_holds(&rt, &[past, groups, short_reads]);
 }
 
-/// Whether the packet is answered so over a stream that refuses behind the given number of requests.
+/// Returns true if the packet has the wanted results over a stream that refuses after `left`
+/// requests.
 fn is_answered(alloc: Global, left: usize, wanted: &[Want]) -> bool {
     let mut reader = BitReader::<_, BE>::new(Refuse {
         inner: D.as_slice(),
@@ -269,8 +270,8 @@ fn is_answered(alloc: Global, left: usize, wanted: &[Want]) -> bool {
     are_answered(alloc, &mut reader, &PACKET, wanted)
 }
 
-/// Asserts that the packet is answered so over a stream that refuses its first request, its second,
-/// and so on.
+/// Asserts that the packet has these results over a stream that refuses its first request, its
+/// second, and so on.
 fn each_is_answered(rt: &impl Abort, alloc: Global, refused: &[[Want; 5]]) {
     for (left, wanted) in refused.iter().enumerate() {
         holds(rt, is_answered(alloc, left, wanted));

@@ -1,20 +1,20 @@
-//! A prefix code of a user's own, which states what it reads and writes: signs of numbers.
+//! A prefix code of a user's own, whose contract states its words: signs of numbers.
 ghost use Rattle.bitstream_io.specs.Reads.{Reads};
 ghost use Rattle.bitstream_io.specs.Sink.{WritesAll};
 ghost use Rattle.bitstream_io.specs.Tree.{bit_by_bit};
-ghost use Rattle.bitstream_bench.specs.SignCode.{sign_entry, sign_word};
+ghost use Rattle.bitstream_bench.specs.SignCode.{sign_decoder, sign_word};
 
 use bitstream_io::huffman::{FromBits, NextBit, PutBit, ToBits};
 use bitstream_io::{BitRead, BitReadExt, BitWrite, BitWriteExt, Error};
 
-/// Whether a number is negative: `0` of the number 0, which has no sign, `10` and `11` of those
-/// above and below it.
+/// The code of a sign: `0` for the number 0, which has no sign, `10` and `11` for the numbers above
+/// and below it.
 struct SignCode;
 
 impl FromBits for SignCode {
     type Symbol = Option<bool>;
 
-    ghost entry = { λ _. sign_entry };
+    ghost decoder = { λ _. sign_decoder };
 
     fn from_bits<N: NextBit>(&self, next: &mut N) -> Result<Option<bool>, Error> {
         if next.next_bit()? {
@@ -46,9 +46,9 @@ impl ToBits for SignCode {
 ///
 /// # Errors
 ///
-/// Those of the reader.
+/// The errors of the reader.
 pub fn read_sign<R: BitRead>(reader: &mut R) -> Result<Option<bool>, Error>
-    ensures reads { Reads R.source sign_entry reader.old result reader.new }
+    ensures reads { Reads R.source sign_decoder reader.old result reader.new }
 {
     reader.read_huffman(&SignCode)
 }
@@ -57,7 +57,7 @@ pub fn read_sign<R: BitRead>(reader: &mut R) -> Result<Option<bool>, Error>
 ///
 /// # Errors
 ///
-/// Those of the sink. The bits before a refused one stay written.
+/// The errors of the sink. The bits before a refused one stay written.
 pub fn write_sign<W: BitWrite>(writer: &mut W, sign: Option<bool>) -> Result<(), Error>
     ensures writes { WritesAll W.sink (bit_by_bit (sign_word sign)) writer.old result writer.new }
 {

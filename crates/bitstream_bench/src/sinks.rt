@@ -9,13 +9,13 @@ use test_streams::RefuseMemory;
 /// A recorder in memory that can be refused.
 type Refused = BitRecorder<u32, BE, RefuseMemory<Global>>;
 
-/// Whether a recorder that has failed plays nothing.
+/// Returns true if a recorder that has failed plays nothing.
 fn plays_nothing(alloc: Global, recorder: &mut Refused) -> bool {
     let mut writer = BitWriter::<_, BE>::new(Vec::new(alloc));
     failed(recorder.playback(&mut writer)) & writer.into_writer().is_empty()
 }
 
-/// Whether a recorder plays this byte.
+/// Returns true if a recorder plays this byte.
 fn plays(alloc: Global, recorder: &mut Refused, byte: u8) -> bool {
     let mut writer = BitWriter::<_, BE>::new(Vec::new(alloc));
     recorder.playback(&mut writer).is_ok() & (writer.into_writer().as_slice() == [byte].as_slice())
@@ -33,12 +33,12 @@ fn refused_recorders_recover(rt: HostRuntime) {
     holds(&rt, plays(rt.alloc(), &mut recorder, 7));
 }
 
-/// Whether a sink takes many bytes.
+/// Returns true if a sink takes many bytes.
 fn takes<W: BitWrite>(writer: &mut W) -> bool {
     writer.write_bit(true).is_ok() & writer.write_bytes(&[0xa5; 5000]).is_ok()
 }
 
-/// Whether a recorder with a capacity takes many bytes in this memory.
+/// Returns true if a recorder with a capacity takes many bytes in this memory.
 fn roomy_takes<A: Allocator + Drop>(alloc: A) -> bool {
     match BitRecorder::<u32, BE, A>::with_capacity(alloc, 16) {
         Ok(mut roomy) => takes(&mut roomy),
@@ -46,7 +46,8 @@ fn roomy_takes<A: Allocator + Drop>(alloc: A) -> bool {
     }
 }
 
-/// Whether a recorder, one with a capacity, and a growing vector take many bytes in this memory.
+/// Checks that a recorder, one with a capacity, and a growing vector take many bytes in this
+/// memory.
 fn take<A: Allocator + Copy + Drop>(alloc: A) -> [bool; 3] {
     let mut recorder: BitRecorder<u32, BE, A> = BitRecorder::new(alloc);
     let mut growing = BitWriter::<_, BE>::new(Growing::new(Vec::new(alloc)));
@@ -62,8 +63,8 @@ fn ample_memory_is_never_refused(rt: HostRuntime) {
     each_holds(&rt, &take(rt.alloc()));
 }
 
-/// A recorder with a capacity asks for memory once: it takes as many bytes, and no more if its memory
-/// refuses to grow.
+/// A recorder with a capacity asks for memory once: it takes the bytes of its capacity, and only
+/// these if its memory refuses to grow.
 #[test]
 fn capacities_are_kept(rt: HostRuntime) {
     let recorder = Refused::with_capacity(RefuseMemory::new(rt.alloc(), 1), 4096);
@@ -91,8 +92,8 @@ fn failed_candidates_are_not_given(rt: HostRuntime) {
     holds(&rt, plays);
 }
 
-/// Whether a recorder of 31 bytes tells its length, and one of 32 tells that its counter's type does not
-/// hold it, and takes more.
+/// Checks that a recorder of 31 bytes reports its length, and one of 32 reports that its
+/// counter's type does not hold it, and takes more.
 fn passes<A: Allocator>(recorder: &mut BitRecorder<u8, BE, A>) -> [bool; 5] {
     [
         recorder.write_bytes(&[0x5a; 31]).is_ok(),

@@ -1,4 +1,5 @@
-//! What is known of functions that read bytes in memory: their contracts have no premise on a stream.
+//! The known results of functions that read bytes in memory: their contracts have no premise on a
+//! stream.
 ghost use Rattle.std.specs.Prelude.{◌≡◌, ◌+◌, ◌*◌, ◌<◌, ◌≤◌, length, map, take, Ok, Err, IsOkAnd};
 ghost use Rattle.std.specs.Int.NonZero.{non_zero_u8_get};
 ghost use Rattle.bitstream_io.specs.Array.{words};
@@ -23,7 +24,7 @@ pub fn first_word(bytes: &[u8]) -> Result<u16, Error>
     reader.read_unsigned_var(12)
 }
 
-/// Returns the number that is one more than that of the first 4 bits.
+/// Returns the number of the first 4 bits, plus 1.
 ///
 /// # Errors
 ///

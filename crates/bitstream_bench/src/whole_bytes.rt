@@ -1,5 +1,5 @@
-//! Whole bytes: how many requests primitives and long vectors make, and memory that is refused. Long
-//! skips and pads are worked rows of `bitstream_vectors`.
+//! Whole bytes: the number of requests of primitives and long vectors, and memory that is refused.
+//! Long skips and pads are test vectors of `bitstream_vectors`.
 use crate::asserts::{failed, gives, same};
 use bitstream_io::{
     BE, BitRead, BitReader, BitWrite, BitWriter, ByteRead, ByteReader, Endianness, Error, LE,
@@ -8,7 +8,7 @@ use std::alloc::Global;
 use std::process::Abort;
 use test_streams::{Count, Endless, RefuseMemory};
 
-/// The given number of bytes, of which neighbours differ, or fewer if memory is refused.
+/// Returns `len` bytes, of which neighbours differ, or fewer if memory is refused.
 fn pattern(alloc: Global, len: usize) -> Vec<u8> {
     let mut bytes = Vec::new(alloc);
     let mut next = 0x5au8;
@@ -19,14 +19,14 @@ fn pattern(alloc: Global, len: usize) -> Vec<u8> {
     bytes
 }
 
-/// Writes the given number of bits and then bytes.
+/// Writes `place` bits and then bytes.
 fn writes_behind<W: BitWrite>(writer: &mut W, place: u32, bytes: &[u8]) -> bool {
     writer.write_unsigned_var(place, 1u8).is_ok()
         & writer.write_bytes(bytes).is_ok()
         & writer.byte_align().is_ok()
 }
 
-/// What bytes are read as.
+/// The forms in which bytes are read.
 #[derive(Clone, Copy, Drop)]
 enum Form {
     /// A primitive of 20 bytes, and then a buffer of none.
@@ -35,19 +35,19 @@ enum Form {
     Vector,
 }
 
-/// Whether these bytes are read as a primitive of 20 bytes, and then a buffer of none.
+/// Returns true if these bytes are read as a primitive of 20 bytes, and then a buffer of none.
 fn reads_primitive<R: BitRead>(reader: &mut R, bytes: &[u8]) -> bool {
     let same = matches!(reader.read_to::<[u8; 20]>(), Ok(read) if read.as_slice() == bytes);
     same & reader.read_bytes(&mut []).is_ok()
 }
 
-/// Whether these bytes are read as a vector.
+/// Returns true if these bytes are read as a vector.
 fn reads_vector<R: BitRead>(alloc: Global, reader: &mut R, bytes: &[u8]) -> bool {
     matches!(reader.read_to_vec(alloc, bytes.len()), Ok(read) if read.as_slice() == bytes)
 }
 
-/// Whether the given number of bits and these bytes behind them are read as they were written, by the
-/// given number of requests.
+/// Returns true if `place` bits and the bytes after them are read as they were written, by
+/// `requests` requests.
 fn goes_in<E: Endianness + Drop>(
     alloc: Global,
     form: Form,
@@ -63,15 +63,16 @@ fn goes_in<E: Endianness + Drop>(
         requests: 0,
         refused: 0,
     });
-    let front = reader.read_unsigned_var::<u8>(place).is_ok();
+    let prefix = reader.read_unsigned_var::<u8>(place).is_ok();
     let same = match form {
         Form::Primitive => reads_primitive(&mut reader, bytes),
         Form::Vector => reads_vector(alloc, &mut reader, bytes),
     };
-    written & front & same & (reader.into_reader().requests == requests)
+    written & prefix & same & (reader.into_reader().requests == requests)
 }
 
-/// What bytes are read as, behind how many bits, how many there are, and how many requests that takes.
+/// The form in which bytes are read, the number of bits before them, their number, and the number
+/// of requests.
 const PIECES: [(Form, u32, usize, u64); 4] = [
     (Form::Primitive, 0, 20, 1),
     (Form::Primitive, 1, 20, 1 + 3),
@@ -79,7 +80,7 @@ const PIECES: [(Form, u32, usize, u64); 4] = [
     (Form::Vector, 3, 9000, 1 + 4 + 4 + 1),
 ];
 
-/// Asserts that each goes in so, in either order.
+/// Asserts that each of these is read back, in either order.
 fn each_goes_in(rt: &impl Abort, alloc: Global, rows: &[(Form, u32, usize, u64)]) {
     for (form, place, len, requests) in rows {
         let bytes = pattern(alloc, *len);
@@ -94,8 +95,8 @@ fn long_bytes_go_in_pieces(rt: HostRuntime) {
     each_goes_in(&rt, rt.alloc(), &PIECES);
 }
 
-/// Whether a vector of 9000 bytes comes where memory serves its three growths, and else fails a reader
-/// of bits.
+/// Returns true if a vector of 9000 bytes is read when memory serves its three growths, and else a
+/// reader of bits fails.
 fn bits_grow<R: BitRead>(alloc: Global, served: u32, reader: &mut R) -> bool {
     let answer = reader.read_to_vec(RefuseMemory::new(alloc, served), 9000);
     let failed = failed(reader.read_bit());
@@ -105,7 +106,7 @@ fn bits_grow<R: BitRead>(alloc: Global, served: u32, reader: &mut R) -> bool {
     }
 }
 
-/// Whether one comes so of a reader of bytes, which goes on in either case.
+/// Returns true if a reader of bytes reads one in the same way, and continues in either case.
 fn bytes_grow<R: ByteRead>(alloc: Global, served: u32, reader: &mut R) -> bool {
     let answer = reader.read_to_vec(RefuseMemory::new(alloc, served), 9000);
     let goes_on = gives(reader.read(), 0xa5_u8);

@@ -1,4 +1,5 @@
-//! Words of each width and type behind each length of a queue, against the same words a bit at a time.
+//! Words of each width and type after each length of a queue, against the same words a bit at a
+//! time.
 use crate::asserts::{gives, same};
 use bitstream_io::{
     BE, BitRead, BitReadExt, BitReader, BitWrite, BitWriteExt, BitWriter, Endianness, Integer, LE,
@@ -9,18 +10,18 @@ use std::alloc::Global;
 /// The number whose lowest digits the words have, each of them turned once.
 const NUMBER: u128 = 0xd1b5_4a32_d192_ed03_9e37_79b9_7f4a_7c15;
 
-/// The number whose lowest digits stand in front of each word.
+/// The number whose lowest digits come before each word.
 const FRONT: u8 = 0x5b;
 
-/// How words stand in their bytes: each behind the digits in front of it, and zeros behind it up to
+/// The layout of words in their bytes: each after the digits before it, with zeros after it up to
 /// the next byte.
 #[derive(Clone, Copy, Drop)]
 struct Shape {
-    /// Whether the highest digit of a word comes first.
+    /// True if the highest digit of a word comes first.
     high_first: bool,
-    /// How many digits stand in front.
+    /// The number of digits before it.
     queued: u32,
-    /// How many bits the word has.
+    /// The number of bits of the word.
     width: u32,
 }
 
@@ -33,8 +34,8 @@ impl Shape {
                 .unwrap_or(0)
     }
 
-    /// Returns the digits in front of the word.
-    fn front(self) -> u128 {
+    /// Returns the digits before the word.
+    fn prefix(self) -> u128 {
         Shape::lowest(u128::from(FRONT), self.queued)
     }
 
@@ -68,7 +69,7 @@ impl Shape {
         least <= self.width && self.width <= N::BITS_SIZE
     }
 
-    /// Returns the bit at a place among the given number of bits of a number.
+    /// Returns the bit at a place of a number of `bits` bits.
     fn bit(self, number: u128, bits: u32, at: u32) -> bool {
         let digit = if self.high_first {
             bits.saturating_sub(at).saturating_sub(1)
@@ -99,7 +100,7 @@ fn write_words<N: Numeric + Integer, W: BitWrite>(writer: &mut W, shape: Shape) 
     let mut written = true;
     for digit in 0..shape.width.saturating_add(1) {
         written &= writer
-            .write_unsigned_var(shape.queued, shape.front())
+            .write_unsigned_var(shape.queued, shape.prefix())
             .is_ok()
             & writer
                 .write_var(shape.width, shape.value::<N>(digit))
@@ -122,14 +123,14 @@ fn write_bits<W: BitWrite>(writer: &mut W, shape: Shape, number: u128, bits: u32
 fn write_singly<W: BitWrite>(writer: &mut W, shape: Shape) -> bool {
     let mut written = true;
     for digit in 0..shape.width.saturating_add(1) {
-        written &= write_bits(writer, shape, shape.front(), shape.queued)
+        written &= write_bits(writer, shape, shape.prefix(), shape.queued)
             & write_bits(writer, shape, shape.turned(digit), shape.width)
             & writer.byte_align().is_ok();
     }
     written
 }
 
-/// Reads the given number of bits a bit at a time, and tells whether they are those of a number.
+/// Reads `bits` bits, one at a time, and returns true if they are the bits of a number.
 fn has_bits<R: BitRead>(reader: &mut R, shape: Shape, number: u128, bits: u32) -> bool {
     let mut same = true;
     for at in 0..bits {
@@ -138,31 +139,31 @@ fn has_bits<R: BitRead>(reader: &mut R, shape: Shape, number: u128, bits: u32) -
     same
 }
 
-/// Reads the words of a shape a bit at a time, and tells whether they are those that were written.
+/// Reads the words of a shape a bit at a time, and returns true if they are the words written.
 fn reads_singly<R: BitRead>(reader: &mut R, shape: Shape) -> bool {
     let mut same = true;
     for digit in 0..shape.width.saturating_add(1) {
-        same &= has_bits(reader, shape, shape.front(), shape.queued)
+        same &= has_bits(reader, shape, shape.prefix(), shape.queued)
             & has_bits(reader, shape, shape.turned(digit), shape.width);
         reader.byte_align();
     }
     same
 }
 
-/// Reads the words of a shape as values of a type, each by one call, and tells whether they are those
-/// that were written.
+/// Reads the words of a shape as values of a type, each by one call, and returns true if they are
+/// the words written.
 fn reads_words<N: Numeric + Integer, R: BitRead>(reader: &mut R, shape: Shape) -> bool {
     let mut same = true;
     for digit in 0..shape.width.saturating_add(1) {
-        same &= gives(reader.read_unsigned_var(shape.queued), shape.front())
+        same &= gives(reader.read_unsigned_var(shape.queued), shape.prefix())
             & gives(reader.read_var(shape.width), shape.value::<N>(digit));
         reader.byte_align();
     }
     same
 }
 
-/// Whether the words of a shape, as values of a type, are these bytes, if the type has values of the
-/// width. Else nothing is asked of them.
+/// Returns true if the words of a shape, as values of a type, are these bytes, or if the type has
+/// no values of the width.
 fn agrees<E: Endianness + Drop, N: Numeric + Integer>(
     alloc: Global,
     shape: Shape,
@@ -177,8 +178,8 @@ fn agrees<E: Endianness + Drop, N: Numeric + Integer>(
     written & reads_words::<N, _>(&mut reader, shape) & (writer.into_writer().as_slice() == singly)
 }
 
-/// Whether the words of a shape are, a bit at a time, the same bytes and the same numbers: the bits that
-/// are read, and the values of each type.
+/// Returns true if the words of a shape are, a bit at a time, the same bytes and the same numbers:
+/// the bits that are read, and the values of each type.
 fn each_agrees<E: Endianness + Drop>(alloc: Global, shape: Shape) -> bool {
     let mut writer = BitWriter::<_, E>::new(Vec::new(alloc));
     let written = write_singly(&mut writer, shape);

@@ -1,19 +1,19 @@
 -- Made by `./format` from formats/block_header.fields: edit that file and make this one anew.
--- What was written of a `BlockHeader` is read back, and how many bits it takes.
-use Rattle.bitstream_callers.specs.BlockHeader.{block_header_entry, block_header_writes, block_header_size, block_header_bits, Fits}
+-- A written `BlockHeader` is read back, and its number of bits.
+use Rattle.bitstream_callers.specs.BlockHeader.{block_header_decoder, block_header_writes, block_header_size, block_header_bits, Fits}
 use Rattle.bitstream_callers.specs.declared.block_header.BlockHeader.{BlockHeader}
 use Rattle.std.proofs.Common.{◌≡◌, ◌++◌, ◌∷◌, [], ℕ, refl}
-use Rattle.bitstream_io.proofs.CallerLemmas.{GoesBack, Packs, unsigned-accepted, bit-back, unsigned-back, gives-back, bit-written, unsigned-written, packs-none, packs-more}
-use Rattle.bitstream_io.specs.Callers.{Order, High, align, write_run, AllAccepted}
+use Rattle.bitstream_io.proofs.CallerLemmas.{RoundTrip, Packs, unsigned-accepted, bit-back, unsigned-back, pure-back, bit-written, unsigned-written, packs-none, packs-more}
+use Rattle.bitstream_io.specs.Callers.{Order, High, align, write_sequence, AllAccepted}
 
--- what was written is read back
+-- a written value is read back
 pub block_header_goes : (o : Order) (value : BlockHeader) → Fits value
-    → GoesBack (block_header_entry o) (block_header_writes o value) value
+    → RoundTrip (block_header_decoder o) (block_header_writes o value) value
 block_header_goes o value fits =
     bit-back value.last _ _ _ (unsigned-back o 7 _ _ 8 value.kind _ refl fits.kind (unsigned-back o 24 _ _ 32 value.size
-    _ refl fits.size (gives-back _)))
+    _ refl fits.size (pure-back _)))
 
--- each write is accepted, and so many bits are written
+-- each write is accepted, and the value's size is the number of bits written
 pub block_header_packs : (o : Order) (value : BlockHeader) → Fits value
     → Packs (block_header_writes o value) (block_header_size o value)
 block_header_packs o value fits =
@@ -31,6 +31,6 @@ block_header_fits o value at all = record {
 
 -- the bits, of which a search is to see no part
 pub told : (value : BlockHeader)
-    → write_run (block_header_writes High value ++ align ∷ []) 0 ≡ block_header_bits value
+    → write_sequence (block_header_writes High value ++ align ∷ []) 0 ≡ block_header_bits value
 unfolding block_header_bits
 told value = refl

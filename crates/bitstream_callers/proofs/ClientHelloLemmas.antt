@@ -1,15 +1,15 @@
 -- Made by `./format` from formats/client_hello.fields: edit that file and make this one anew.
--- What was written of a `ClientHello` is read back, and how many bits it takes.
-use Rattle.bitstream_callers.specs.ClientHello.{client_hello_entry, client_hello_writes, client_hello_size, client_hello_bits, Fits, compression_of, compression_number, compression_read}
+-- A written `ClientHello` is read back, and its number of bits.
+use Rattle.bitstream_callers.specs.ClientHello.{client_hello_decoder, client_hello_writes, client_hello_size, client_hello_bits, Fits, compression_of, compression_number, compression_read}
 use Rattle.bitstream_callers.specs.declared.client_hello.ClientHello.{ClientHello}
 use Rattle.bitstream_callers.specs.declared.client_hello.Compression.{Compression}
 use Rattle.bitstream_callers.specs.declared.client_hello.Compression.TheVariants.{Null, Deflate}
 use Rattle.std.proofs.Common.{◌≡◌, ◌^◌, ◌<◌, ◌++◌, ◌∷◌, [], Ok, length, refl, arith}
-use Rattle.bitstream_io.proofs.CallerLemmas.{GoesBack, Packs, unsigned-back, bytes-back, gives-back, literal-back, unsigned-written, bytes-written, const-written, packs-none, packs-more, packs-part, packs-is, vec-back}
+use Rattle.bitstream_io.proofs.CallerLemmas.{RoundTrip, Packs, unsigned-back, bytes-back, pure-back, literal-back, unsigned-written, bytes-written, const-written, packs-none, packs-more, packs-part, packs-is, vec-back}
 use Rattle.bitstream_io.proofs.EachLemmas.{all-made, each_part-back, made-each, packs-made}
-use Rattle.bitstream_io.specs.Callers.{Order, High, unsigned, align, write_run}
+use Rattle.bitstream_io.specs.Callers.{Order, High, unsigned, align, write_sequence}
 
--- the number of each case fits its bits, and says that case
+-- the number of each case fits its bits, and decodes to that case
 compression_small : (it : Compression) → compression_number it < 2 ^ 8
 compression_small Null = omega arith
 compression_small Deflate = omega arith
@@ -18,9 +18,9 @@ compression_again : (it : Compression) → compression_of (compression_number it
 compression_again Null = refl
 compression_again Deflate = refl
 
--- what was written is read back
+-- a written value is read back
 pub client_hello_goes : (o : Order) (value : ClientHello) → Fits value
-    → GoesBack (client_hello_entry o) (client_hello_writes o value) (Ok value)
+    → RoundTrip (client_hello_decoder o) (client_hello_writes o value) (Ok value)
 client_hello_goes o value fits =
     literal-back _ _ o 8 1 _ refl (unsigned-back o 24 _ _ 32 value.size _ refl fits.size (unsigned-back o 16 _ _ 16
     value.version _ refl fits.version (bytes-back _ _ o 32 value.random _ fits.random_count fits.random
@@ -32,9 +32,9 @@ client_hello_goes o value fits =
     8 compression_number compression_of (λ x. Ok x) value.compressions refl (all-made 8 compression_of
     compression_small compression_again value.compressions)) (unsigned-back o 16 _ _ 64 (length value.extensions) _
     refl fits.extensions_count (vec-back _ _ o (length value.extensions) value.extensions _ refl fits.extensions
-    (gives-back _))))))))))))
+    (pure-back _))))))))))))
 
--- each write is accepted, and so many bits are written
+-- each write is accepted, and the value's size is the number of bits written
 pub client_hello_packs : (o : Order) (value : ClientHello) → Fits value
     → Packs (client_hello_writes o value) (client_hello_size o value)
 client_hello_packs o value fits =
@@ -52,6 +52,6 @@ client_hello_packs o value fits =
 
 -- the bits, of which a search is to see no part
 pub told : (value : ClientHello)
-    → write_run (client_hello_writes High value ++ align ∷ []) 0 ≡ client_hello_bits value
+    → write_sequence (client_hello_writes High value ++ align ∷ []) 0 ≡ client_hello_bits value
 unfolding client_hello_bits
 told value = refl

@@ -1,9 +1,9 @@
 -- Worked rows of types that own memory: bytes that another program wrote, or made by hand, against their definitions.
 use Rattle.std.specs.Prelude.{◌≡◌, ℕ, List, [], ◌∷◌, Ok, refl}
 use Rattle.bitstream_io.specs.Callers.{High, bits}
-use Rattle.bitstream_io.specs.Entry.{Takes, chain}
-use Rattle.bitstream_io.specs.Grows.{parts_entry}
-use Rattle.bitstream_io.specs.ReadTable.{unsigned_entry}
+use Rattle.bitstream_io.specs.Codec.{Done, and_then}
+use Rattle.bitstream_io.specs.Grows.{parts_decoder}
+use Rattle.bitstream_io.specs.ReadTable.{unsigned_decoder}
 use Rattle.bitstream_io.specs.Word.{digits, digits_number}
 use Rattle.bitstream_callers.specs.ParameterSet.{set_reads}
 use Rattle.bitstream_callers.specs.VorbisComment.{comment_bytes}
@@ -36,9 +36,9 @@ comment_there = refl
 
 -- ---- a parameter set of two points
 
-set_there : (set_reads High).reads 0 (bits High (162 ∷ 15 ∷ 52 ∷ 213 ∷ 231 ∷ 192 ∷ [])) ≡ Takes 42 (Ok (Ok (record {
+set_there : (set_reads High).reads 0 (bits High (162 ∷ 15 ∷ 52 ∷ 213 ∷ 231 ∷ 192 ∷ [])) ≡ Done 42 (Ok (Ok (record {
   profile = 5;
   points = record { layers = 243; level = 9 } ∷ record { layers = 2748; level = 31 } ∷ [];
 })))
-unfolding chain parts_entry unsigned_entry digits digits_number
+unfolding and_then parts_decoder unsigned_decoder digits digits_number
 set_there = refl

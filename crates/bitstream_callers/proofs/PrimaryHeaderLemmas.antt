@@ -1,21 +1,21 @@
 -- Made by `./format` from formats/primary_header.fields: edit that file and make this one anew.
--- What was written of a `PrimaryHeader` is read back, and how many bits it takes.
-use Rattle.bitstream_callers.specs.PrimaryHeader.{primary_header_entry, primary_header_writes, primary_header_size, primary_header_bits, Fits}
+-- A written `PrimaryHeader` is read back, and its number of bits.
+use Rattle.bitstream_callers.specs.PrimaryHeader.{primary_header_decoder, primary_header_writes, primary_header_size, primary_header_bits, Fits}
 use Rattle.bitstream_callers.specs.declared.primary_header.PrimaryHeader.{PrimaryHeader}
 use Rattle.std.proofs.Common.{◌≡◌, ◌++◌, ◌∷◌, [], ℕ, Ok, refl}
-use Rattle.bitstream_io.proofs.CallerLemmas.{GoesBack, Packs, unsigned-accepted, bit-back, unsigned-back, gives-back, literal-back, bit-written, unsigned-written, const-written, packs-none, packs-more}
-use Rattle.bitstream_io.specs.Callers.{Order, High, align, write_run, AllAccepted}
+use Rattle.bitstream_io.proofs.CallerLemmas.{RoundTrip, Packs, unsigned-accepted, bit-back, unsigned-back, pure-back, literal-back, bit-written, unsigned-written, const-written, packs-none, packs-more}
+use Rattle.bitstream_io.specs.Callers.{Order, High, align, write_sequence, AllAccepted}
 
--- what was written is read back
+-- a written value is read back
 pub primary_header_goes : (o : Order) (value : PrimaryHeader) → Fits value
-    → GoesBack (primary_header_entry o) (primary_header_writes o value) (Ok value)
+    → RoundTrip (primary_header_decoder o) (primary_header_writes o value) (Ok value)
 primary_header_goes o value fits =
     literal-back _ _ o 3 0 _ refl (bit-back value.telecommand _ _ _ (bit-back value.secondary _ _ _ (unsigned-back o 11
     _ _ 16 value.apid _ refl fits.apid (unsigned-back o 2 _ _ 8 value.sequence _ refl fits.sequence (unsigned-back o
-    14 _ _ 16 value.count _ refl fits.count (unsigned-back o 16 _ _ 16 value.length _ refl fits.length (gives-back
+    14 _ _ 16 value.count _ refl fits.count (unsigned-back o 16 _ _ 16 value.length _ refl fits.length (pure-back
     _)))))))
 
--- each write is accepted, and so many bits are written
+-- each write is accepted, and the value's size is the number of bits written
 pub primary_header_packs : (o : Order) (value : PrimaryHeader) → Fits value
     → Packs (primary_header_writes o value) (primary_header_size o value)
 primary_header_packs o value fits =
@@ -38,6 +38,6 @@ primary_header_fits o value at all = record {
 
 -- the bits, of which a search is to see no part
 pub told : (value : PrimaryHeader)
-    → write_run (primary_header_writes High value ++ align ∷ []) 0 ≡ primary_header_bits value
+    → write_sequence (primary_header_writes High value ++ align ∷ []) 0 ≡ primary_header_bits value
 unfolding primary_header_bits
 told value = refl

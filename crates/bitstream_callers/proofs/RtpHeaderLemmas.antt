@@ -1,24 +1,24 @@
 -- Made by `./format` from formats/rtp_header.fields: edit that file and make this one anew.
--- What was written of a `RtpHeader` is read back, and how many bits it takes.
-use Rattle.bitstream_callers.specs.RtpHeader.{rtp_header_entry, rtp_header_writes, rtp_header_size, rtp_header_bits, Fits}
+-- A written `RtpHeader` is read back, and its number of bits.
+use Rattle.bitstream_callers.specs.RtpHeader.{rtp_header_decoder, rtp_header_writes, rtp_header_size, rtp_header_bits, Fits}
 use Rattle.bitstream_callers.specs.declared.rtp_header.RtpHeader.{RtpHeader}
 use Rattle.std.proofs.Common.{◌≡◌, ◌++◌, ◌∷◌, [], ℕ, Ok, length, refl, arith}
-use Rattle.bitstream_io.proofs.CallerLemmas.{GoesBack, Packs, unsigned-accepted, items-accepted, accepted-first, bit-back, unsigned-back, gives-back, literal-back, bit-written, unsigned-written, const-written, packs-none, packs-more, packs-part, packs-items, packs-is, each-back, unsigned-each}
+use Rattle.bitstream_io.proofs.CallerLemmas.{RoundTrip, Packs, unsigned-accepted, items-accepted, accepted-first, bit-back, unsigned-back, pure-back, literal-back, bit-written, unsigned-written, const-written, packs-none, packs-more, packs-part, packs-items, packs-is, each-back, unsigned-each}
 use Rattle.std.specs.List.{flat_map}
-use Rattle.bitstream_io.specs.Callers.{list_item, Order, High, unsigned_entry, unsigned, align, write_run, AllAccepted}
+use Rattle.bitstream_io.specs.Callers.{list_item, Order, High, unsigned_decoder, unsigned, align, write_sequence, AllAccepted}
 
--- what was written is read back
+-- a written value is read back
 pub rtp_header_goes : (o : Order) (value : RtpHeader) → Fits value
-    → GoesBack (rtp_header_entry o) (rtp_header_writes o value) (Ok value)
+    → RoundTrip (rtp_header_decoder o) (rtp_header_writes o value) (Ok value)
 rtp_header_goes o value fits =
     literal-back _ _ o 2 2 _ refl (bit-back value.padding _ _ _ (bit-back value.extension _ _ _ (unsigned-back o 4 _ _
     64 (length value.csrc) _ refl fits.csrc_count (bit-back value.marker _ _ _ (unsigned-back o 7 _ _ 8
     value.payload_type _ refl fits.payload_type (unsigned-back o 16 _ _ 16 value.sequence _ refl fits.sequence
     (unsigned-back o 32 _ _ 32 value.timestamp _ refl fits.timestamp (unsigned-back o 32 _ _ 32 value.ssrc _ refl
-    fits.ssrc (each-back _ _ (list_item (unsigned_entry o 32 32)) (λ x. unsigned o 32 32 x ∷ []) (length value.csrc)
-    value.csrc _ refl (unsigned-each o 32 32 value.csrc refl fits.csrc) (gives-back _))))))))))
+    fits.ssrc (each-back _ _ (list_item (unsigned_decoder o 32 32)) (λ x. unsigned o 32 32 x ∷ []) (length
+    value.csrc) value.csrc _ refl (unsigned-each o 32 32 value.csrc refl fits.csrc) (pure-back _))))))))))
 
--- each write is accepted, and so many bits are written
+-- each write is accepted, and the value's size is the number of bits written
 pub rtp_header_packs : (o : Order) (value : RtpHeader) → Fits value
     → Packs (rtp_header_writes o value) (rtp_header_size o value)
 rtp_header_packs o value fits =
@@ -48,6 +48,6 @@ rtp_header_fits o value at all = record {
 
 -- the bits, of which a search is to see no part
 pub told : (value : RtpHeader)
-    → write_run (rtp_header_writes High value ++ align ∷ []) 0 ≡ rtp_header_bits value
+    → write_sequence (rtp_header_writes High value ++ align ∷ []) 0 ≡ rtp_header_bits value
 unfolding rtp_header_bits
 told value = refl

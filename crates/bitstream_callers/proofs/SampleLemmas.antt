@@ -1,20 +1,20 @@
 -- Made by `./format` from formats/sample.fields: edit that file and make this one anew.
--- What was written of a `Sample` is read back, and how many bits it takes.
-use Rattle.bitstream_callers.specs.Sample.{sample_entry, sample_writes, sample_size, sample_bits, Fits}
+-- A written `Sample` is read back, and its number of bits.
+use Rattle.bitstream_callers.specs.Sample.{sample_decoder, sample_writes, sample_size, sample_bits, Fits}
 use Rattle.bitstream_callers.specs.declared.sample.Sample.{Sample}
 use Rattle.std.proofs.Common.{◌≡◌, ◌++◌, ◌∷◌, [], ℕ, refl}
-use Rattle.bitstream_io.proofs.CallerLemmas.{GoesBack, Packs, unsigned-accepted, signed-accepted, bit-back, signed-back, unsigned-back, gives-back, bit-written, signed-written, unsigned-written, packs-none, packs-more}
-use Rattle.bitstream_io.specs.Callers.{Order, High, align, write_run, AllAccepted}
+use Rattle.bitstream_io.proofs.CallerLemmas.{RoundTrip, Packs, unsigned-accepted, signed-accepted, bit-back, signed-back, unsigned-back, pure-back, bit-written, signed-written, unsigned-written, packs-none, packs-more}
+use Rattle.bitstream_io.specs.Callers.{Order, High, align, write_sequence, AllAccepted}
 
--- what was written is read back
+-- a written value is read back
 pub sample_goes : (o : Order) (value : Sample) → Fits value
-    → GoesBack (sample_entry o) (sample_writes o value) value
+    → RoundTrip (sample_decoder o) (sample_writes o value) value
 sample_goes o value fits =
     unsigned-back o 20 _ _ 32 value.seconds _ refl fits.seconds (bit-back value.running _ _ _ (signed-back o 9 _ _ 16
     value.temperature _ refl refl fits.temperature (unsigned-back o 18 _ _ 32 value.pressure _ refl fits.pressure
-    (gives-back _))))
+    (pure-back _))))
 
--- each write is accepted, and so many bits are written
+-- each write is accepted, and the value's size is the number of bits written
 pub sample_packs : (o : Order) (value : Sample) → Fits value
     → Packs (sample_writes o value) (sample_size o value)
 sample_packs o value fits =
@@ -34,6 +34,6 @@ sample_fits o value at all = record {
 
 -- the bits, of which a search is to see no part
 pub told : (value : Sample)
-    → write_run (sample_writes High value ++ align ∷ []) 0 ≡ sample_bits value
+    → write_sequence (sample_writes High value ++ align ∷ []) 0 ≡ sample_bits value
 unfolding sample_bits
 told value = refl

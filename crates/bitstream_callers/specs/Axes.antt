@@ -1,11 +1,11 @@
--- What an accelerometer measured.
-use Rattle.bitstream_io.specs.Callers.{ReadEntry, High, gives, unsigned_entry, ◌>>=◌}
+-- The measurement of an accelerometer.
+use Rattle.bitstream_io.specs.Callers.{Decoder, High, pure, unsigned_decoder, ◌>>=◌}
 use Rattle.bitstream_callers.specs.declared.axes.Axes.{Axes}
 
 -- three numbers of 12 bits
-abbrev pub axes_entry : ReadEntry Axes
-axes_entry = do
-  x ← unsigned_entry High 16 12
-  y ← unsigned_entry High 16 12
-  z ← unsigned_entry High 16 12
-  gives (record { x = x; y = y; z = z })
+abbrev pub axes_decoder : Decoder Axes
+axes_decoder = do
+  x ← unsigned_decoder High 16 12
+  y ← unsigned_decoder High 16 12
+  z ← unsigned_decoder High 16 12
+  pure (record { x = x; y = y; z = z })

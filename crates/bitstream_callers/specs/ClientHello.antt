@@ -6,7 +6,7 @@ use Rattle.bitstream_callers.specs.declared.client_hello.Compression.{Compressio
 use Rattle.bitstream_callers.specs.declared.client_hello.Compression.TheVariants.{Null, Deflate}
 use Rattle.std.specs.Prelude.{◌≡◌, ◌^◌, ◌<◌, ◌+◌, ◌*◌, ◌++◌, ◌∷◌, [], ◌==◌, if◌then◌else◌, ℕ, Bool, List, Result, Ok, Err, length}
 use Rattle.std.specs.List.{All, flat_map}
-use Rattle.bitstream_io.specs.Callers.{◌>>=◌, ReadEntry, WriteEntry, gives, Error, Order, High, chain, word, unsigned_entry, const_entry, bytes_entry, vec_entry, plain, unsigned, buffer, align, write_run, part_then, parts_entry}
+use Rattle.bitstream_io.specs.Callers.{◌>>=◌, Decoder, Encoder, pure, Error, Order, High, and_then, word, unsigned_decoder, const_decoder, bytes_decoder, vec_decoder, plain, unsigned, buffer, align, write_sequence, part_then, parts_decoder}
 
 -- Made by `./format` from formats/client_hello.fields: edit that file and make this one anew.
 
@@ -14,59 +14,59 @@ use Rattle.bitstream_io.specs.Callers.{◌>>=◌, ReadEntry, WriteEntry, gives, 
 abbrev pub becomes_client_hello : Error → ClientHelloError → Type 0
 becomes_client_hello error own = own ≡ Reader error
 
--- what a number says
+-- the case of a number
 abbrev pub compression_of : ℕ → (Result Compression ClientHelloError)
 compression_of n = if n == 0 then Ok Null else if n == 1 then Ok Deflate else Err NoCompression
 
--- and back
+-- the number of a case
 abbrev pub compression_number : Compression → ℕ
 compression_number Null = 0
 compression_number Deflate = 1
 
--- the read of its number
-abbrev pub compression_read : Order → ReadEntry (Result Compression ClientHelloError)
-compression_read o = chain (unsigned_entry o 8 8) (λ v. gives (compression_of v))
+-- the read of a case
+abbrev pub compression_read : Order → Decoder (Result Compression ClientHelloError)
+compression_read o = and_then (unsigned_decoder o 8 8) (λ v. pure (compression_of v))
 
--- the reads, in order, behind 2 that may be refused
-abbrev pub client_hello_entry_2 : Order → ℕ → ℕ → List ℕ → ℕ → List ℕ → ℕ → List ℕ → ℕ → List Compression → ReadEntry
+-- the reads, in order, after 2 that may be refused
+abbrev pub client_hello_decoder_2 : Order → ℕ → ℕ → List ℕ → ℕ → List ℕ → ℕ → List ℕ → ℕ → List Compression → Decoder
     (Result ClientHello ClientHelloError)
-client_hello_entry_2 o size version random session_count session suites_count suites compressions_count compressions =
+client_hello_decoder_2 o size version random session_count session suites_count suites compressions_count compressions =
     do
-      extensions_count ← unsigned_entry o 64 16
-      extensions ← vec_entry o extensions_count
-      gives (Ok (record {
+      extensions_count ← unsigned_decoder o 64 16
+      extensions ← vec_decoder o extensions_count
+      pure (Ok (record {
         size = size;
         version = version;
         random = random;
         session = session;
         suites = suites;
-        compressions
-            = compressions;
+        compressions =
+            compressions;
         extensions = extensions;
       }))
 
--- the reads, in order, behind 1 that may be refused
-abbrev pub client_hello_entry_1 : Order → ReadEntry (Result ClientHello ClientHelloError)
-client_hello_entry_1 o = do
-  size ← unsigned_entry o 32 24
-  version ← unsigned_entry o 16 16
-  random ← bytes_entry o 32
-  session_count ← unsigned_entry o 64 8
-  session ← vec_entry o session_count
-  suites_count ← unsigned_entry o 64 16
-  suites ← vec_entry o suites_count
-  compressions_count ← unsigned_entry o 64 8
-  chain (parts_entry (compression_read o) compressions_count) (part_then (λ compressions. client_hello_entry_2 o size
-      version random session_count session suites_count suites compressions_count compressions))
+-- the reads, in order, after 1 that may be refused
+abbrev pub client_hello_decoder_1 : Order → Decoder (Result ClientHello ClientHelloError)
+client_hello_decoder_1 o = do
+  size ← unsigned_decoder o 32 24
+  version ← unsigned_decoder o 16 16
+  random ← bytes_decoder o 32
+  session_count ← unsigned_decoder o 64 8
+  session ← vec_decoder o session_count
+  suites_count ← unsigned_decoder o 64 16
+  suites ← vec_decoder o suites_count
+  compressions_count ← unsigned_decoder o 64 8
+  and_then (parts_decoder (compression_read o) compressions_count) (part_then (λ compressions. client_hello_decoder_2 o
+      size version random session_count session suites_count suites compressions_count compressions))
 
 -- the reads, in order
-abbrev pub client_hello_entry : Order → ReadEntry (Result ClientHello ClientHelloError)
-client_hello_entry o = do
-  is_0 ← const_entry o 8 1
-  if is_0 then client_hello_entry_1 o else gives (Err OtherMessage)
+abbrev pub client_hello_decoder : Order → Decoder (Result ClientHello ClientHelloError)
+client_hello_decoder o = do
+  is_0 ← const_decoder o 8 1
+  if is_0 then client_hello_decoder_1 o else pure (Err OtherMessage)
 
 -- the writes, in order
-abbrev pub client_hello_writes : Order → ClientHello → List WriteEntry
+abbrev pub client_hello_writes : Order → ClientHello → List Encoder
 client_hello_writes o value =
     plain (word o 8 1)
     ∷ unsigned o 32 24 value.size
@@ -103,4 +103,4 @@ client_hello_size o value = 352 + 8 * length value.session + 8 * length value.su
 
 -- the bits of all fields, up to a whole byte
 unfoldable pub client_hello_bits : ClientHello → List Bool
-client_hello_bits value = write_run (client_hello_writes High value ++ align ∷ []) 0
+client_hello_bits value = write_sequence (client_hello_writes High value ++ align ∷ []) 0

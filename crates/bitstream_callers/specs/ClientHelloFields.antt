@@ -1,10 +1,10 @@
--- What contracts see of a `ClientHello`.
+-- The value of a `ClientHello` in contracts.
 use Rattle.bitstream_callers.specs.declared.client_hello.Compression.{Compression}
 use Rattle.std.specs.Prelude.{ℕ, List}
 
 -- Made by `./format` from formats/client_hello.fields: edit that file and make this one anew.
 
--- its fields, and the items of its lists
+-- the fields, and the items of the lists
 pub record ClientHelloFields : Type 0 where
   pub size : ℕ
   pub version : ℕ

@@ -2,9 +2,9 @@
 use Rattle.bitstream_callers.specs.declared.flac_start.FlacStart.{FlacStart}
 use Rattle.bitstream_callers.specs.declared.flac_start.FlacStartError.{FlacStartError}
 use Rattle.bitstream_callers.specs.declared.flac_start.FlacStartError.TheVariants.{Reader, NoFlac}
-use Rattle.bitstream_callers.specs.BlockHeader.{block_header_entry, block_header_writes, Fits as BlockHeaderFits}
+use Rattle.bitstream_callers.specs.BlockHeader.{block_header_decoder, block_header_writes, Fits as BlockHeaderFits}
 use Rattle.std.specs.Prelude.{◌≡◌, ◌++◌, ◌∷◌, [], if◌then◌else◌, ℕ, Bool, List, Result, Ok, Err, take, drop}
-use Rattle.bitstream_io.specs.Callers.{◌>>=◌, ReadEntry, WriteEntry, gives, Error, Order, High, number, word, first_bit, const_entry, plain, align, write_run}
+use Rattle.bitstream_io.specs.Callers.{◌>>=◌, Decoder, Encoder, pure, Error, Order, High, number, word, first_bit, const_decoder, plain, align, write_sequence}
 
 -- Made by `./format` from formats/flac_start.fields: edit that file and make this one anew.
 
@@ -12,7 +12,7 @@ use Rattle.bitstream_io.specs.Callers.{◌>>=◌, ReadEntry, WriteEntry, gives, 
 abbrev pub becomes_flac_start : Error → FlacStartError → Type 0
 becomes_flac_start error own = own ≡ Reader error
 
--- n bits behind the first k
+-- n bits after the first k
 abbrev pub bits_at : ℕ → ℕ → List Bool → List Bool
 bits_at k n bits = take n (drop k bits)
 
@@ -20,20 +20,20 @@ bits_at k n bits = take n (drop k bits)
 abbrev pub const_at_0 : List Bool → ℕ
 const_at_0 bits = number High (bits_at 0 32 bits)
 
--- the reads, in order, behind 1 that may be refused
-abbrev pub flac_start_entry_1 : Order → ReadEntry (Result FlacStart FlacStartError)
-flac_start_entry_1 o = do
-  block ← block_header_entry o
-  gives (Ok (record { block = block }))
+-- the reads, in order, after 1 that may be refused
+abbrev pub flac_start_decoder_1 : Order → Decoder (Result FlacStart FlacStartError)
+flac_start_decoder_1 o = do
+  block ← block_header_decoder o
+  pure (Ok (record { block = block }))
 
 -- the reads, in order
-abbrev pub flac_start_entry : Order → ReadEntry (Result FlacStart FlacStartError)
-flac_start_entry o = do
-  is_0 ← const_entry o 32 1716281667
-  if is_0 then flac_start_entry_1 o else gives (Err NoFlac)
+abbrev pub flac_start_decoder : Order → Decoder (Result FlacStart FlacStartError)
+flac_start_decoder o = do
+  is_0 ← const_decoder o 32 1716281667
+  if is_0 then flac_start_decoder_1 o else pure (Err NoFlac)
 
 -- the writes, in order
-abbrev pub flac_start_writes : Order → FlacStart → List WriteEntry
+abbrev pub flac_start_writes : Order → FlacStart → List Encoder
 flac_start_writes o value =
     plain (word o 32 1716281667)
     ∷ block_header_writes o value.block
@@ -49,9 +49,9 @@ flac_start_size o value = 64
 
 -- the bits of all fields, up to a whole byte
 unfoldable pub flac_start_bits : FlacStart → List Bool
-flac_start_bits value = write_run (flac_start_writes High value ++ align ∷ []) 0
+flac_start_bits value = write_sequence (flac_start_writes High value ++ align ∷ []) 0
 
--- the fields that bits say, each by its place
+-- the fields in bits, each by its place
 abbrev pub flac_start_at : List Bool → FlacStart
 flac_start_at bits = record {
   block = record {

@@ -1,25 +1,25 @@
--- What stands before a packet's bytes.
+-- The header before a packet's bytes.
 use Rattle.bitstream_callers.specs.declared.header.Header.{Header}
 use Rattle.std.specs.Prelude.{◌^◌, ◌<◌, ◌++◌, ◌∷◌, [], ℕ, Bool, List, length, take, drop}
-use Rattle.bitstream_io.specs.Callers.{◌>>=◌, ReadEntry, WriteEntry, gives, Order, High, number, signed_number, FitsSignedBits, first_bit, bit_entry, unsigned_entry, signed_entry, bit, unsigned, signed, align, write_run}
+use Rattle.bitstream_io.specs.Callers.{◌>>=◌, Decoder, Encoder, pure, Order, High, number, signed_number, FitsSignedBits, first_bit, bit_decoder, unsigned_decoder, signed_decoder, bit, unsigned, signed, align, write_sequence}
 
 -- Made by `./format` from formats/header.fields: edit that file and make this one anew.
 
--- n bits behind the first k
+-- n bits after the first k
 abbrev pub bits_at : ℕ → ℕ → List Bool → List Bool
 bits_at k n bits = take n (drop k bits)
 
 -- the reads, in order
-abbrev pub header_entry : Order → ReadEntry Header
-header_entry o = do
-  version ← unsigned_entry o 8 3
-  acknowledge ← bit_entry
-  priority ← signed_entry o 8 4
-  length ← unsigned_entry o 16 16
-  gives (record { version = version; acknowledge = acknowledge; priority = priority; length = length })
+abbrev pub header_decoder : Order → Decoder Header
+header_decoder o = do
+  version ← unsigned_decoder o 8 3
+  acknowledge ← bit_decoder
+  priority ← signed_decoder o 8 4
+  length ← unsigned_decoder o 16 16
+  pure (record { version = version; acknowledge = acknowledge; priority = priority; length = length })
 
 -- the writes, in order
-abbrev pub header_writes : Order → Header → List WriteEntry
+abbrev pub header_writes : Order → Header → List Encoder
 header_writes o value =
     unsigned o 8 3 value.version
     ∷ bit value.acknowledge
@@ -39,9 +39,9 @@ header_size o value = 24
 
 -- the bits of all fields, up to a whole byte
 unfoldable pub header_bits : Header → List Bool
-header_bits value = write_run (header_writes High value ++ align ∷ []) 0
+header_bits value = write_sequence (header_writes High value ++ align ∷ []) 0
 
--- the fields that bits say, each by its place
+-- the fields in bits, each by its place
 abbrev pub header_at : List Bool → Header
 header_at bits = record {
   version = number High (bits_at 0 3 bits);

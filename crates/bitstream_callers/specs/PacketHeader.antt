@@ -1,8 +1,8 @@
 -- The header of a packet of whole bytes.
 use Rattle.std.specs.Prelude.{◌≡◌, ℕ, ◌==◌, if◌then◌else◌, List, [], ◌∷◌, Result, Ok, Err}
-use Rattle.bitstream_io.specs.ByteReads.{ByteReadEntry}
+use Rattle.bitstream_io.specs.ByteReads.{ByteDecoder}
 use Rattle.bitstream_io.specs.ByteSteps.{◌>>=◌, number_bytes}
-use Rattle.bitstream_io.specs.ByteTypes.{byte_gives}
+use Rattle.bitstream_io.specs.ByteTypes.{byte_pure}
 use Rattle.bitstream_io.specs.Callers.{Error, Order, High, Low, bytes}
 use Rattle.bitstream_io.specs.Parts.{value_bytes}
 use Rattle.bitstream_callers.specs.declared.packet_header.PacketError.{PacketError}
@@ -13,17 +13,17 @@ use Rattle.bitstream_callers.specs.declared.packet_header.PacketHeader.{PacketHe
 abbrev pub becomes_stream : Error → PacketError → Type 0
 becomes_stream error own = own ≡ Stream error
 
--- what stands behind a version that is supported
-abbrev pub length_reads : Order → ByteReadEntry (Result PacketHeader PacketError)
+-- the part that follows a supported version
+abbrev pub length_reads : Order → ByteDecoder (Result PacketHeader PacketError)
 length_reads o = do
   length ← number_bytes o 2
-  byte_gives (Ok (record { length = length }))
+  byte_pure (Ok (record { length = length }))
 
 -- a byte that states the version, and the length if it is 1
-abbrev pub packet_reads : Order → ByteReadEntry (Result PacketHeader PacketError)
+abbrev pub packet_reads : Order → ByteDecoder (Result PacketHeader PacketError)
 packet_reads o = do
   version ← number_bytes o 1
-  if version == 1 then length_reads o else byte_gives (Err UnsupportedVersion)
+  if version == 1 then length_reads o else byte_pure (Err UnsupportedVersion)
 
 -- the n bytes of a number, in the order of bytes
 abbrev pub bytes_in : Order → ℕ → ℕ → List ℕ

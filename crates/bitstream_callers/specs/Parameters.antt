@@ -1,4 +1,4 @@
--- What a parameter set says.
+-- The contents of a parameter set.
 use Rattle.std.specs.Prelude.{ℕ, List}
 use Rattle.bitstream_callers.specs.declared.parameter_set.OperatingPoint.{OperatingPoint}
 

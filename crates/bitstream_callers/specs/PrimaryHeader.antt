@@ -3,7 +3,7 @@ use Rattle.bitstream_callers.specs.declared.primary_header.PrimaryHeader.{Primar
 use Rattle.bitstream_callers.specs.declared.primary_header.PrimaryHeaderError.{PrimaryHeaderError}
 use Rattle.bitstream_callers.specs.declared.primary_header.PrimaryHeaderError.TheVariants.{Reader, WrongVersion}
 use Rattle.std.specs.Prelude.{◌≡◌, ◌^◌, ◌<◌, ◌++◌, ◌∷◌, [], if◌then◌else◌, ℕ, Bool, List, Result, Ok, Err, length, take, drop}
-use Rattle.bitstream_io.specs.Callers.{◌>>=◌, ReadEntry, WriteEntry, gives, Error, Order, High, number, word, first_bit, bit_entry, unsigned_entry, const_entry, plain, bit, unsigned, align, write_run}
+use Rattle.bitstream_io.specs.Callers.{◌>>=◌, Decoder, Encoder, pure, Error, Order, High, number, word, first_bit, bit_decoder, unsigned_decoder, const_decoder, plain, bit, unsigned, align, write_sequence}
 
 -- Made by `./format` from formats/primary_header.fields: edit that file and make this one anew.
 
@@ -11,7 +11,7 @@ use Rattle.bitstream_io.specs.Callers.{◌>>=◌, ReadEntry, WriteEntry, gives, 
 abbrev pub becomes_primary_header : Error → PrimaryHeaderError → Type 0
 becomes_primary_header error own = own ≡ Reader error
 
--- n bits behind the first k
+-- n bits after the first k
 abbrev pub bits_at : ℕ → ℕ → List Bool → List Bool
 bits_at k n bits = take n (drop k bits)
 
@@ -19,16 +19,16 @@ bits_at k n bits = take n (drop k bits)
 abbrev pub const_at_0 : List Bool → ℕ
 const_at_0 bits = number High (bits_at 0 3 bits)
 
--- the reads, in order, behind 1 that may be refused
-abbrev pub primary_header_entry_1 : Order → ReadEntry (Result PrimaryHeader PrimaryHeaderError)
-primary_header_entry_1 o = do
-  telecommand ← bit_entry
-  secondary ← bit_entry
-  apid ← unsigned_entry o 16 11
-  sequence ← unsigned_entry o 8 2
-  count ← unsigned_entry o 16 14
-  length ← unsigned_entry o 16 16
-  gives (Ok (record {
+-- the reads, in order, after 1 that may be refused
+abbrev pub primary_header_decoder_1 : Order → Decoder (Result PrimaryHeader PrimaryHeaderError)
+primary_header_decoder_1 o = do
+  telecommand ← bit_decoder
+  secondary ← bit_decoder
+  apid ← unsigned_decoder o 16 11
+  sequence ← unsigned_decoder o 8 2
+  count ← unsigned_decoder o 16 14
+  length ← unsigned_decoder o 16 16
+  pure (Ok (record {
     telecommand = telecommand;
     secondary = secondary;
     apid = apid;
@@ -38,13 +38,13 @@ primary_header_entry_1 o = do
   }))
 
 -- the reads, in order
-abbrev pub primary_header_entry : Order → ReadEntry (Result PrimaryHeader PrimaryHeaderError)
-primary_header_entry o = do
-  is_0 ← const_entry o 3 0
-  if is_0 then primary_header_entry_1 o else gives (Err WrongVersion)
+abbrev pub primary_header_decoder : Order → Decoder (Result PrimaryHeader PrimaryHeaderError)
+primary_header_decoder o = do
+  is_0 ← const_decoder o 3 0
+  if is_0 then primary_header_decoder_1 o else pure (Err WrongVersion)
 
 -- the writes, in order
-abbrev pub primary_header_writes : Order → PrimaryHeader → List WriteEntry
+abbrev pub primary_header_writes : Order → PrimaryHeader → List Encoder
 primary_header_writes o value =
     plain (word o 3 0)
     ∷ bit value.telecommand
@@ -68,9 +68,9 @@ primary_header_size o value = 48
 
 -- the bits of all fields, up to a whole byte
 unfoldable pub primary_header_bits : PrimaryHeader → List Bool
-primary_header_bits value = write_run (primary_header_writes High value ++ align ∷ []) 0
+primary_header_bits value = write_sequence (primary_header_writes High value ++ align ∷ []) 0
 
--- the fields that bits say, each by its place
+-- the fields in bits, each by its place
 abbrev pub primary_header_at : List Bool → PrimaryHeader
 primary_header_at bits = record {
   telecommand = first_bit (bits_at 3 1 bits);

@@ -4,7 +4,7 @@ use Rattle.bitstream_callers.specs.declared.rtp_header.RtpError.{RtpError}
 use Rattle.bitstream_callers.specs.declared.rtp_header.RtpError.TheVariants.{Reader, WrongVersion}
 use Rattle.std.specs.Prelude.{◌≡◌, ◌^◌, ◌<◌, ◌+◌, ◌*◌, ◌++◌, ◌∷◌, [], if◌then◌else◌, ℕ, Bool, List, Result, Ok, Err, length}
 use Rattle.std.specs.List.{All, flat_map}
-use Rattle.bitstream_io.specs.Callers.{◌>>=◌, ReadEntry, WriteEntry, gives, list_item, Error, Order, High, word, bit_entry, unsigned_entry, const_entry, items_entry, plain, bit, unsigned, align, write_run}
+use Rattle.bitstream_io.specs.Callers.{◌>>=◌, Decoder, Encoder, pure, list_item, Error, Order, High, word, bit_decoder, unsigned_decoder, const_decoder, items_decoder, plain, bit, unsigned, align, write_sequence}
 
 -- Made by `./format` from formats/rtp_header.fields: edit that file and make this one anew.
 
@@ -12,19 +12,19 @@ use Rattle.bitstream_io.specs.Callers.{◌>>=◌, ReadEntry, WriteEntry, gives, 
 abbrev pub becomes_rtp_header : Error → RtpError → Type 0
 becomes_rtp_header error own = own ≡ Reader error
 
--- the reads, in order, behind 1 that may be refused
-abbrev pub rtp_header_entry_1 : Order → ReadEntry (Result RtpHeader RtpError)
-rtp_header_entry_1 o = do
-  padding ← bit_entry
-  extension ← bit_entry
-  csrc_count ← unsigned_entry o 64 4
-  marker ← bit_entry
-  payload_type ← unsigned_entry o 8 7
-  sequence ← unsigned_entry o 16 16
-  timestamp ← unsigned_entry o 32 32
-  ssrc ← unsigned_entry o 32 32
-  csrc ← items_entry (list_item (unsigned_entry o 32 32)) csrc_count
-  gives (Ok (record {
+-- the reads, in order, after 1 that may be refused
+abbrev pub rtp_header_decoder_1 : Order → Decoder (Result RtpHeader RtpError)
+rtp_header_decoder_1 o = do
+  padding ← bit_decoder
+  extension ← bit_decoder
+  csrc_count ← unsigned_decoder o 64 4
+  marker ← bit_decoder
+  payload_type ← unsigned_decoder o 8 7
+  sequence ← unsigned_decoder o 16 16
+  timestamp ← unsigned_decoder o 32 32
+  ssrc ← unsigned_decoder o 32 32
+  csrc ← items_decoder (list_item (unsigned_decoder o 32 32)) csrc_count
+  pure (Ok (record {
     padding = padding;
     extension = extension;
     marker = marker;
@@ -37,13 +37,13 @@ rtp_header_entry_1 o = do
   }))
 
 -- the reads, in order
-abbrev pub rtp_header_entry : Order → ReadEntry (Result RtpHeader RtpError)
-rtp_header_entry o = do
-  is_0 ← const_entry o 2 2
-  if is_0 then rtp_header_entry_1 o else gives (Err WrongVersion)
+abbrev pub rtp_header_decoder : Order → Decoder (Result RtpHeader RtpError)
+rtp_header_decoder o = do
+  is_0 ← const_decoder o 2 2
+  if is_0 then rtp_header_decoder_1 o else pure (Err WrongVersion)
 
 -- the writes, in order
-abbrev pub rtp_header_writes : Order → RtpHeader → List WriteEntry
+abbrev pub rtp_header_writes : Order → RtpHeader → List Encoder
 rtp_header_writes o value =
     plain (word o 2 2)
     ∷ bit value.padding
@@ -72,4 +72,4 @@ rtp_header_size o value = 96 + length value.csrc * 32
 
 -- the bits of all fields, up to a whole byte
 unfoldable pub rtp_header_bits : RtpHeader → List Bool
-rtp_header_bits value = write_run (rtp_header_writes High value ++ align ∷ []) 0
+rtp_header_bits value = write_sequence (rtp_header_writes High value ++ align ∷ []) 0

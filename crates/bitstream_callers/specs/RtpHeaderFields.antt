@@ -1,9 +1,9 @@
--- What contracts see of a `RtpHeader`.
+-- The value of a `RtpHeader` in contracts.
 use Rattle.std.specs.Prelude.{ℕ, Bool, List}
 
 -- Made by `./format` from formats/rtp_header.fields: edit that file and make this one anew.
 
--- its fields, and the items of its lists
+-- the fields, and the items of the lists
 pub record RtpHeaderFields : Type 0 where
   pub padding : Bool
   pub extension : Bool

@@ -3,9 +3,9 @@ use Rattle.std.specs.Prelude.{◌≡◌, ◌<◌, ◌^◌, ℕ, true, if◌then�
 use Rattle.std.specs.List.{All, flat_map}
 use Rattle.std.specs.Str.{is_utf8}
 use Rattle.bitstream_io.specs.ByteGrows.{byte_part_then, byte_parts}
-use Rattle.bitstream_io.specs.ByteReads.{ByteReadEntry, vec_bytes}
+use Rattle.bitstream_io.specs.ByteReads.{ByteDecoder, vec_bytes}
 use Rattle.bitstream_io.specs.ByteSteps.{◌>>=◌, number_bytes}
-use Rattle.bitstream_io.specs.ByteTypes.{byte_gives}
+use Rattle.bitstream_io.specs.ByteTypes.{byte_pure}
 use Rattle.bitstream_io.specs.Callers.{Error, Low, bytes}
 use Rattle.bitstream_callers.specs.VorbisTexts.{Comment}
 use Rattle.bitstream_callers.specs.declared.vorbis_comment.CommentError.{CommentError}
@@ -15,20 +15,20 @@ use Rattle.bitstream_callers.specs.declared.vorbis_comment.CommentError.TheVaria
 abbrev pub becomes_reader : Error → CommentError → Type 0
 becomes_reader error own = own ≡ Reader error
 
--- a length in four bytes, the least significant first, and so many bytes, which must be UTF-8
-abbrev pub text_reads : ByteReadEntry (Result (List ℕ) CommentError)
+-- a length in four bytes, the least significant first, and then that number of bytes, which must be UTF-8
+abbrev pub text_reads : ByteDecoder (Result (List ℕ) CommentError)
 text_reads = do
   size ← number_bytes Low 4
   text ← vec_bytes size
-  byte_gives (if is_utf8 text then Ok text else Err NotText)
+  byte_pure (if is_utf8 text then Ok text else Err NotText)
 
--- so many texts behind the vendor's
-abbrev pub texts_reads : List ℕ → ℕ → ByteReadEntry (Result Comment CommentError)
+-- `count` texts, after the vendor's
+abbrev pub texts_reads : List ℕ → ℕ → ByteDecoder (Result Comment CommentError)
 texts_reads vendor count = byte_parts text_reads count >>= byte_part_then (λ comments.
-    byte_gives (Ok (record { vendor = vendor; comments = comments })))
+    byte_pure (Ok (record { vendor = vendor; comments = comments })))
 
 -- the vendor's text, the number of the others in four bytes, and these
-abbrev pub comment_reads : ByteReadEntry (Result Comment CommentError)
+abbrev pub comment_reads : ByteDecoder (Result Comment CommentError)
 comment_reads = text_reads >>= byte_part_then (λ vendor. number_bytes Low 4 >>= texts_reads vendor)
 
 -- the bytes of a text: its length, and it

@@ -1,4 +1,4 @@
-//! A header that is written behind what a sink holds, and how long it is.
+//! A header that is appended to a sink, and its length.
 ghost use Rattle.std.specs.Prelude.{◌≡◌, ◌⊎◌, ◌+◌, ◌%◌, Ok, Err, IfErr, IfOk};
 ghost use Rattle.bitstream_io.specs.Callers.{WritesAll};
 ghost use Rattle.bitstream_callers.specs.BlockHeader.{block_header_writes};
@@ -6,21 +6,21 @@ ghost use Rattle.bitstream_callers.specs.BlockHeader.{block_header_writes};
 use crate::block_header::BlockHeader;
 use bitstream_io::{BitWrite, BitWriteExt, Error, ToBitStream};
 
-/// Writes a header, and returns the number of bits of which it is made: those that were written, if
-/// the sink was at the end of a byte.
+/// Writes a header, and returns its number of bits: exactly the bits written, if the sink was at
+/// the end of a byte.
 ///
 /// # Errors
 ///
-/// `Checked` for a field that does not fit its bits. Nothing is written then. Else those of the sink.
-/// The fields before the one that is refused stay written.
+/// `Checked` for a field that does not fit its bits. Nothing is written then. Else the errors of
+/// the sink: the fields before the refused one stay written.
 pub fn append<W: BitWrite>(writer: &mut W, header: &BlockHeader) -> Result<u32, Error>
-    // If it succeeds, just the header's words were written.
+    // If it succeeds, only the header's words were written.
     ensures writes { IfOk result (λ bits. WritesAll W.sink
         (block_header_writes W.sink.order header.now) writer.old (Ok tt) writer.new) }
-    // At the end of a byte, the answer is how many bits they are.
+    // At the end of a byte, the result is the number of bytes written.
     ensures counts { W.sink.len writer.old % 8 ≡ 0
         → IfOk result (λ bits. W.sink.len writer.new ≡ W.sink.len writer.old + bits) }
-    // After an error the sink is as it was, or a write of the header had this error.
+    // After an error the sink is unchanged, or a write of the header had this error.
     ensures refused { IfErr result (λ error. (writer.new ≡ writer.old) ⊎ WritesAll W.sink
         (block_header_writes W.sink.order header.now) writer.old (Err error) writer.new) }
 {

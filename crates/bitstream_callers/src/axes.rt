@@ -1,11 +1,11 @@
-//! Numbers of a known length, which are there if so many bits are left.
+//! Numbers of a known length: one test of the bits left shows that they are there.
 ghost use Rattle.std.specs.Prelude.{◌≡◌, ◌≤◌, false, length, IfSome, IsOk};
 ghost use Rattle.bitstream_io.specs.Callers.{Reads, High, bits_left, memory_source};
-ghost use Rattle.bitstream_callers.specs.Axes.{axes_entry};
+ghost use Rattle.bitstream_callers.specs.Axes.{axes_decoder};
 
 use bitstream_io::{BE, BitRead, Error, SliceReader};
 
-/// What an accelerometer measured: three numbers of 12 bits.
+/// The measurement of an accelerometer: three numbers of 12 bits.
 #[derive(Clone, Copy, Debug, PartialEq)]
 pub struct Axes {
     /// To the right.
@@ -20,11 +20,11 @@ pub struct Axes {
 ///
 /// # Errors
 ///
-/// Those of the reader.
+/// The errors of the reader.
 pub fn read_axes(reader: &mut SliceReader<'_, BE>) -> Result<Axes, Error>
-    // Takes just 36 bits and answers their numbers, or answers an error.
-    ensures reads { Reads (memory_source High) axes_entry reader.old result reader.new }
-    // If 36 bits are left to a reader that has not failed, it answers no error.
+    // Takes only 36 bits and returns their numbers, or returns an error.
+    ensures reads { Reads (memory_source High) axes_decoder reader.old result reader.new }
+    // If 36 bits are left to a reader that has not failed, it returns no error.
     ensures done { ((memory_source High).state reader.old).failed ≡ false
         → IfSome (bits_left High ((memory_source High).state reader.old))
         (λ left. 36 ≤ length left → IsOk result) }

@@ -1,14 +1,14 @@
 //! The first message of a TLS connection.
 //!
 //! Made by `./format` from formats/client_hello.fields: edit that file and make this one anew.
-ghost use Rattle.bitstream_callers.specs.ClientHello.{client_hello_entry, client_hello_writes, client_hello_size, client_hello_bits, Fits, becomes_client_hello, compression_of, compression_number, compression_read};
+ghost use Rattle.bitstream_callers.specs.ClientHello.{client_hello_decoder, client_hello_writes, client_hello_size, client_hello_bits, Fits, becomes_client_hello, compression_of, compression_number, compression_read};
 ghost use Rattle.bitstream_callers.specs.declared.client_hello.ClientHello.{ClientHello};
 ghost use Rattle.bitstream_callers.specs.declared.client_hello.ClientHelloError.{ClientHelloError};
 ghost use Rattle.bitstream_callers.specs.declared.client_hello.ClientHelloError.TheVariants.{Reader};
 ghost use Rattle.std.specs.Prelude.{◌≡◌, ◌<◌, ◌≤◌, ◌*◌, ◌++◌, ◌∷◌, [], ◌⊎◌, ℕ, Bool, true, List, Ok, Err, length, IfOk, IsOk};
 ghost use Rattle.std.specs.List.{flat_map};
 ghost use Rattle.std.specs.declared.io.ErrorKind.TheVariants.{WriteZero};
-ghost use Rattle.bitstream_io.specs.Callers.{Takes, Error, Order, High, bits, unsigned, write_run, ReadsOwn, OwnAnswer, WritesAll, AllAccepted, run_length, sure_answer, GrowsOwn, MayAllocate, OutOfMemory, Stream, seen, same_error, parts_entry};
+ghost use Rattle.bitstream_io.specs.Callers.{Done, Error, Order, High, bits, unsigned, write_sequence, ReadsOwn, OwnAnswer, WritesAll, AllAccepted, sequence_length, sure_answer, GrowsOwn, MayAllocate, OutOfMemory, Stream, result_map, same_error, parts_decoder};
 ghost use Rattle.bitstream_io.specs.SliceMut.{HoldsFirst, written_bytes};
 
 use bitstream_io::{
@@ -59,9 +59,9 @@ pub struct ClientHello {
     pub session: Vec<u8>,
     /// The cipher suites, of two bytes each. Fewer than 2^16.
     pub suites: Vec<u8>,
-    /// How the bytes may be compressed. Fewer than 2^8.
+    /// The compression methods that are offered. Fewer than 2^8.
     pub compressions: Vec<Compression>,
-    /// The extensions, as they stand. Fewer than 2^16.
+    /// The extensions, undecoded. Fewer than 2^16.
     pub extensions: Vec<u8>,
 }
 
@@ -81,7 +81,7 @@ impl Model for ClientHello {
     } };
 }
 
-/// Why a `ClientHello` is not read.
+/// The errors of reading a `ClientHello`.
 #[derive(Debug, Drop, thiserror::Error)]
 pub enum ClientHelloError {
     /// An error of the reader.
@@ -103,7 +103,7 @@ impl From<Error> for ClientHelloError {
     }
 }
 
-/// How the bytes may be compressed.
+/// The compression methods that are offered.
 #[derive(Clone, Copy, Debug, PartialEq)]
 pub enum Compression {
     /// 0.
@@ -113,7 +113,7 @@ pub enum Compression {
 }
 
 impl Compression {
-    /// Returns what a number says.
+    /// Decodes a number.
     pub fn of(number: u8) -> Result<Compression, ClientHelloError>
         ensures { result ≡ compression_of number }
     {
@@ -126,7 +126,7 @@ impl Compression {
         Err(ClientHelloError::NoCompression)
     }
 
-    /// Returns its number.
+    /// Returns the number of the case.
     pub fn number(self) -> u8
         ensures { result ≡ compression_number self }
     {
@@ -136,7 +136,7 @@ impl Compression {
         }
     }
 
-    /// Reads its number.
+    /// Reads a number of 8 bits, and decodes it.
     pub fn read<R: BitRead>(reader: &mut R) -> Result<Compression, ClientHelloError>
         ensures { ReadsOwn R.source becomes_client_hello (compression_read R.source.order) reader.old result reader.new }
     {
@@ -153,15 +153,15 @@ impl<T: Drop> From<AllocFailed<T>> for ClientHelloError {
     }
 }
 
-/// Reads so many items of `compressions`. If memory for one is refused, that one is read, and no more.
-/// One that is refused is the last that is read.
+/// Reads `count` items of `compressions`. If memory for one is refused, it is the last one read.
+/// A refused one is the last one read, too.
 fn read_compressions<R: BitRead>(
     reader: &mut R,
     alloc: Global,
     count: u64,
 ) -> Result<Vec<Compression>, ClientHelloError>
-    ensures { GrowsOwn R.source becomes_client_hello (parts_entry (compression_read R.source.order) count)
-        reader.old (seen (λ found. found.items) result) reader.new }
+    ensures { GrowsOwn R.source becomes_client_hello (parts_decoder (compression_read R.source.order) count)
+        reader.old (result_map (λ found. found.items) result) reader.new }
 {
     let mut found = Vec::new(alloc);
     for _ in 0..count {
@@ -186,11 +186,11 @@ impl ClientHello {
     ///
     /// # Errors
     ///
-    /// `OtherMessage`, `NoCompression`, behind the bits that say so.
-    /// `Reader(OutOfMemory)` if memory for a list is refused, behind the items before.
-    /// Else those of the reader: after each of them it has failed.
+    /// `OtherMessage`, `NoCompression`, after the bits that are refused.
+    /// `Reader(OutOfMemory)` if memory for a list is refused, after the items before.
+    /// Else the errors of the reader: after each of them it has failed.
     pub fn read<R: BitRead>(reader: &mut R, alloc: Global) -> Result<ClientHello, ClientHelloError>
-        ensures { GrowsOwn R.source becomes_client_hello (client_hello_entry R.source.order) reader.old result reader.new }
+        ensures { GrowsOwn R.source becomes_client_hello (client_hello_decoder R.source.order) reader.old result reader.new }
     {
         reader.read_const::<Bits<8>, Bits<1>, ClientHelloError>(ClientHelloError::OtherMessage)?;
         let size = reader.read::<Bits<24>, u32>()?;
@@ -215,7 +215,7 @@ impl ClientHello {
         })
     }
 
-    /// Returns what bytes begin with.
+    /// Parses the value at the start of `packet`.
     ///
     /// # Errors
     ///
@@ -223,15 +223,15 @@ impl ClientHello {
     /// `Reader(OutOfMemory)` if memory for an item of a list is refused.
     pub fn parse(packet: &[u8], alloc: Global) -> Result<ClientHello, ClientHelloError>
         ensures answer { (OwnAnswer becomes_client_hello (λ answer. answer)
-            (sure_answer ((client_hello_entry High).reads 0 (bits High packet.now))) result)
+            (sure_answer ((client_hello_decoder High).reads 0 (bits High packet.now))) result)
             ⊎ ((result ≡ Err (ClientHelloError.Reader OutOfMemory))
-            × MayAllocate (client_hello_entry High) 0 (bits High packet.now)) }
+            × MayAllocate (client_hello_decoder High) 0 (bits High packet.now)) }
         ensures back { (value : ClientHello) (more : List Bool) → Fits value
-            → bits High packet.now ≡ write_run (client_hello_writes High value) 0 ++ more
+            → bits High packet.now ≡ write_sequence (client_hello_writes High value) 0 ++ more
             → (result ≡ Ok value)
             ⊎ (result ≡ Err (ClientHelloError.Reader OutOfMemory)) }
     {
-        client_hello_goes_back();
+        client_hello_round_trip();
         ClientHello::read(&mut BitReader::<_, BE>::over(packet), alloc)
     }
 
@@ -240,7 +240,7 @@ impl ClientHello {
     /// # Errors
     ///
     /// `Checked` for a field that does not fit its bits. The fields before it are written then.
-    /// Else those of the sink.
+    /// Else the errors of the sink.
     pub fn write<W: BitWrite>(&self, writer: &mut W) -> Result<(), Error>
         ensures { WritesAll W.sink (client_hello_writes W.sink.order self.now) writer.old result writer.new }
     {
@@ -271,7 +271,7 @@ impl ClientHello {
         ensures packed { IfOk result (λ packed. bits High (written_bytes packed) ≡ client_hello_bits self.now) }
         ensures first { IfOk result (HoldsFirst buffer.entry.ghost_name buffer.old) }
         ensures accepted { IsOk result → AllAccepted (client_hello_writes High self.now) 0 }
-        ensures misfit { (error : Error) → run_length (client_hello_writes High self.now) 0 ≡ Err error
+        ensures misfit { (error : Error) → sequence_length (client_hello_writes High self.now) 0 ≡ Err error
             → result ≡ Err error }
         ensures room { Fits self.now → client_hello_size High self.now ≤ 8 * length buffer.old
             → IsOk result }
@@ -291,7 +291,7 @@ impl FromBitStreamUsing for ClientHello {
 
     ghost becomes = { becomes_client_hello };
 
-    ghost reads = { λ o _. client_hello_entry o };
+    ghost reads = { λ o _. client_hello_decoder o };
 
     fn from_reader<R: BitRead>(
         reader: &mut R,
@@ -313,12 +313,12 @@ impl ToBitStream for ClientHello {
     }
 }
 
-/// What fits its bits is read back as it was written, in either order of bits, wherever it stands.
-/// The read takes the bits that were written, and no more: as many as `client_hello_size` says.
-pub fn client_hello_goes_back()
+/// A value that fits its bits is read back as it was written, in either order of bits, at any place.
+/// The read takes only the bits that were written: `client_hello_size` is their number.
+pub fn client_hello_round_trip()
     ensures back { (o : Order) (value : ClientHello) (at from : ℕ) (more : List Bool) → Fits value
-        → let written = write_run (client_hello_writes o value) at in
-        (client_hello_entry o).reads from (written ++ more) ≡ Takes (length written) (Ok (Ok value)) }
+        → let written = write_sequence (client_hello_writes o value) at in
+        (client_hello_decoder o).reads from (written ++ more) ≡ Done (length written) (Ok (Ok value)) }
     ensures size { (o : Order) (value : ClientHello) (at : ℕ) → Fits value
-        → length (write_run (client_hello_writes o value) at) ≡ client_hello_size o value }
+        → length (write_sequence (client_hello_writes o value) at) ≡ client_hello_size o value }
 {}

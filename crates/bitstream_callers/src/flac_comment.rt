@@ -2,7 +2,7 @@
 //! crate's own example has it, but for the allocator.
 ghost use Rattle.std.specs.Prelude.{true};
 ghost use Rattle.std.specs.String.{string_bytes};
-ghost use Rattle.bitstream_io.specs.Callers.{GrowsOwn, seen};
+ghost use Rattle.bitstream_io.specs.Callers.{GrowsOwn, result_map};
 ghost use Rattle.bitstream_callers.specs.FlacComment.{comment_reads, text_reads};
 ghost use Rattle.bitstream_callers.specs.VorbisComment.{becomes_reader};
 
@@ -11,12 +11,12 @@ use bitstream_io::{BitRead, FromBitStreamUsing, LE};
 use std::alloc::Global;
 use std::marker::Model;
 
-/// What is said of a file.
+/// The comment of a file.
 #[derive(Drop)]
 pub struct VorbisComment {
     /// The program that wrote the file.
     pub vendor: String,
-    /// What is said, each as a name, `=` and a text.
+    /// The entries, each as a name, `=` and a text.
     pub comment: Vec<String>,
 }
 
@@ -30,14 +30,14 @@ impl Model for VorbisComment {
     ghost view = { λ c. record { vendor = string_bytes c.vendor; comments = map string_bytes c.comment.items } };
 }
 
-/// Reads a text, behind its length in four bytes.
+/// Reads a text, after its length in four bytes.
 ///
 /// # Errors
 ///
-/// Those of the reader, or that the bytes of the text are not UTF-8. They are read then.
+/// The errors of the reader, or an error for bytes that are not UTF-8. They are read then.
 fn read_entry<R: BitRead>(reader: &mut R, alloc: Global) -> Result<String, CommentError>
     ensures reads { GrowsOwn R.source becomes_reader (text_reads R.source.order)
-        reader.old (seen string_bytes result) reader.new }
+        reader.old (result_map string_bytes result) reader.new }
 {
     let size = reader.read_as_to::<LE, u32>()?;
     let bytes = reader.read_to_vec(alloc, size as usize)?;

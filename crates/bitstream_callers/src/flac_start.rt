@@ -1,13 +1,13 @@
 //! The start of a FLAC file, up to the contents of its first block.
 //!
 //! Made by `./format` from formats/flac_start.fields: edit that file and make this one anew.
-ghost use Rattle.bitstream_callers.specs.FlacStart.{flac_start_entry, flac_start_writes, flac_start_bits, flac_start_at, Fits, becomes_flac_start, const_at_0};
+ghost use Rattle.bitstream_callers.specs.FlacStart.{flac_start_decoder, flac_start_writes, flac_start_bits, flac_start_at, Fits, becomes_flac_start, const_at_0};
 ghost use Rattle.bitstream_callers.specs.declared.flac_start.FlacStart.{FlacStart};
 ghost use Rattle.bitstream_callers.specs.declared.flac_start.FlacStartError.{FlacStartError};
 ghost use Rattle.bitstream_callers.specs.declared.flac_start.FlacStartError.TheVariants.{Reader, NoFlac};
 ghost use Rattle.std.specs.Prelude.{◌≡◌, ◌≢◌, ◌<◌, ◌≤◌, ◌++◌, ℕ, Bool, List, Ok, Err, length, IfOk, IsOk};
 ghost use Rattle.std.specs.declared.io.ErrorKind.TheVariants.{WriteZero};
-ghost use Rattle.bitstream_io.specs.Callers.{Takes, Error, EndOfInput, Order, High, bits, write_run, ReadsOwn, OwnAnswer, WritesAll, run_length, sure_answer, Stream, same_error};
+ghost use Rattle.bitstream_io.specs.Callers.{Done, Error, EndOfInput, Order, High, bits, write_sequence, ReadsOwn, OwnAnswer, WritesAll, sequence_length, sure_answer, Stream, same_error};
 ghost use Rattle.bitstream_io.specs.SliceMut.{HoldsFirst, written_bytes};
 
 use crate::block_header::BlockHeader;
@@ -33,7 +33,7 @@ pub struct FlacStart {
     pub block: BlockHeader,
 }
 
-/// Why a `FlacStart` is not read.
+/// The errors of reading a `FlacStart`.
 #[derive(Debug, Drop, thiserror::Error)]
 pub enum FlacStartError {
     /// An error of the reader.
@@ -53,28 +53,31 @@ impl From<Error> for FlacStartError {
 }
 
 impl FlacStart {
+    /// The number of bits before each line of the description.
+    pub const PLACES: [u64; 2] = [0, 32];
+
     /// Reads the fields in order.
     ///
     /// # Errors
     ///
-    /// `NoFlac`, behind the bits that say so.
-    /// Else those of the reader: after each of them it has failed.
+    /// `NoFlac`, after the bits that are refused.
+    /// Else the errors of the reader: after each of them it has failed.
     pub fn read<R: BitRead>(reader: &mut R) -> Result<FlacStart, FlacStartError>
-        ensures { ReadsOwn R.source becomes_flac_start (flac_start_entry R.source.order) reader.old result reader.new }
+        ensures { ReadsOwn R.source becomes_flac_start (flac_start_decoder R.source.order) reader.old result reader.new }
     {
         reader.read_const::<Bits<32>, Bits<1716281667>, FlacStartError>(FlacStartError::NoFlac)?;
         let block = BlockHeader::read(reader)?;
         Ok(FlacStart { block })
     }
 
-    /// Returns what bytes begin with.
+    /// Parses the value at the start of `packet`.
     ///
     /// # Errors
     ///
     /// `NoFlac`, `Reader(EndOfInput)` for fewer than 8 bytes.
     pub fn parse(packet: &[u8]) -> Result<FlacStart, FlacStartError>
         ensures answer { OwnAnswer becomes_flac_start (λ answer. answer)
-            (sure_answer ((flac_start_entry High).reads 0 (bits High packet.now))) result }
+            (sure_answer ((flac_start_decoder High).reads 0 (bits High packet.now))) result }
         ensures there { 8 ≤ length packet.now → const_at_0 (bits High packet.now) ≡ 1716281667
             → result ≡ Ok (flac_start_at (bits High packet.now)) }
         ensures short { length packet.now < 8
@@ -85,7 +88,7 @@ impl FlacStart {
         ensures back { (value : FlacStart) (more : List Bool) → Fits value
             → bits High packet.now ≡ flac_start_bits value ++ more → result ≡ Ok value }
     {
-        flac_start_goes_back();
+        flac_start_round_trip();
         FlacStart::read(&mut BitReader::<_, BE>::over(packet))
     }
 
@@ -94,7 +97,7 @@ impl FlacStart {
     /// # Errors
     ///
     /// `Checked` for a field that does not fit its bits. The fields before it are written then.
-    /// Else those of the sink.
+    /// Else the errors of the sink.
     pub fn write<W: BitWrite>(&self, writer: &mut W) -> Result<(), Error>
         ensures { WritesAll W.sink (flac_start_writes W.sink.order self.now) writer.old result writer.new }
     {
@@ -115,7 +118,7 @@ impl FlacStart {
         ensures packed { IfOk result (λ packed. bits High (written_bytes packed) ≡ flac_start_bits self.now) }
         ensures first { IfOk result (HoldsFirst buffer.entry.ghost_name buffer.old) }
         ensures fits { IsOk result → Fits self.now }
-        ensures misfit { (error : Error) → run_length (flac_start_writes High self.now) 0 ≡ Err error
+        ensures misfit { (error : Error) → sequence_length (flac_start_writes High self.now) 0 ≡ Err error
             → result ≡ Err error }
         ensures room { Fits self.now → 8 ≤ length buffer.old → IsOk result }
         ensures short { Fits self.now → length buffer.old < 8 → result ≡ Err (Stream WriteZero) }
@@ -129,7 +132,7 @@ impl FromBitStream for FlacStart {
 
     ghost becomes = { becomes_flac_start };
 
-    ghost reads = { flac_start_entry };
+    ghost reads = { flac_start_decoder };
 
     fn from_reader<R: BitRead>(reader: &mut R) -> Result<FlacStart, FlacStartError> {
         FlacStart::read(reader)
@@ -148,12 +151,12 @@ impl ToBitStream for FlacStart {
     }
 }
 
-/// What fits its bits is read back as it was written, in either order of bits, wherever it stands.
-/// The read takes the bits that were written, and no more: 64 bits.
-pub fn flac_start_goes_back()
+/// A value that fits its bits is read back as it was written, in either order of bits, at any place.
+/// The read takes only the bits that were written: 64 bits.
+pub fn flac_start_round_trip()
     ensures back { (o : Order) (value : FlacStart) (at from : ℕ) (more : List Bool) → Fits value
-        → let written = write_run (flac_start_writes o value) at in
-        (flac_start_entry o).reads from (written ++ more) ≡ Takes (length written) (Ok (Ok value)) }
+        → let written = write_sequence (flac_start_writes o value) at in
+        (flac_start_decoder o).reads from (written ++ more) ≡ Done (length written) (Ok (Ok value)) }
     ensures size { (o : Order) (value : FlacStart) (at : ℕ) → Fits value
-        → length (write_run (flac_start_writes o value) at) ≡ 64 }
+        → length (write_sequence (flac_start_writes o value) at) ≡ 64 }
 {}

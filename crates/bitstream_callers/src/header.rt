@@ -1,11 +1,11 @@
-//! What stands before a packet's bytes.
+//! The header before a packet's bytes.
 //!
 //! Made by `./format` from formats/header.fields: edit that file and make this one anew.
-ghost use Rattle.bitstream_callers.specs.Header.{header_entry, header_writes, header_bits, header_at, Fits};
+ghost use Rattle.bitstream_callers.specs.Header.{header_decoder, header_writes, header_bits, header_at, Fits};
 ghost use Rattle.bitstream_callers.specs.declared.header.Header.{Header};
 ghost use Rattle.std.specs.Prelude.{◌≡◌, ◌<◌, ◌≤◌, ◌++◌, ℕ, Bool, List, Ok, Err, length, IfOk, IsOk};
 ghost use Rattle.std.specs.declared.io.ErrorKind.TheVariants.{WriteZero};
-ghost use Rattle.bitstream_io.specs.Callers.{Takes, Error, EndOfInput, Order, High, bits, write_run, Reads, WritesAll, run_length, sure_answer, Stream, same_error, plain_reads};
+ghost use Rattle.bitstream_io.specs.Callers.{Done, Error, EndOfInput, Order, High, bits, write_sequence, Reads, WritesAll, sequence_length, sure_answer, Stream, same_error, plain_reads};
 ghost use Rattle.bitstream_io.specs.SliceMut.{HoldsFirst, written_bytes};
 
 use bitstream_io::{
@@ -13,7 +13,7 @@ use bitstream_io::{
     SliceMut, ToBitStream, pack_into,
 };
 
-/// What stands before a packet's bytes.
+/// The header before a packet's bytes.
 ///
 /// ```text
 ///  0                   1                   2                   3
@@ -26,22 +26,25 @@ use bitstream_io::{
 pub struct Header {
     /// The version of the protocol. Below 2^3.
     pub version: u8,
-    /// Whether the packet is to be acknowledged.
+    /// True if the packet is to be acknowledged.
     pub acknowledge: bool,
-    /// How urgent the packet is. From -8 to 7.
+    /// The urgency of the packet. From -8 to 7.
     pub priority: i8,
     /// The bytes that follow.
     pub length: u16,
 }
 
 impl Header {
+    /// The number of bits before each line of the description.
+    pub const PLACES: [u64; 4] = [0, 3, 4, 8];
+
     /// Reads the fields in order.
     ///
     /// # Errors
     ///
-    /// Those of the reader: after each of them it has failed.
+    /// The errors of the reader: after each of them it has failed.
     pub fn read<R: BitRead>(reader: &mut R) -> Result<Header, Error>
-        ensures { Reads R.source (header_entry R.source.order) reader.old result reader.new }
+        ensures { Reads R.source (header_decoder R.source.order) reader.old result reader.new }
     {
         let version = reader.read::<Bits<3>, u8>()?;
         let acknowledge = reader.read_bit()?;
@@ -55,19 +58,19 @@ impl Header {
         })
     }
 
-    /// Returns what bytes begin with.
+    /// Parses the value at the start of `packet`.
     ///
     /// # Errors
     ///
     /// `EndOfInput` for fewer than 3 bytes.
     pub fn parse(packet: &[u8]) -> Result<Header, Error>
-        ensures answer { result ≡ sure_answer ((header_entry High).reads 0 (bits High packet.now)) }
+        ensures answer { result ≡ sure_answer ((header_decoder High).reads 0 (bits High packet.now)) }
         ensures there { 3 ≤ length packet.now → result ≡ Ok (header_at (bits High packet.now)) }
         ensures short { length packet.now < 3 → result ≡ Err EndOfInput }
         ensures back { (value : Header) (more : List Bool) → Fits value
             → bits High packet.now ≡ header_bits value ++ more → result ≡ Ok value }
     {
-        header_goes_back();
+        header_round_trip();
         Header::read(&mut BitReader::<_, BE>::over(packet))
     }
 
@@ -76,7 +79,7 @@ impl Header {
     /// # Errors
     ///
     /// `Checked` for a field that does not fit its bits. The fields before it are written then.
-    /// Else those of the sink.
+    /// Else the errors of the sink.
     pub fn write<W: BitWrite>(&self, writer: &mut W) -> Result<(), Error>
         ensures { WritesAll W.sink (header_writes W.sink.order self.now) writer.old result writer.new }
     {
@@ -99,7 +102,7 @@ impl Header {
         ensures packed { IfOk result (λ packed. bits High (written_bytes packed) ≡ header_bits self.now) }
         ensures first { IfOk result (HoldsFirst buffer.entry.ghost_name buffer.old) }
         ensures fits { IsOk result → Fits self.now }
-        ensures misfit { (error : Error) → run_length (header_writes High self.now) 0 ≡ Err error
+        ensures misfit { (error : Error) → sequence_length (header_writes High self.now) 0 ≡ Err error
             → result ≡ Err error }
         ensures room { Fits self.now → 3 ≤ length buffer.old → IsOk result }
         ensures short { Fits self.now → length buffer.old < 3 → result ≡ Err (Stream WriteZero) }
@@ -113,7 +116,7 @@ impl FromBitStream for Header {
 
     ghost becomes = { same_error };
 
-    ghost reads = { λ o. plain_reads (header_entry o) };
+    ghost reads = { λ o. plain_reads (header_decoder o) };
 
     fn from_reader<R: BitRead>(reader: &mut R) -> Result<Header, Error> {
         Header::read(reader)
@@ -132,12 +135,12 @@ impl ToBitStream for Header {
     }
 }
 
-/// What fits its bits is read back as it was written, in either order of bits, wherever it stands.
-/// The read takes the bits that were written, and no more: 24 bits.
-pub fn header_goes_back()
+/// A value that fits its bits is read back as it was written, in either order of bits, at any place.
+/// The read takes only the bits that were written: 24 bits.
+pub fn header_round_trip()
     ensures back { (o : Order) (value : Header) (at from : ℕ) (more : List Bool) → Fits value
-        → let written = write_run (header_writes o value) at in
-        (header_entry o).reads from (written ++ more) ≡ Takes (length written) (Ok value) }
+        → let written = write_sequence (header_writes o value) at in
+        (header_decoder o).reads from (written ++ more) ≡ Done (length written) (Ok value) }
     ensures size { (o : Order) (value : Header) (at : ℕ) → Fits value
-        → length (write_run (header_writes o value) at) ≡ 24 }
+        → length (write_sequence (header_writes o value) at) ≡ 24 }
 {}

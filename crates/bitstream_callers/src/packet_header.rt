@@ -1,17 +1,17 @@
-//! The header of a packet of whole bytes, as a type that says how it is read and written.
+//! The header of a packet of whole bytes, as a type with reads and writes of its own.
 ghost use Rattle.bitstream_io.specs.Callers.{same_error};
 ghost use Rattle.bitstream_callers.specs.PacketHeader.{becomes_stream, packet_reads, packet_writes};
 
 use bitstream_io::{ByteRead, ByteWrite, Error, FromByteStream, ToByteStream};
 
-/// What stands before a packet's bytes, behind a byte that states version 1.
+/// The header before a packet's bytes, after a byte that states version 1.
 #[derive(Clone, Copy, Debug, PartialEq)]
 pub struct PacketHeader {
     /// The bytes that follow.
     pub length: u16,
 }
 
-/// Why a header is not read.
+/// The reasons that a header is not read.
 #[derive(Debug, Drop)]
 pub enum PacketError {
     /// An error of the reader.

@@ -1,4 +1,4 @@
-//! A port with bytes of padding behind it, as a type that says how it is read and written as whole bytes.
+//! A port with bytes of padding after it, as a type that is read and written as whole bytes.
 ghost use Rattle.bitstream_io.specs.Callers.{same_error};
 ghost use Rattle.bitstream_callers.specs.PaddedPort.{port_reads, port_writes};
 
@@ -7,7 +7,7 @@ use bitstream_io::{
     ToByteStreamUsing, ToByteStreamWith,
 };
 
-/// A port, which is read and written with the number of bytes of padding that its context says.
+/// A port, which is read and written with a number of bytes of padding from its context.
 #[derive(Clone, Copy, Debug, PartialEq)]
 pub struct PaddedPort {
     /// The number of the port.

@@ -1,4 +1,5 @@
-//! A parameter set with a counted list of parts, as a type that owns memory and says how it is read.
+//! A parameter set with a counted list of parts, as a type that owns memory and has reads of its
+//! own.
 ghost use Rattle.std.specs.Prelude.{true};
 ghost use Rattle.bitstream_io.specs.Callers.{same_error};
 ghost use Rattle.bitstream_callers.specs.ParameterSet.{point_reads, set_reads};
@@ -7,7 +8,7 @@ use bitstream_io::{BitRead, BitReadExt, Bits, Error, FromBitStream, FromBitStrea
 use std::alloc::Global;
 use std::marker::Model;
 
-/// A way to decode a video: which of its layers, and what that takes.
+/// A way to decode a video: its layers, and the capabilities that they need.
 #[derive(Clone, Copy, Debug, PartialEq)]
 pub struct OperatingPoint {
     /// A bit for each layer, below 2^12.
@@ -31,7 +32,7 @@ impl FromBitStream for OperatingPoint {
     }
 }
 
-/// What a video says of itself before its frames.
+/// The parameters of a video, which come before its frames.
 #[derive(Drop)]
 pub struct ParameterSet {
     /// The profile, below 8.

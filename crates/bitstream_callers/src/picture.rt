@@ -1,7 +1,7 @@
-//! The picture of a FLAC file, as types that own memory and say how they are read and written. Their
-//! calls stand one behind the other.
+//! The picture of a FLAC file, as types that own memory and have reads and writes of their own.
+//! Their calls are made one after the other.
 ghost use Rattle.std.specs.Prelude.{◌≡◌, ◌++◌, true, ℕ, Bool, List, length, Ok};
-ghost use Rattle.bitstream_io.specs.Callers.{same_error, WritesAll, Order, Takes, write_run};
+ghost use Rattle.bitstream_io.specs.Callers.{same_error, WritesAll, Order, Done, write_sequence};
 ghost use Rattle.bitstream_callers.specs.Picture.{counted_reads, counted_writes, picture_reads, picture_writes, size_reads, size_writes, IsPicture};
 ghost use Rattle.bitstream_callers.specs.declared.picture.Picture.{Picture};
 
@@ -12,7 +12,7 @@ use bitstream_io::{
 use std::alloc::Global;
 use std::marker::Model;
 
-/// Bytes, behind their number in 32 bits.
+/// Bytes, after their number in 32 bits.
 #[derive(Drop)]
 pub struct CountedBytes {
     /// The bytes, fewer than 2^32.
@@ -45,11 +45,11 @@ impl FromBitStreamUsing for CountedBytes {
     }
 }
 
-/// Writes bytes, behind their number in 32 bits.
+/// Writes bytes, after their number in 32 bits.
 ///
 /// # Errors
 ///
-/// `Checked` for 2^32 bytes or more. Nothing is written then. Else those of the sink.
+/// `Checked` for 2^32 bytes or more. Nothing is written then. Else the errors of the sink.
 pub fn write_counted_bytes<W: BitWrite>(writer: &mut W, bytes: &[u8]) -> Result<(), Error>
     ensures { WritesAll W.sink (counted_writes W.sink.order bytes.now) writer.old result writer.new }
 {
@@ -69,12 +69,12 @@ impl ToBitStream for CountedBytes {
     }
 }
 
-/// How large a picture is.
+/// The size of a picture.
 #[derive(Clone, Copy, Debug, PartialEq)]
 pub struct PictureSize {
-    /// Its width in pixels.
+    /// The width in pixels.
     pub width: u32,
-    /// Its height in pixels.
+    /// The height in pixels.
     pub height: u32,
     /// The bits of a pixel.
     pub depth: u32,
@@ -114,16 +114,16 @@ impl ToBitStream for PictureSize {
     }
 }
 
-/// A picture, as a file has it.
+/// A picture, as it is in a file.
 #[derive(Drop)]
 pub struct Picture {
-    /// What it shows: 3 for a front cover.
+    /// The kind of picture: 3 for a front cover.
     pub kind: u32,
     /// The name of its format, as `image/png`.
     pub media: CountedBytes,
     /// A text in UTF-8.
     pub description: CountedBytes,
-    /// How large it is.
+    /// The size of the picture.
     pub size: PictureSize,
     /// The picture itself.
     pub image: CountedBytes,
@@ -167,10 +167,10 @@ impl ToBitStream for Picture {
     }
 }
 
-/// A picture whose numbers fit their bits is read back as it was written, in either order of bits, wherever
-/// it stands. The read takes the bits that were written, and no more.
-pub fn pictures_go_back()
+/// A picture whose numbers fit their bits is read back as it was written, in either order of bits,
+/// at any place. The read takes only the bits that were written.
+pub fn pictures_round_trip()
     ensures { (o : Order) (picture : Picture) (at from : ℕ) (more : List Bool) → IsPicture picture
-        → let word = write_run (picture_writes o picture) at in
-        (picture_reads o).reads from (word ++ more) ≡ Takes (length word) (Ok (Ok picture)) }
+        → let word = write_sequence (picture_writes o picture) at in
+        (picture_reads o).reads from (word ++ more) ≡ Done (length word) (Ok (Ok picture)) }
 {}

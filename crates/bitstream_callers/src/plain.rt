@@ -1,5 +1,5 @@
-//! Parsers without contracts, of unary numbers, variable widths, constants, prefix codes, bytes, and sums on what was
-//! read.
+//! Parsers without contracts: of unary numbers, variable widths, constants, prefix codes and bytes,
+//! with sums on the values read.
 use bitstream_io::huffman::HuffmanTree;
 use bitstream_io::{BE, BitRead, BitReadExt, BitReader, Bits, Error, LE, LittleEndian};
 use std::alloc::Global;
@@ -25,20 +25,20 @@ pub fn version(packet: &[u8]) -> Result<u8, Error> {
     BitReader::<_, BE>::new(packet).read::<Bits<3>, u8>()
 }
 
-/// What a wheel's sensor measured.
+/// The measurement of a wheel's sensor.
 #[derive(Clone, Copy, Debug, PartialEq)]
 pub struct Turn {
     /// The packets that were lost before this one.
     pub lost: u32,
-    /// How far the wheel turned, backwards if negative.
+    /// The angle turned, negative if backwards.
     pub angle: i16,
 }
 
-/// Returns what a packet says.
+/// Parses the values of a packet.
 ///
 /// # Errors
 ///
-/// Those of the reader.
+/// The errors of the reader.
 pub fn parse_turn(packet: &[u8]) -> Result<Turn, Error> {
     let mut reader = BitReader::endian(packet, LittleEndian);
     Ok(Turn {
@@ -52,7 +52,7 @@ pub fn parse_turn(packet: &[u8]) -> Result<Turn, Error> {
 ///
 /// # Errors
 ///
-/// Those of the reader.
+/// The errors of the reader.
 pub fn picture_size(header: &[u8]) -> Result<(u16, u16), Error> {
     let mut reader = BitReader::<_, LE>::over(header);
     reader.skip(8)?;
@@ -66,7 +66,7 @@ pub fn picture_size(header: &[u8]) -> Result<(u16, u16), Error> {
 ///
 /// # Errors
 ///
-/// Those of the reader.
+/// The errors of the reader.
 pub fn drift(packet: &[u8]) -> Result<(i16, i16), Error> {
     let mut reader = BitReader::<_, BE>::over(packet);
     let now = reader.read::<Bits<12>, i16>()?;
@@ -74,11 +74,11 @@ pub fn drift(packet: &[u8]) -> Result<(i16, i16), Error> {
     Ok((now, now - set * 10))
 }
 
-/// Returns how a wheel turns: not at all, forwards or backwards.
+/// Returns the direction of a wheel: none, forwards or backwards.
 ///
 /// # Errors
 ///
-/// Those of the reader, and `OutOfMemory`.
+/// The errors of the reader, and `OutOfMemory`.
 pub fn direction(alloc: Global, packet: &[u8]) -> Result<char, Error> {
     let idle = HuffmanTree::leaf(alloc, '0')?;
     let forwards = HuffmanTree::leaf(alloc, '+')?;
@@ -87,11 +87,11 @@ pub fn direction(alloc: Global, packet: &[u8]) -> Result<char, Error> {
     BitReader::<_, BE>::new(packet).read_huffman(&code)
 }
 
-/// Returns the data of a chunk. Its length stands first, in 4 bytes, and its kind in 4 more.
+/// Returns the data of a chunk. Its length comes first, in 4 bytes, and then its kind in 4 more.
 ///
 /// # Errors
 ///
-/// Those of the reader.
+/// The errors of the reader.
 pub fn chunk<I: Read + Drop>(alloc: Global, input: I) -> Result<Vec<u8>, Error> {
     let mut reader = BitReader::<_, BE>::new(input);
     let length: u32 = reader.read_to()?;
@@ -99,7 +99,7 @@ pub fn chunk<I: Read + Drop>(alloc: Global, input: I) -> Result<Vec<u8>, Error> 
     reader.read_to_vec(alloc, length as usize)
 }
 
-/// Why a file is no FLAC file.
+/// The reasons that a file is no FLAC file.
 #[derive(Debug, Drop)]
 pub enum FlacError {
     /// An error of the reader.
@@ -118,7 +118,7 @@ impl From<Error> for FlacError {
 ///
 /// # Errors
 ///
-/// `NoFlac`, and those of the reader.
+/// `NoFlac`, and the errors of the reader.
 pub fn first_block<I: Read + Drop>(input: I) -> Result<u32, FlacError> {
     let mut reader = BitReader::<_, BE>::new(input);
     reader.read_const::<Bits<32>, Bits<0x664C_6143>, FlacError>(FlacError::NoFlac)?;

@@ -1,13 +1,13 @@
 //! The primary header of a CCSDS space packet.
 //!
 //! Made by `./format` from formats/primary_header.fields: edit that file and make this one anew.
-ghost use Rattle.bitstream_callers.specs.PrimaryHeader.{primary_header_entry, primary_header_writes, primary_header_bits, primary_header_at, Fits, becomes_primary_header, const_at_0};
+ghost use Rattle.bitstream_callers.specs.PrimaryHeader.{primary_header_decoder, primary_header_writes, primary_header_bits, primary_header_at, Fits, becomes_primary_header, const_at_0};
 ghost use Rattle.bitstream_callers.specs.declared.primary_header.PrimaryHeader.{PrimaryHeader};
 ghost use Rattle.bitstream_callers.specs.declared.primary_header.PrimaryHeaderError.{PrimaryHeaderError};
 ghost use Rattle.bitstream_callers.specs.declared.primary_header.PrimaryHeaderError.TheVariants.{Reader, WrongVersion};
 ghost use Rattle.std.specs.Prelude.{◌≡◌, ◌≢◌, ◌<◌, ◌≤◌, ◌++◌, ℕ, Bool, List, Ok, Err, length, IfOk, IsOk};
 ghost use Rattle.std.specs.declared.io.ErrorKind.TheVariants.{WriteZero};
-ghost use Rattle.bitstream_io.specs.Callers.{Takes, Error, EndOfInput, Order, High, bits, write_run, ReadsOwn, OwnAnswer, WritesAll, run_length, sure_answer, Stream, same_error};
+ghost use Rattle.bitstream_io.specs.Callers.{Done, Error, EndOfInput, Order, High, bits, write_sequence, ReadsOwn, OwnAnswer, WritesAll, sequence_length, sure_answer, Stream, same_error};
 ghost use Rattle.bitstream_io.specs.SliceMut.{HoldsFirst, written_bytes};
 
 use bitstream_io::{
@@ -28,11 +28,11 @@ use bitstream_io::{
 /// ```
 #[derive(Clone, Copy, Debug, PartialEq)]
 pub struct PrimaryHeader {
-    /// Whether the packet is a telecommand, and not telemetry.
+    /// True if the packet is a telecommand, and not telemetry.
     pub telecommand: bool,
-    /// Whether a secondary header follows.
+    /// True if a secondary header follows.
     pub secondary: bool,
-    /// Which application the packet is of. Below 2^11.
+    /// The application of the packet. Below 2^11.
     pub apid: u16,
     /// The sequence flags. Below 2^2.
     pub sequence: u8,
@@ -42,7 +42,7 @@ pub struct PrimaryHeader {
     pub length: u16,
 }
 
-/// Why a `PrimaryHeader` is not read.
+/// The errors of reading a `PrimaryHeader`.
 #[derive(Debug, Drop, thiserror::Error)]
 pub enum PrimaryHeaderError {
     /// An error of the reader.
@@ -62,14 +62,17 @@ impl From<Error> for PrimaryHeaderError {
 }
 
 impl PrimaryHeader {
+    /// The number of bits before each line of the description.
+    pub const PLACES: [u64; 7] = [0, 3, 4, 5, 16, 18, 32];
+
     /// Reads the fields in order.
     ///
     /// # Errors
     ///
-    /// `WrongVersion`, behind the bits that say so.
-    /// Else those of the reader: after each of them it has failed.
+    /// `WrongVersion`, after the bits that are refused.
+    /// Else the errors of the reader: after each of them it has failed.
     pub fn read<R: BitRead>(reader: &mut R) -> Result<PrimaryHeader, PrimaryHeaderError>
-        ensures { ReadsOwn R.source becomes_primary_header (primary_header_entry R.source.order) reader.old result reader.new }
+        ensures { ReadsOwn R.source becomes_primary_header (primary_header_decoder R.source.order) reader.old result reader.new }
     {
         reader.read_const::<Bits<3>, Bits<0>, PrimaryHeaderError>(
             PrimaryHeaderError::WrongVersion,
@@ -90,14 +93,14 @@ impl PrimaryHeader {
         })
     }
 
-    /// Returns what bytes begin with.
+    /// Parses the value at the start of `packet`.
     ///
     /// # Errors
     ///
     /// `WrongVersion`, `Reader(EndOfInput)` for fewer than 6 bytes.
     pub fn parse(packet: &[u8]) -> Result<PrimaryHeader, PrimaryHeaderError>
         ensures answer { OwnAnswer becomes_primary_header (λ answer. answer)
-            (sure_answer ((primary_header_entry High).reads 0 (bits High packet.now))) result }
+            (sure_answer ((primary_header_decoder High).reads 0 (bits High packet.now))) result }
         ensures there { 6 ≤ length packet.now → const_at_0 (bits High packet.now) ≡ 0
             → result ≡ Ok (primary_header_at (bits High packet.now)) }
         ensures short { length packet.now < 6
@@ -108,7 +111,7 @@ impl PrimaryHeader {
         ensures back { (value : PrimaryHeader) (more : List Bool) → Fits value
             → bits High packet.now ≡ primary_header_bits value ++ more → result ≡ Ok value }
     {
-        primary_header_goes_back();
+        primary_header_round_trip();
         PrimaryHeader::read(&mut BitReader::<_, BE>::over(packet))
     }
 
@@ -117,7 +120,7 @@ impl PrimaryHeader {
     /// # Errors
     ///
     /// `Checked` for a field that does not fit its bits. The fields before it are written then.
-    /// Else those of the sink.
+    /// Else the errors of the sink.
     pub fn write<W: BitWrite>(&self, writer: &mut W) -> Result<(), Error>
         ensures { WritesAll W.sink (primary_header_writes W.sink.order self.now) writer.old result writer.new }
     {
@@ -143,7 +146,7 @@ impl PrimaryHeader {
         ensures packed { IfOk result (λ packed. bits High (written_bytes packed) ≡ primary_header_bits self.now) }
         ensures first { IfOk result (HoldsFirst buffer.entry.ghost_name buffer.old) }
         ensures fits { IsOk result → Fits self.now }
-        ensures misfit { (error : Error) → run_length (primary_header_writes High self.now) 0 ≡ Err error
+        ensures misfit { (error : Error) → sequence_length (primary_header_writes High self.now) 0 ≡ Err error
             → result ≡ Err error }
         ensures room { Fits self.now → 6 ≤ length buffer.old → IsOk result }
         ensures short { Fits self.now → length buffer.old < 6 → result ≡ Err (Stream WriteZero) }
@@ -157,7 +160,7 @@ impl FromBitStream for PrimaryHeader {
 
     ghost becomes = { becomes_primary_header };
 
-    ghost reads = { primary_header_entry };
+    ghost reads = { primary_header_decoder };
 
     fn from_reader<R: BitRead>(reader: &mut R) -> Result<PrimaryHeader, PrimaryHeaderError> {
         PrimaryHeader::read(reader)
@@ -176,12 +179,12 @@ impl ToBitStream for PrimaryHeader {
     }
 }
 
-/// What fits its bits is read back as it was written, in either order of bits, wherever it stands.
-/// The read takes the bits that were written, and no more: 48 bits.
-pub fn primary_header_goes_back()
+/// A value that fits its bits is read back as it was written, in either order of bits, at any place.
+/// The read takes only the bits that were written: 48 bits.
+pub fn primary_header_round_trip()
     ensures back { (o : Order) (value : PrimaryHeader) (at from : ℕ) (more : List Bool) → Fits value
-        → let written = write_run (primary_header_writes o value) at in
-        (primary_header_entry o).reads from (written ++ more) ≡ Takes (length written) (Ok (Ok value)) }
+        → let written = write_sequence (primary_header_writes o value) at in
+        (primary_header_decoder o).reads from (written ++ more) ≡ Done (length written) (Ok (Ok value)) }
     ensures size { (o : Order) (value : PrimaryHeader) (at : ℕ) → Fits value
-        → length (write_run (primary_header_writes o value) at) ≡ 48 }
+        → length (write_sequence (primary_header_writes o value) at) ≡ 48 }
 {}

@@ -1,4 +1,4 @@
-//! A sensor's reading, as a type that says how it is read and written in a width that its context says.
+//! A sensor's reading, as a type with reads and writes of its own, in a width from its context.
 ghost use Rattle.bitstream_io.specs.Callers.{same_error};
 ghost use Rattle.bitstream_callers.specs.Reading.{becomes_reader, reading_reads, reading_writes};
 
@@ -7,19 +7,19 @@ use bitstream_io::{
     ToBitStreamUsing, ToBitStreamWith,
 };
 
-/// What a sensor measured. A bit stands before the value, and tells that there is one.
+/// The measurement of a sensor. A bit before the value is 1 if there is a value.
 #[derive(Clone, Copy, Debug, PartialEq)]
 pub struct Reading {
     /// The value.
     pub value: u32,
 }
 
-/// Why a reading is not read.
+/// The reasons that a reading is not read.
 #[derive(Debug, Drop)]
 pub enum ReadingError {
     /// An error of the reader.
     Reader(Error),
-    /// The sensor measured nothing. The bit that says so is read.
+    /// The sensor measured nothing. The bit for that is read.
     Missing,
 }
 

@@ -1,14 +1,14 @@
 //! The fixed header of an RTP packet, and the sources that contributed to it.
 //!
 //! Made by `./format` from formats/rtp_header.fields: edit that file and make this one anew.
-ghost use Rattle.bitstream_callers.specs.RtpHeader.{rtp_header_entry, rtp_header_writes, rtp_header_size, rtp_header_bits, Fits, becomes_rtp_header};
+ghost use Rattle.bitstream_callers.specs.RtpHeader.{rtp_header_decoder, rtp_header_writes, rtp_header_size, rtp_header_bits, Fits, becomes_rtp_header};
 ghost use Rattle.bitstream_callers.specs.declared.rtp_header.RtpHeader.{RtpHeader};
 ghost use Rattle.bitstream_callers.specs.declared.rtp_header.RtpError.{RtpError};
 ghost use Rattle.bitstream_callers.specs.declared.rtp_header.RtpError.TheVariants.{Reader};
 ghost use Rattle.std.specs.Prelude.{◌≡◌, ◌<◌, ◌≤◌, ◌*◌, ◌++◌, ◌∷◌, [], ◌⊎◌, ℕ, Bool, true, List, Ok, Err, length, IfOk, IsOk};
 ghost use Rattle.std.specs.List.{flat_map};
 ghost use Rattle.std.specs.declared.io.ErrorKind.TheVariants.{WriteZero};
-ghost use Rattle.bitstream_io.specs.Callers.{Takes, list_item, Error, Order, High, bits, unsigned_entry, items_entry, unsigned, write_run, OwnAnswer, WritesAll, run_length, sure_answer, GrowsOwn, MayAllocate, OutOfMemory, Stream, seen, same_error};
+ghost use Rattle.bitstream_io.specs.Callers.{Done, list_item, Error, Order, High, bits, unsigned_decoder, items_decoder, unsigned, write_sequence, OwnAnswer, WritesAll, sequence_length, sure_answer, GrowsOwn, MayAllocate, OutOfMemory, Stream, result_map, same_error};
 ghost use Rattle.bitstream_io.specs.Grows.{GrowingOutcome};
 ghost use Rattle.bitstream_io.specs.SliceMut.{HoldsFirst, written_bytes};
 
@@ -36,17 +36,17 @@ use std::marker::Model;
 /// ```
 #[derive(Debug, Drop)]
 pub struct RtpHeader {
-    /// Whether padding stands at the end of the packet.
+    /// True if there is padding at the end of the packet.
     pub padding: bool,
-    /// Whether one extension of the header follows.
+    /// True if one extension of the header follows.
     pub extension: bool,
     /// A mark of the profile's own, as the end of a frame.
     pub marker: bool,
-    /// What the payload is. Below 2^7.
+    /// The type of the payload. Below 2^7.
     pub payload_type: u8,
     /// The number of the packet in its stream.
     pub sequence: u16,
-    /// When the first byte of the payload was sampled.
+    /// The time at which the first byte of the payload was sampled.
     pub timestamp: u32,
     /// The source that the packet is synchronized to.
     pub ssrc: u32,
@@ -71,7 +71,7 @@ impl Model for RtpHeader {
     } };
 }
 
-/// Why a `RtpHeader` is not read.
+/// The errors of reading a `RtpHeader`.
 #[derive(Debug, Drop, thiserror::Error)]
 pub enum RtpError {
     /// An error of the reader.
@@ -90,10 +90,10 @@ impl From<Error> for RtpError {
     }
 }
 
-/// Reads so many items of `csrc`. If memory for one is refused, that one is read, and no more.
+/// Reads `count` items of `csrc`. If memory for one is refused, it is the last one read.
 fn read_csrc<R: BitRead>(reader: &mut R, alloc: Global, count: u64) -> Result<Vec<u32>, Error>
-    ensures { GrowingOutcome R.source (items_entry (list_item (unsigned_entry R.source.order 32 32)) count)
-        reader.old (seen (λ found. found.items) result) reader.new }
+    ensures { GrowingOutcome R.source (items_decoder (list_item (unsigned_decoder R.source.order 32 32)) count)
+        reader.old (result_map (λ found. found.items) result) reader.new }
 {
     let mut found = Vec::new(alloc);
     for _ in 0..count {
@@ -114,15 +114,18 @@ fn write_csrc<W: BitWrite>(writer: &mut W, items: &[u32]) -> Result<(), Error>
 }
 
 impl RtpHeader {
+    /// The number of bits before each line of the description.
+    pub const PLACES: [u64; 10] = [0, 2, 3, 4, 8, 9, 16, 32, 64, 96];
+
     /// Reads the fields in order.
     ///
     /// # Errors
     ///
-    /// `WrongVersion`, behind the bits that say so.
-    /// `Reader(OutOfMemory)` if memory for a list is refused, behind the items before.
-    /// Else those of the reader: after each of them it has failed.
+    /// `WrongVersion`, after the bits that are refused.
+    /// `Reader(OutOfMemory)` if memory for a list is refused, after the items before.
+    /// Else the errors of the reader: after each of them it has failed.
     pub fn read<R: BitRead>(reader: &mut R, alloc: Global) -> Result<RtpHeader, RtpError>
-        ensures { GrowsOwn R.source becomes_rtp_header (rtp_header_entry R.source.order) reader.old result reader.new }
+        ensures { GrowsOwn R.source becomes_rtp_header (rtp_header_decoder R.source.order) reader.old result reader.new }
     {
         reader.read_const::<Bits<2>, Bits<2>, RtpError>(RtpError::WrongVersion)?;
         let padding = reader.read_bit()?;
@@ -146,7 +149,7 @@ impl RtpHeader {
         })
     }
 
-    /// Returns what bytes begin with.
+    /// Parses the value at the start of `packet`.
     ///
     /// # Errors
     ///
@@ -154,15 +157,15 @@ impl RtpHeader {
     /// `Reader(OutOfMemory)` if memory for an item of a list is refused.
     pub fn parse(packet: &[u8], alloc: Global) -> Result<RtpHeader, RtpError>
         ensures answer { (OwnAnswer becomes_rtp_header (λ answer. answer)
-            (sure_answer ((rtp_header_entry High).reads 0 (bits High packet.now))) result)
+            (sure_answer ((rtp_header_decoder High).reads 0 (bits High packet.now))) result)
             ⊎ ((result ≡ Err (RtpError.Reader OutOfMemory))
-            × MayAllocate (rtp_header_entry High) 0 (bits High packet.now)) }
+            × MayAllocate (rtp_header_decoder High) 0 (bits High packet.now)) }
         ensures back { (value : RtpHeader) (more : List Bool) → Fits value
-            → bits High packet.now ≡ write_run (rtp_header_writes High value) 0 ++ more
+            → bits High packet.now ≡ write_sequence (rtp_header_writes High value) 0 ++ more
             → (result ≡ Ok value)
             ⊎ (result ≡ Err (RtpError.Reader OutOfMemory)) }
     {
-        rtp_header_goes_back();
+        rtp_header_round_trip();
         RtpHeader::read(&mut BitReader::<_, BE>::over(packet), alloc)
     }
 
@@ -171,7 +174,7 @@ impl RtpHeader {
     /// # Errors
     ///
     /// `Checked` for a field that does not fit its bits. The fields before it are written then.
-    /// Else those of the sink.
+    /// Else the errors of the sink.
     pub fn write<W: BitWrite>(&self, writer: &mut W) -> Result<(), Error>
         ensures { WritesAll W.sink (rtp_header_writes W.sink.order self.now) writer.old result writer.new }
     {
@@ -200,7 +203,7 @@ impl RtpHeader {
         ensures packed { IfOk result (λ packed. bits High (written_bytes packed) ≡ rtp_header_bits self.now) }
         ensures first { IfOk result (HoldsFirst buffer.entry.ghost_name buffer.old) }
         ensures fits { IsOk result → Fits self.now }
-        ensures misfit { (error : Error) → run_length (rtp_header_writes High self.now) 0 ≡ Err error
+        ensures misfit { (error : Error) → sequence_length (rtp_header_writes High self.now) 0 ≡ Err error
             → result ≡ Err error }
         ensures room { Fits self.now → rtp_header_size High self.now ≤ 8 * length buffer.old
             → IsOk result }
@@ -220,7 +223,7 @@ impl FromBitStreamUsing for RtpHeader {
 
     ghost becomes = { becomes_rtp_header };
 
-    ghost reads = { λ o _. rtp_header_entry o };
+    ghost reads = { λ o _. rtp_header_decoder o };
 
     fn from_reader<R: BitRead>(reader: &mut R, alloc: Global) -> Result<RtpHeader, RtpError> {
         RtpHeader::read(reader, alloc)
@@ -239,12 +242,12 @@ impl ToBitStream for RtpHeader {
     }
 }
 
-/// What fits its bits is read back as it was written, in either order of bits, wherever it stands.
-/// The read takes the bits that were written, and no more: as many as `rtp_header_size` says.
-pub fn rtp_header_goes_back()
+/// A value that fits its bits is read back as it was written, in either order of bits, at any place.
+/// The read takes only the bits that were written: `rtp_header_size` is their number.
+pub fn rtp_header_round_trip()
     ensures back { (o : Order) (value : RtpHeader) (at from : ℕ) (more : List Bool) → Fits value
-        → let written = write_run (rtp_header_writes o value) at in
-        (rtp_header_entry o).reads from (written ++ more) ≡ Takes (length written) (Ok (Ok value)) }
+        → let written = write_sequence (rtp_header_writes o value) at in
+        (rtp_header_decoder o).reads from (written ++ more) ≡ Done (length written) (Ok (Ok value)) }
     ensures size { (o : Order) (value : RtpHeader) (at : ℕ) → Fits value
-        → length (write_run (rtp_header_writes o value) at) ≡ rtp_header_size o value }
+        → length (write_sequence (rtp_header_writes o value) at) ≡ rtp_header_size o value }
 {}

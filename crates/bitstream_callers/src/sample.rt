@@ -1,11 +1,11 @@
-//! What a vehicle's telemetry measured at one time.
+//! A measurement of a vehicle's telemetry at one time.
 //!
 //! Made by `./format` from formats/sample.fields: edit that file and make this one anew.
-ghost use Rattle.bitstream_callers.specs.Sample.{sample_entry, sample_writes, sample_bits, sample_at, Fits};
+ghost use Rattle.bitstream_callers.specs.Sample.{sample_decoder, sample_writes, sample_bits, sample_at, Fits};
 ghost use Rattle.bitstream_callers.specs.declared.sample.Sample.{Sample};
 ghost use Rattle.std.specs.Prelude.{◌≡◌, ◌<◌, ◌≤◌, ◌++◌, ℕ, Bool, List, Ok, Err, length, IfOk, IsOk};
 ghost use Rattle.std.specs.declared.io.ErrorKind.TheVariants.{WriteZero};
-ghost use Rattle.bitstream_io.specs.Callers.{Takes, Error, EndOfInput, Order, High, bits, write_run, Reads, WritesAll, run_length, sure_answer, Stream, same_error, plain_reads};
+ghost use Rattle.bitstream_io.specs.Callers.{Done, Error, EndOfInput, Order, High, bits, write_sequence, Reads, WritesAll, sequence_length, sure_answer, Stream, same_error, plain_reads};
 ghost use Rattle.bitstream_io.specs.SliceMut.{HoldsFirst, written_bytes};
 
 use bitstream_io::{
@@ -13,7 +13,7 @@ use bitstream_io::{
     SliceMut, ToBitStream, pack_into,
 };
 
-/// What a vehicle's telemetry measured at one time.
+/// A measurement of a vehicle's telemetry at one time.
 ///
 /// ```text
 ///  0                   1                   2                   3
@@ -28,7 +28,7 @@ use bitstream_io::{
 pub struct Sample {
     /// Seconds since the start. Below 2^20.
     pub seconds: u32,
-    /// Whether the engine runs.
+    /// True if the engine runs.
     pub running: bool,
     /// Degrees Celsius. From -256 to 255.
     pub temperature: i16,
@@ -37,13 +37,16 @@ pub struct Sample {
 }
 
 impl Sample {
+    /// The number of bits before each line of the description.
+    pub const PLACES: [u64; 4] = [0, 20, 21, 30];
+
     /// Reads the fields in order.
     ///
     /// # Errors
     ///
-    /// Those of the reader: after each of them it has failed.
+    /// The errors of the reader: after each of them it has failed.
     pub fn read<R: BitRead>(reader: &mut R) -> Result<Sample, Error>
-        ensures { Reads R.source (sample_entry R.source.order) reader.old result reader.new }
+        ensures { Reads R.source (sample_decoder R.source.order) reader.old result reader.new }
     {
         let seconds = reader.read::<Bits<20>, u32>()?;
         let running = reader.read_bit()?;
@@ -57,19 +60,19 @@ impl Sample {
         })
     }
 
-    /// Returns what bytes begin with.
+    /// Parses the value at the start of `packet`.
     ///
     /// # Errors
     ///
     /// `EndOfInput` for fewer than 6 bytes.
     pub fn parse(packet: &[u8]) -> Result<Sample, Error>
-        ensures answer { result ≡ sure_answer ((sample_entry High).reads 0 (bits High packet.now)) }
+        ensures answer { result ≡ sure_answer ((sample_decoder High).reads 0 (bits High packet.now)) }
         ensures there { 6 ≤ length packet.now → result ≡ Ok (sample_at (bits High packet.now)) }
         ensures short { length packet.now < 6 → result ≡ Err EndOfInput }
         ensures back { (value : Sample) (more : List Bool) → Fits value
             → bits High packet.now ≡ sample_bits value ++ more → result ≡ Ok value }
     {
-        sample_goes_back();
+        sample_round_trip();
         Sample::read(&mut BitReader::<_, BE>::over(packet))
     }
 
@@ -78,7 +81,7 @@ impl Sample {
     /// # Errors
     ///
     /// `Checked` for a field that does not fit its bits. The fields before it are written then.
-    /// Else those of the sink.
+    /// Else the errors of the sink.
     pub fn write<W: BitWrite>(&self, writer: &mut W) -> Result<(), Error>
         ensures { WritesAll W.sink (sample_writes W.sink.order self.now) writer.old result writer.new }
     {
@@ -101,7 +104,7 @@ impl Sample {
         ensures packed { IfOk result (λ packed. bits High (written_bytes packed) ≡ sample_bits self.now) }
         ensures first { IfOk result (HoldsFirst buffer.entry.ghost_name buffer.old) }
         ensures fits { IsOk result → Fits self.now }
-        ensures misfit { (error : Error) → run_length (sample_writes High self.now) 0 ≡ Err error
+        ensures misfit { (error : Error) → sequence_length (sample_writes High self.now) 0 ≡ Err error
             → result ≡ Err error }
         ensures room { Fits self.now → 6 ≤ length buffer.old → IsOk result }
         ensures short { Fits self.now → length buffer.old < 6 → result ≡ Err (Stream WriteZero) }
@@ -115,7 +118,7 @@ impl FromBitStream for Sample {
 
     ghost becomes = { same_error };
 
-    ghost reads = { λ o. plain_reads (sample_entry o) };
+    ghost reads = { λ o. plain_reads (sample_decoder o) };
 
     fn from_reader<R: BitRead>(reader: &mut R) -> Result<Sample, Error> {
         Sample::read(reader)
@@ -134,12 +137,12 @@ impl ToBitStream for Sample {
     }
 }
 
-/// What fits its bits is read back as it was written, in either order of bits, wherever it stands.
-/// The read takes the bits that were written, and no more: 48 bits.
-pub fn sample_goes_back()
+/// A value that fits its bits is read back as it was written, in either order of bits, at any place.
+/// The read takes only the bits that were written: 48 bits.
+pub fn sample_round_trip()
     ensures back { (o : Order) (value : Sample) (at from : ℕ) (more : List Bool) → Fits value
-        → let written = write_run (sample_writes o value) at in
-        (sample_entry o).reads from (written ++ more) ≡ Takes (length written) (Ok value) }
+        → let written = write_sequence (sample_writes o value) at in
+        (sample_decoder o).reads from (written ++ more) ≡ Done (length written) (Ok value) }
     ensures size { (o : Order) (value : Sample) (at : ℕ) → Fits value
-        → length (write_run (sample_writes o value) at) ≡ 48 }
+        → length (write_sequence (sample_writes o value) at) ≡ 48 }
 {}

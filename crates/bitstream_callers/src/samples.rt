@@ -1,25 +1,25 @@
 //! Samples of 12 bits, in a vector.
 ghost use Rattle.std.specs.Prelude.{◌≡◌, ◌⊎◌, ◌++◌, ◌*◌, ◌^◌, ◌<◌, ◌≤◌, ℕ, Bool, List, Ok, Err, length};
 ghost use Rattle.std.specs.List.{All};
-ghost use Rattle.bitstream_io.specs.Callers.{Takes, EndOfInput, OutOfMemory, seen, Reads, write_run, WritesAll, Order, High, bits};
-ghost use Rattle.bitstream_callers.specs.Samples.{ReadSome, samples_entry, samples_in, samples_writes};
+ghost use Rattle.bitstream_io.specs.Callers.{Done, EndOfInput, OutOfMemory, result_map, Reads, write_sequence, WritesAll, Order, High, bits};
+ghost use Rattle.bitstream_callers.specs.Samples.{ReadSome, samples_decoder, samples_in, samples_writes};
 
 use bitstream_io::{BE, BitRead, BitReadExt, BitReader, BitWrite, BitWriteExt, Bits, Error};
 use std::alloc::Global;
 
-/// Reads the given number of samples.
+/// Reads `count` samples.
 ///
 /// # Errors
 ///
-/// Those of the reader; and `OutOfMemory` if the vector is refused memory. Some of the samples are
-/// read then, and the reader goes on.
+/// The errors of the reader; and `OutOfMemory` if the vector is refused memory. Some of the samples
+/// are read then, and the reader continues.
 pub fn read_samples<R: BitRead>(
     alloc: Global,
     reader: &mut R,
     count: usize,
 ) -> Result<Vec<u16>, Error>
-    ensures { Reads R.source (samples_entry R.source.order count)
-        reader.old (seen (λ samples. samples.items) result) reader.new
+    ensures { Reads R.source (samples_decoder R.source.order count)
+        reader.old (result_map (λ samples. samples.items) result) reader.new
         ⊎ ((result ≡ Err OutOfMemory) × ReadSome R.source count reader.old reader.new) }
 {
     let mut samples = Vec::new(alloc);
@@ -37,7 +37,7 @@ pub fn read_samples<R: BitRead>(
 pub fn parse_samples(alloc: Global, bytes: &[u8], count: usize) -> Result<Vec<u16>, Error>
     ensures there { count * 12 ≤ 8 * length bytes.now
         → (result ≡ Err OutOfMemory)
-        ⊎ (seen (λ samples. samples.items) result ≡ Ok (samples_in count (bits High bytes.now))) }
+        ⊎ (result_map (λ samples. samples.items) result ≡ Ok (samples_in count (bits High bytes.now))) }
     ensures short { 8 * length bytes.now < count * 12
         → (result ≡ Err OutOfMemory) ⊎ (result ≡ Err EndOfInput) }
 {
@@ -48,7 +48,8 @@ pub fn parse_samples(alloc: Global, bytes: &[u8], count: usize) -> Result<Vec<u1
 ///
 /// # Errors
 ///
-/// `Checked` for a sample of 2^12 or more. Those before it are written then. Else those of the sink.
+/// `Checked` for a sample of 2^12 or more. The samples before it are written then. Else the errors
+/// of the sink.
 pub fn write_samples<W: BitWrite>(writer: &mut W, samples: &[u16]) -> Result<(), Error>
     ensures { WritesAll W.sink (samples_writes W.sink.order samples.now)
         writer.old result writer.new }
@@ -59,12 +60,12 @@ pub fn write_samples<W: BitWrite>(writer: &mut W, samples: &[u16]) -> Result<(),
     Ok(())
 }
 
-/// Samples that fit their bits are read back as they were written, in either order of bits, wherever
-/// they stand.
-pub fn samples_go_back()
+/// Samples that fit their bits are read back as they were written, in either order of bits, at any
+/// place.
+pub fn samples_round_trip()
     ensures { (o : Order) (samples : List ℕ) (at from : ℕ) (more : List Bool)
         → All (λ sample. sample < 2 ^ 12) samples
-        → let word = write_run (samples_writes o samples) at in
-        (samples_entry o (length samples)).reads from (word ++ more)
-        ≡ Takes (length word) (Ok samples) }
+        → let word = write_sequence (samples_writes o samples) at in
+        (samples_decoder o (length samples)).reads from (word ++ more)
+        ≡ Done (length word) (Ok samples) }
 {}

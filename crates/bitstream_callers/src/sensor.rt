@@ -1,15 +1,15 @@
 //! A measurement of a wheel's sensor: a unary number, numbers of variable width, and a prefix code.
 ghost use Rattle.std.specs.Prelude.{◌≡◌, ◌++◌, ℕ, Bool, List, Ok, IfOk, length};
-ghost use Rattle.bitstream_io.specs.Callers.{Takes, Reads, sure_answer, write_run, WritesAll, Order, High, bits};
+ghost use Rattle.bitstream_io.specs.Callers.{Done, Reads, sure_answer, write_sequence, WritesAll, Order, High, bits};
 ghost use Rattle.bitstream_io.specs.HuffmanTree.{tree_of};
 ghost use Rattle.bitstream_callers.specs.declared.sensor.Measurement.{Measurement};
-ghost use Rattle.bitstream_callers.specs.Sensor.{Fits, measurement_entry, measurement_writes, state_tree};
+ghost use Rattle.bitstream_callers.specs.Sensor.{Fits, measurement_decoder, measurement_writes, state_tree};
 
 use bitstream_io::huffman::HuffmanTree;
 use bitstream_io::{BE, BitRead, BitReadExt, BitReader, BitWrite, BitWriteExt, Bits, Error};
 use std::alloc::{AllocError, Global};
 
-/// How a wheel turns.
+/// The motion of a wheel.
 #[derive(Clone, Copy, Debug, PartialEq, Eq)]
 pub enum State {
     /// Not at all.
@@ -25,16 +25,16 @@ pub enum State {
 /// A code of the states.
 pub type StateCode = HuffmanTree<State, Global>;
 
-/// What is measured at one time.
+/// A measurement at one time.
 #[derive(Clone, Copy, Debug, PartialEq)]
 pub struct Measurement {
     /// The measurements that were lost before this one.
     pub missed: u32,
-    /// How far the wheel turned since the start.
+    /// The distance since the start.
     pub distance: u32,
-    /// How far it turned since the last measurement, backwards if negative.
+    /// The turn since the last measurement, negative if backwards.
     pub turn: i16,
-    /// How it turns.
+    /// The motion of the wheel.
     pub state: State,
 }
 
@@ -59,11 +59,11 @@ impl Measurement {
     ///
     /// # Errors
     ///
-    /// Those of the reader. `VariableWidthOverflow` and `RedundantGroup` for numbers that are not
-    /// written so.
+    /// The errors of the reader. `VariableWidthOverflow` and `RedundantGroup` for numbers in
+    /// another form.
     pub fn read<R: BitRead>(code: &StateCode, reader: &mut R) -> Result<Measurement, Error>
         requires { tree_of code.now ≡ state_tree }
-        ensures { Reads R.source (measurement_entry R.source.order) reader.old result reader.new }
+        ensures { Reads R.source (measurement_decoder R.source.order) reader.old result reader.new }
     {
         Ok(Measurement {
             missed: reader.read_unary::<Bits<0>>()?,
@@ -77,16 +77,16 @@ impl Measurement {
     ///
     /// # Errors
     ///
-    /// Those of `read`, of which `EndOfInput` is the only one of the stream.
+    /// The errors of `read`: `EndOfInput` is the only one of the stream.
     pub fn parse(code: &StateCode, packet: &[u8]) -> Result<Measurement, Error>
         requires { tree_of code.now ≡ state_tree }
         ensures answer { result
-            ≡ sure_answer ((measurement_entry High).reads 0 (bits High packet.now)) }
+            ≡ sure_answer ((measurement_decoder High).reads 0 (bits High packet.now)) }
         ensures back { (measurement : Measurement) (more : List Bool) → Fits measurement
-            → bits High packet.now ≡ write_run (measurement_writes High measurement) 0 ++ more
+            → bits High packet.now ≡ write_sequence (measurement_writes High measurement) 0 ++ more
             → result ≡ Ok measurement }
     {
-        measurements_go_back();
+        measurements_round_trip();
         Measurement::read(code, &mut BitReader::<_, BE>::over(packet))
     }
 
@@ -94,7 +94,7 @@ impl Measurement {
     ///
     /// # Errors
     ///
-    /// Those of the sink.
+    /// The errors of the sink.
     pub fn write<W: BitWrite>(&self, code: &StateCode, writer: &mut W) -> Result<(), Error>
         requires { tree_of code.now ≡ state_tree }
         ensures { WritesAll W.sink (measurement_writes W.sink.order self.now)
@@ -107,10 +107,10 @@ impl Measurement {
     }
 }
 
-/// A measurement is read back as it was written, in either order of bits, wherever it stands.
-pub fn measurements_go_back()
+/// A measurement is read back as it was written, in either order of bits, at any place.
+pub fn measurements_round_trip()
     ensures { (o : Order) (measurement : Measurement) (at from : ℕ) (more : List Bool)
         → Fits measurement
-        → let word = write_run (measurement_writes o measurement) at in
-        (measurement_entry o).reads from (word ++ more) ≡ Takes (length word) (Ok measurement) }
+        → let word = write_sequence (measurement_writes o measurement) at in
+        (measurement_decoder o).reads from (word ++ more) ≡ Done (length word) (Ok measurement) }
 {}

@@ -1,11 +1,11 @@
 //! The beginning of a sequence parameter set of H.264, with errors of its own.
 ghost use Rattle.bitstream_io.specs.Callers.{OwnAnswer, ReadsOwn, sure_answer, High, bits};
-ghost use Rattle.bitstream_callers.specs.Sps.{becomes_sps, sps_entry};
+ghost use Rattle.bitstream_callers.specs.Sps.{becomes_sps, sps_decoder};
 
 use bitstream_io::golomb::read_ue;
 use bitstream_io::{BE, BitRead, BitReadExt, BitReader, Bits, Error};
 
-/// What a parameter set says of the frames, up to their size.
+/// The fields of a parameter set on the frames, up to their size.
 #[derive(Clone, Copy, Debug, PartialEq)]
 pub struct Sps {
     /// The profile.
@@ -20,7 +20,7 @@ pub struct Sps {
     pub frame_number_bits: u32,
     /// The frames that are kept for reference.
     pub reference_frames: u32,
-    /// Whether numbers of frames may be left out.
+    /// True if frame numbers may be left out.
     pub gaps: bool,
     /// The macroblocks in a row.
     pub width: u32,
@@ -28,14 +28,14 @@ pub struct Sps {
     pub height: u32,
 }
 
-/// Why a parameter set is not read.
+/// The reasons that a parameter set is not read.
 #[derive(Debug, Drop)]
 pub enum SpsError {
     /// An error of the reader.
     Reader(Error),
-    /// The unit is no sequence parameter set. The byte that says so is read.
+    /// The unit is no sequence parameter set. Its first byte is read.
     OtherUnit,
-    /// The order of the frames is coded in another way than that of decoding. That is read.
+    /// The type of the picture order count is not 2, the order of decoding. The type is read.
     UnsupportedOrder,
 }
 
@@ -52,9 +52,9 @@ impl Sps {
     ///
     /// # Errors
     ///
-    /// `OtherUnit`, `UnsupportedOrder`, and those of the reader.
+    /// `OtherUnit`, `UnsupportedOrder`, and the errors of the reader.
     pub fn read<R: BitRead>(reader: &mut R) -> Result<Sps, SpsError>
-        ensures { ReadsOwn R.source becomes_sps (sps_entry R.source.order) reader.old result reader.new }
+        ensures { ReadsOwn R.source becomes_sps (sps_decoder R.source.order) reader.old result reader.new }
     {
         reader.read_const::<Bits<8>, Bits<0x67>, SpsError>(SpsError::OtherUnit)?;
         let profile = reader.read::<Bits<8>, u8>()?;
@@ -79,15 +79,15 @@ impl Sps {
         })
     }
 
-    /// Returns what the bytes of a unit say, up to the size.
+    /// Parses a unit up to the size.
     ///
     /// # Errors
     ///
-    /// `OtherUnit`, `UnsupportedOrder`, and those of the reader, of which `EndOfInput` is the only one
+    /// `OtherUnit`, `UnsupportedOrder`, and the errors of the reader: `EndOfInput` is the only one
     /// of the stream.
     pub fn parse(unit: &[u8]) -> Result<Sps, SpsError>
         ensures { OwnAnswer becomes_sps (λ answer. answer)
-            (sure_answer ((sps_entry High).reads 0 (bits High unit.now))) result }
+            (sure_answer ((sps_decoder High).reads 0 (bits High unit.now))) result }
     {
         Sps::read(&mut BitReader::<_, BE>::over(unit))
     }

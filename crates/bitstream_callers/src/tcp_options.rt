@@ -1,17 +1,17 @@
-//! The options of a TCP header, by a parser that holds its reader beside what it fills.
+//! The options of a TCP header, by a parser with its reader and the options that it fills.
 ghost use Rattle.bitstream_io.specs.Callers.{Reads, High, memory_source};
-ghost use Rattle.bitstream_callers.specs.TcpOptions.{option_entry};
+ghost use Rattle.bitstream_callers.specs.TcpOptions.{option_decoder};
 
 use bitstream_io::{BE, BitRead, BitReadExt, Bits, Error, SliceReader};
 
-/// What the options say that are known here.
+/// The options that are known here.
 #[derive(Clone, Copy, Debug, PartialEq)]
 pub struct TcpOptions {
     /// The most bytes of a segment.
     pub maximum_segment: Option<u16>,
-    /// By how many bits the window is shifted.
+    /// The number of bits by which the window is shifted.
     pub window_scale: Option<u8>,
-    /// Whether selective acknowledgements are permitted.
+    /// True if selective acknowledgements are permitted.
     pub selective: bool,
 }
 
@@ -23,9 +23,10 @@ struct Parser<'a, 'b> {
 }
 
 impl Parser<'_, '_> {
-    /// Reads an option, and tells whether another one may follow. One of a length below 2 is the last.
+    /// Reads an option, and returns true if another one may follow. An option of a length below 2
+    /// is the last.
     fn next(&mut self) -> Result<bool, Error>
-        ensures { Reads (memory_source High) option_entry self.old.reader result self.new.reader }
+        ensures { Reads (memory_source High) option_decoder self.old.reader result self.new.reader }
     {
         let kind = self.reader.read::<Bits<8>, u8>()?;
         if kind <= 1 {
@@ -41,7 +42,7 @@ impl Parser<'_, '_> {
     }
 }
 
-/// Notes what the data of an option say. Data that are too short say nothing.
+/// Fills in the value of an option from its data. Data that are too short change nothing.
 fn note(options: &mut TcpOptions, kind: u8, data: &mut SliceReader<BE>) {
     match kind {
         2 => options.maximum_segment = data.read::<Bits<16>, u16>().ok(),
@@ -61,7 +62,7 @@ fn read_options(parser: &mut Parser) -> Result<(), Error> {
     Ok(())
 }
 
-/// Notes what the options of a header say, and returns the bytes behind the last one.
+/// Fills in the options of a header, and returns the bytes after the last option.
 ///
 /// # Errors
 ///

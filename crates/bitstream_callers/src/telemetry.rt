@@ -1,6 +1,7 @@
-//! Heartbeats, and samples of a vehicle's telemetry in a vector and behind their length.
-ghost use Rattle.std.specs.Prelude.{◌≡◌, ◌<◌, ◌^◌, IfErr, IfOk, IsOk, length};
-ghost use Rattle.bitstream_io.specs.Callers.{write_run, High, align, bits};
+//! Heartbeats, and samples of a vehicle's telemetry in vectors: plain, or in frames that begin with
+//! their length.
+ghost use Rattle.std.specs.Prelude.{◌≡◌, ◌<◌, ◌^◌, Err, IfErr, IfOk, IsOk, length};
+ghost use Rattle.bitstream_io.specs.Callers.{write_sequence, sequence_length, High, align, bits};
 ghost use Rattle.bitstream_callers.specs.Sample.{Fits, sample_bits, sample_writes};
 ghost use Rattle.bitstream_callers.specs.Telemetry.{IsMisfitOrMemory, framed_bits, heartbeat_writes};
 
@@ -14,7 +15,7 @@ use std::alloc::Global;
 ///
 /// `Checked` for a number of 128 or more, or `OutOfMemory`.
 pub fn heartbeat(alloc: Global, number: u8, well: bool) -> Result<Vec<u8>, Error>
-    ensures packed { IfOk result (λ bytes. bits High bytes.items ≡ write_run (heartbeat_writes number well) 0) }
+    ensures packed { IfOk result (λ bytes. bits High bytes.items ≡ write_sequence (heartbeat_writes number well) 0) }
     ensures fits { IsOk result → number < 2 ^ 7 }
     ensures refused { IfErr result (IsMisfitOrMemory (heartbeat_writes number well)) }
 {
@@ -46,11 +47,13 @@ impl Sample {
     ///
     /// # Errors
     ///
-    /// `Checked` for a field that its bits do not hold.
+    /// `Checked` for the first field that does not fit its bits.
     pub fn bits(&self) -> Result<u8, Error>
         ensures count { IfOk result
-            (λ bits. bits ≡ length (write_run (sample_writes High self.now) 0)) }
+            (λ bits. bits ≡ length (write_sequence (sample_writes High self.now) 0)) }
         ensures fits { IsOk result → Fits self.now }
+        ensures refused { IfErr result
+            (λ error. sequence_length (sample_writes High self.now) 0 ≡ Err error) }
     {
         let mut counter = BitsWritten::<u8>::new();
         self.write(&mut counter)?;
@@ -62,10 +65,11 @@ impl Sample {
     ///
     /// # Errors
     ///
-    /// `Checked` for a field that its bits do not hold, `OutOfMemory`.
+    /// `Checked` for the first field that does not fit its bits, or `OutOfMemory`.
     pub fn frame(&self, alloc: Global) -> Result<Vec<u8>, Error>
         ensures packed { IfOk result (λ bytes. bits High bytes.items ≡ framed_bits self.now) }
         ensures fits { IsOk result → Fits self.now }
+        ensures refused { IfErr result (IsMisfitOrMemory (sample_writes High self.now)) }
     {
         let size = self.bits()?;
         let mut bytes = Vec::new(alloc);

@@ -1,6 +1,7 @@
-//! The Vorbis comment of a FLAC file, as types that own memory and say how they are read from whole bytes.
+//! The Vorbis comment of a FLAC file, as types that own memory and have reads of their own, of
+//! whole bytes.
 ghost use Rattle.std.specs.Prelude.{◌≡◌, ◌++◌, true, ℕ, List, length, Ok};
-ghost use Rattle.bitstream_io.specs.Callers.{OutOfMemory, Takes};
+ghost use Rattle.bitstream_io.specs.Callers.{OutOfMemory, Done};
 ghost use Rattle.bitstream_callers.specs.VorbisComment.{becomes_reader, comment_bytes, comment_reads, IsComment, text_reads};
 ghost use Rattle.bitstream_callers.specs.VorbisTexts.{Comment};
 ghost use Rattle.bitstream_callers.specs.declared.vorbis_comment.CommentError.TheVariants.{Reader};
@@ -9,7 +10,7 @@ use bitstream_io::{ByteRead, ByteReadExt, Error, FromByteStreamUsing, LE};
 use std::alloc::{AllocFailed, Global};
 use std::marker::Model;
 
-/// Why a comment is not read.
+/// The reasons that a comment is not read.
 #[derive(Debug, Drop)]
 pub enum CommentError {
     /// An error of the reader; `OutOfMemory` also if memory for the list of texts is refused.
@@ -34,7 +35,7 @@ impl<T: Drop> From<AllocFailed<T>> for CommentError {
     }
 }
 
-/// A text, behind its length in four bytes.
+/// A text, after its length in four bytes.
 #[derive(Drop)]
 pub struct Text {
     /// The text.
@@ -71,12 +72,12 @@ impl FromByteStreamUsing for Text {
     }
 }
 
-/// What is said of a file.
+/// The comment of a file.
 #[derive(Drop)]
 pub struct VorbisComment {
     /// The program that wrote the file.
     pub vendor: Text,
-    /// What is said, each as a name, `=` and a text.
+    /// The entries, each as a name, `=` and a text.
     pub comments: Vec<Text>,
 }
 
@@ -113,10 +114,10 @@ impl FromByteStreamUsing for VorbisComment {
     }
 }
 
-/// A comment whose texts are UTF-8 and whose lengths fit their four bytes is read back from the bytes
-/// that the format has for it. The read takes them, and no more.
-pub fn comments_go_back()
+/// A comment whose texts are UTF-8 and whose lengths fit their four bytes is read back from the
+/// bytes that the format has for it. The read takes only these bytes.
+pub fn comments_round_trip()
     ensures { (comment : Comment) (more : List ℕ) → IsComment comment
         → comment_reads.reads (comment_bytes comment ++ more)
-        ≡ Takes (length (comment_bytes comment)) (Ok (Ok comment)) }
+        ≡ Done (length (comment_bytes comment)) (Ok (Ok comment)) }
 {}

@@ -2,7 +2,7 @@
 use Rattle.std.proofs.Common.{◌≡◌, ℕ, zero, suc, ◌+◌, ◌^◌, ◌<◌, ◌≤◌, Bool, true, false, not, List, [], ◌∷◌, ◌++◌, length, take, replicate, Ok, Err, refl, sym, ap, ◌∙◌, subst, arith, inl, inr, append-nil, append_assoc, length-append}
 use Rattle.std.proofs.lemmas.Bool.{cases_lt, lt-ltb, le-ltb}
 use Rattle.std.proofs.lemmas.List.{length-replicate, replicate-append-replicate}
-use Rattle.bitstream_count.specs.Entry.{TooFew, Takes}
+use Rattle.bitstream_count.specs.Codec.{Incomplete, Done}
 use Rattle.bitstream_count.specs.declared.error.Error.{Error}
 use Rattle.bitstream_count.specs.declared.error.Error.TheVariants.{RunTooLong}
 use Rattle.bitstream_count.specs.Unary.{unary, lead, read_unary}
@@ -47,13 +47,13 @@ lead_le false (true ∷ bits) = omega (arith, lead_le false bits)
 lead_le false (false ∷ bits) = omega arith
 
 -- bits that come before a stop bit
-lead_front : (stop : Bool) (front back : List Bool) → length front ≤ lead stop (front ++ back) → lead stop front
-    ≡ length front
-lead_front stop [] back h = refl
-lead_front true (true ∷ front) back h = absurd (omega arith)
-lead_front true (false ∷ front) back h = ap suc (lead_front true front back (omega arith))
-lead_front false (true ∷ front) back h = ap suc (lead_front false front back (omega arith))
-lead_front false (false ∷ front) back h = absurd (omega arith)
+lead_prefix : (stop : Bool) (prefix back : List Bool) → length prefix ≤ lead stop (prefix ++ back) → lead stop prefix
+    ≡ length prefix
+lead_prefix stop [] back h = refl
+lead_prefix true (true ∷ prefix) back h = absurd (omega arith)
+lead_prefix true (false ∷ prefix) back h = ap suc (lead_prefix true prefix back (omega arith))
+lead_prefix false (true ∷ prefix) back h = ap suc (lead_prefix false prefix back (omega arith))
+lead_prefix false (false ∷ prefix) back h = absurd (omega arith)
 
 -- the first digits of a run
 pub take_others : (stop : Bool) (n : ℕ) (bits : List Bool) → n ≤ lead stop bits → take n bits ≡ replicate n (not stop)
@@ -65,51 +65,51 @@ take_others false (suc n) (true ∷ bits) h = ap (λ l. true ∷ l) (take_others
 take_others false (suc n) (false ∷ bits) h = absurd (omega arith)
 
 -- a run that ends within the bits
-pub front_is_unary : (stop : Bool) (bits : List Bool) → lead stop bits < length bits → take (suc (lead stop bits)) bits
+pub prefix_is_unary : (stop : Bool) (bits : List Bool) → lead stop bits < length bits → take (suc (lead stop bits)) bits
     ≡ unary stop (lead stop bits)
-front_is_unary stop [] h = absurd (omega arith)
-front_is_unary true (true ∷ bits) h = refl
-front_is_unary true (false ∷ bits) h = ap (λ l. false ∷ l) (front_is_unary true bits (omega arith))
-front_is_unary false (true ∷ bits) h = ap (λ l. true ∷ l) (front_is_unary false bits (omega arith))
-front_is_unary false (false ∷ bits) h = refl
+prefix_is_unary stop [] h = absurd (omega arith)
+prefix_is_unary true (true ∷ bits) h = refl
+prefix_is_unary true (false ∷ bits) h = ap (λ l. false ∷ l) (prefix_is_unary true bits (omega arith))
+prefix_is_unary false (true ∷ bits) h = ap (λ l. true ∷ l) (prefix_is_unary false bits (omega arith))
+prefix_is_unary false (false ∷ bits) h = refl
 
 -- ---- reading
 
 -- digits that come before the stop bit are too few
-pub short_front : (stop : Bool) (front back : List Bool) → length front ≤ lead stop (front ++ back)
-    → length front < 2 ^ 32 → read_unary stop front ≡ TooFew
-short_front stop front back none few =
-    let all : lead stop front ≡ length front = lead_front stop front back none in
-    rw (all, lt-ltb (length front) (2 ^ 32) few, le-ltb (length front) (length front) (omega arith)) refl
+pub short_prefix : (stop : Bool) (prefix back : List Bool) → length prefix ≤ lead stop (prefix ++ back)
+    → length prefix < 2 ^ 32 → read_unary stop prefix ≡ Incomplete
+short_prefix stop prefix back none few =
+    let all : lead stop prefix ≡ length prefix = lead_prefix stop prefix back none in
+    rw (all, lt-ltb (length prefix) (2 ^ 32) few, le-ltb (length prefix) (length prefix) (omega arith)) refl
 
 -- the beginnings of a list, by its length
-front_length : (front : List Bool) (b : Bool) (back bits : List Bool) → bits ≡ front ++ b ∷ back
-    → length front < length bits
-front_length front b back bits is = omega (arith, ap length is ∙ length-append front (b ∷ back))
+prefix_length : (prefix : List Bool) (b : Bool) (back bits : List Bool) → bits ≡ prefix ++ b ∷ back
+    → length prefix < length bits
+prefix_length prefix b back bits is = omega (arith, ap length is ∙ length-append prefix (b ∷ back))
 
-pub begins_others : (stop : Bool) (n : ℕ) (front : List Bool) (b : Bool) (back : List Bool) → n ≤ 2 ^ 32
-    → replicate n (not stop) ≡ front ++ b ∷ back → read_unary stop front ≡ TooFew
-begins_others stop n front b back le is =
-    let all : lead stop (front ++ b ∷ back) ≡ n = ap (lead stop) (sym is ∙ sym (append-nil (replicate n (not stop))))
+pub begins_others : (stop : Bool) (n : ℕ) (prefix : List Bool) (b : Bool) (back : List Bool) → n ≤ 2 ^ 32
+    → replicate n (not stop) ≡ prefix ++ b ∷ back → read_unary stop prefix ≡ Incomplete
+begins_others stop n prefix b back le is =
+    let all : lead stop (prefix ++ b ∷ back) ≡ n = ap (lead stop) (sym is ∙ sym (append-nil (replicate n (not stop))))
     ∙ lead-others stop n [] ∙ omega arith in
-    let less : length front < n = omega (
+    let less : length prefix < n = omega (
       arith,
-      front_length front b back (replicate n (not stop)) is,
+      prefix_length prefix b back (replicate n (not stop)) is,
       length-replicate n (not stop),
     ) in
-    short_front stop front (b ∷ back) (omega (arith, all, less)) (omega (arith, less, le))
+    short_prefix stop prefix (b ∷ back) (omega (arith, all, less)) (omega (arith, less, le))
 
-pub begins_unary : (stop : Bool) (k : ℕ) (front : List Bool) (b : Bool) (back : List Bool) → k < 2 ^ 32 → unary stop k
-    ≡ front ++ b ∷ back → read_unary stop front ≡ TooFew
-begins_unary stop k front b back small is =
-    let all : lead stop (front ++ b ∷ back) ≡ k = ap (lead stop) (sym is ∙ sym (append-nil (unary stop k)))
+pub begins_unary : (stop : Bool) (k : ℕ) (prefix : List Bool) (b : Bool) (back : List Bool) → k < 2 ^ 32 → unary stop k
+    ≡ prefix ++ b ∷ back → read_unary stop prefix ≡ Incomplete
+begins_unary stop k prefix b back small is =
+    let all : lead stop (prefix ++ b ∷ back) ≡ k = ap (lead stop) (sym is ∙ sym (append-nil (unary stop k)))
     ∙ lead-unary stop k [] in
-    let less : length front < k + 1 = omega (arith, front_length front b back (unary stop k) is, length-unary stop k) in
-    short_front stop front (b ∷ back) (omega (arith, all, less)) (omega (arith, less, small))
+    let less : length prefix < k + 1 = omega (arith, prefix_length prefix b back (unary stop k) is, length-unary stop k) in
+    short_prefix stop prefix (b ∷ back) (omega (arith, all, less)) (omega (arith, less, small))
 
 -- digits that are not the stop bit are too few
-pub others_short : (stop : Bool) (n : ℕ) → n < 2 ^ 32 → read_unary stop (replicate n (not stop)) ≡ TooFew
-others_short stop n few = short_front stop (replicate n (not stop)) [] (omega (
+pub others_short : (stop : Bool) (n : ℕ) → n < 2 ^ 32 → read_unary stop (replicate n (not stop)) ≡ Incomplete
+others_short stop n few = short_prefix stop (replicate n (not stop)) [] (omega (
   arith,
   length-replicate n (not stop),
   lead-others stop n [],
@@ -117,13 +117,13 @@ others_short stop n few = short_front stop (replicate n (not stop)) [] (omega (
 
 -- as many of them as are too long
 pub others_long : (stop : Bool) (n : ℕ) (rest : List Bool) → n ≡ 2 ^ 32
-    → read_unary stop (replicate n (not stop) ++ rest) ≡ Takes (length (replicate n (not stop))) (Err RunTooLong)
+    → read_unary stop (replicate n (not stop) ++ rest) ≡ Done (length (replicate n (not stop))) (Err RunTooLong)
 others_long stop n rest long =
     let least : 2 ^ 32 ≤ lead stop (replicate n (not stop) ++ rest) = omega (arith, lead-others stop n rest) in
     rw (le-ltb (lead stop (replicate n (not stop) ++ rest)) (2 ^ 32) least, length-replicate n (not stop), long) refl
 
 pub read_unary-unary : (stop : Bool) (k : ℕ) (rest : List Bool) → k < 2 ^ 32 → read_unary stop (unary stop k ++ rest)
-    ≡ Takes (length (unary stop k)) (Ok k)
+    ≡ Done (length (unary stop k)) (Ok k)
 read_unary-unary stop k rest small =
     let len : length (unary stop k ++ rest) ≡ (k + 1) + length rest = length-append (unary stop k) rest
     ∙ ap (λ n. n + length rest) (length-unary stop k) in
@@ -137,7 +137,7 @@ read_unary-unary stop k rest small =
 
 -- ---- what was read
 
-pub unary_read : (stop : Bool) (bits : List Bool) (n k : ℕ) → read_unary stop bits ≡ Takes n (Ok k) → (k < 2 ^ 32)
+pub unary_read : (stop : Bool) (bits : List Bool) (n k : ℕ) → read_unary stop bits ≡ Done n (Ok k) → (k < 2 ^ 32)
     × (n ≤ length bits) × (take n bits ≡ unary stop k)
 unary_read stop bits n k e =
     let r = lead stop bits in
@@ -150,14 +150,14 @@ unary_read stop bits n k e =
             let next : suc r ≡ n = omega (arith, size) in (
               omega (arith, same, small),
               omega (arith, size, found),
-              subst (λ i. take i bits ≡ unary stop k) next (front_is_unary stop bits found ∙ ap (unary stop) same),
+              subst (λ i. take i bits ≡ unary stop k) next (prefix_is_unary stop bits found ∙ ap (unary stop) same),
             )
         | inr short ↦ absurd (let none = rw (lt-ltb r (2 ^ 32) small, le-ltb r (length bits) short) at e in cc none)
       ]
       | inr long ↦ absurd (let none = rw (le-ltb r (2 ^ 32) long) at e in cc none)
     ]
 
-pub long_read : (stop : Bool) (bits : List Bool) (n : ℕ) (error : Error) → read_unary stop bits ≡ Takes n (Err error)
+pub long_read : (stop : Bool) (bits : List Bool) (n : ℕ) (error : Error) → read_unary stop bits ≡ Done n (Err error)
     → (error ≡ RunTooLong) × (n ≡ 2 ^ 32) × (n ≤ length bits) × (take n bits ≡ replicate n (not stop))
 long_read stop bits n error e =
     let r = lead stop bits in

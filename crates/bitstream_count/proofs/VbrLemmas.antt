@@ -12,8 +12,8 @@ use Rattle.bitstream_number.proofs.WordLemmas.{half, length-word, number-word, w
 use Rattle.bitstream_number.proofs.SignedLemmas.{zig-zag}
 use Rattle.bitstream_count.specs.declared.error.Error.{Error}
 use Rattle.bitstream_count.specs.declared.error.Error.TheVariants.{VariableWidthOverflow, RedundantGroup}
-use Rattle.bitstream_count.specs.Entry.{Front, TooFew, Takes}
-use Rattle.bitstream_count.specs.Vbr.{IsGroups, IsAccepted, groups, vbr_word, joined, before, groups_at, below, read_vbr}
+use Rattle.bitstream_count.specs.Codec.{Prefix, Incomplete, Done}
+use Rattle.bitstream_count.specs.Vbr.{IsGroups, IsAccepted, groups, vbr_word, join_groups, before, groups_at, below, read_vbr}
 
 -- the parts of two lists that are cut at one place
 same_parts : (u v x y : List Bool) → length u ≡ length v → u ++ x ≡ v ++ y → (u ≡ v) × (x ≡ y)
@@ -22,8 +22,8 @@ same_parts u v x y len e = (
   sym (drop_at u x (length u) refl) ∙ ap (drop (length u)) e ∙ drop_at v y (length u) (sym len),
 )
 
-abbrev found : ℕ → ℕ → Front ℕ
-found n v = Takes n (Ok v)
+abbrev found : ℕ → ℕ → Prefix ℕ
+found n v = Done n (Ok v)
 
 abbrev overflow : Result ℕ Error
 overflow = Err VariableWidthOverflow
@@ -227,7 +227,7 @@ module _ (o : Order) (field : ℕ) (some : 0 < field) where
       (omega (arith, length-append (word o field x) rest, length-word o field x))
 
   joined-last : (strict : Bool) (low high : ℕ) → (strict ≡ true → 0 < high)
-      → joined strict field low high ≡ Ok (low + 2 ^ (field - 1) * high)
+      → join_groups strict field low high ≡ Ok (low + 2 ^ (field - 1) * high)
   joined-last false low high last = refl
   joined-last true low high last = rw (le-ltb high 1 (last refl)) refl
 
@@ -301,27 +301,27 @@ module _ (o : Order) (field : ℕ) (some : 0 < field) where
             omega (arith, parts, ap (λ n. n * (field - 1)) same)
       ]
 
-  not_short : (b : Bool) (x : Front ℕ) (n v : ℕ) → cond b TooFew x ≡ found n v → (b ≡ false) × (x ≡ found n v)
+  not_short : (b : Bool) (x : Prefix ℕ) (n v : ℕ) → cond b Incomplete x ≡ found n v → (b ≡ false) × (x ≡ found n v)
   not_short true x n v e = absurd cc
   not_short false x n v e = (refl, e)
 
-  joined_found : (strict : Bool) (low high v : ℕ) → joined strict field low high ≡ Ok v
+  joined_found : (strict : Bool) (low high v : ℕ) → join_groups strict field low high ≡ Ok v
       → (strict ≡ true → 0 < high) × (v ≡ low + 2 ^ (field - 1) * high)
   joined_found false low high v e = (λ is. absurd cc, cc)
   joined_found true low high v e =
       let parts = either_ok (ltb high 1) (low + 2 ^ (field - 1) * high) v e in
       (λ is. ltb-false high 1 parts.0, parts.1)
 
-  before_found : (strict : Bool) (low : ℕ) (others : Front ℕ) (n v : ℕ) → before strict field low others ≡ found n v
+  before_found : (strict : Bool) (low : ℕ) (others : Prefix ℕ) (n v : ℕ) → before strict field low others ≡ found n v
       → (k : ℕ) × (high : ℕ) × (others ≡ found k high) × (n ≡ field + k) × (strict ≡ true → 0 < high)
       × (v ≡ low + 2 ^ (field - 1) * high)
-  before_found strict low TooFew n v e = absurd cc
-  before_found strict low (Takes k (Ok high)) n v e =
+  before_found strict low Incomplete n v e = absurd cc
+  before_found strict low (Done k (Ok high)) n v e =
       let size : field + k ≡ n = cc in
-      let number : joined strict field low high ≡ Ok v = cc in
+      let number : join_groups strict field low high ≡ Ok v = cc in
       let parts = joined_found strict low high v number in
       (k, high, refl, sym size, parts.0, parts.1)
-  before_found strict low (Takes k (Err d)) n v e = absurd cc
+  before_found strict low (Done k (Err d)) n v e = absurd cc
 
   pub groups_at_found : (strict : Bool) (room : ℕ) (bits : List Bool) (n v : ℕ)
       → groups_at strict room o field bits ≡ found n v
@@ -375,11 +375,11 @@ module _ (o : Order) (field : ℕ) (some : 0 < field) where
             )
       ]
 
-  below_found : (limit : ℕ) (front : Front ℕ) (n v : ℕ) → below limit front ≡ found n v → (front ≡ found n v)
+  below_found : (limit : ℕ) (prefix : Prefix ℕ) (n v : ℕ) → below limit prefix ≡ found n v → (prefix ≡ found n v)
       × (v < limit)
-  below_found limit TooFew n v e = absurd cc
-  below_found limit (Takes k (Err d)) n v e = absurd cc
-  below_found limit (Takes k (Ok x)) n v e =
+  below_found limit Incomplete n v e = absurd cc
+  below_found limit (Done k (Err d)) n v e = absurd cc
+  below_found limit (Done k (Ok x)) n v e =
       let fits = ok_below (ltb x limit) x v cc in
       let size : k ≡ n = cc in
       (ap₂ found size fits.1, omega (arith, ltb-true x limit fits.0, fits.1))
@@ -397,7 +397,7 @@ module _ (o : Order) (field : ℕ) (some : 0 < field) where
 
   pub groups_at_step : (strict : Bool) (room : ℕ) (x y : List Bool) → length x ≡ field
       → groups_at strict (suc room) o field (x ++ y)
-      ≡ cond (ltb (number o x) (2 ^ (field - 1))) (Takes field (Ok (number o x)))
+      ≡ cond (ltb (number o x) (2 ^ (field - 1))) (Done field (Ok (number o x)))
       (before strict field (number o x - 2 ^ (field - 1)) (groups_at strict room o field y))
   unfolding groups_at
   groups_at_step strict room x y len = rw (

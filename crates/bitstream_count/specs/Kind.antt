@@ -5,7 +5,7 @@ use Rattle.std.specs.declared.io.ErrorKind.TheVariants as kinds
 use Rattle.bitstream_count.specs.declared.error.Error.{Error}
 use Rattle.bitstream_count.specs.declared.error.Error.TheVariants.{ReadBits, Checked, NoSignBit, BoolWidth, NonZeroWidth, VariableWidthOverflow, RedundantGroup, CounterOverflow, RunTooLong, EndOfInput, Stream, OutOfMemory, Place, Failed}
 
--- the kind of the `io::Error` that stands for an error
+-- the kind of the `io::Error` that an error converts to
 abbrev pub kind_of : Error → ErrorKind
 kind_of ReadBits = InvalidInput
 kind_of (Checked c) = InvalidInput

@@ -1,6 +1,6 @@
 pub mod Checks
 pub mod Counts
-pub mod Entry
+pub mod Codec
 pub mod Kind
 pub mod Unary
 pub mod Vbr

@@ -2,7 +2,7 @@
 use Rattle.std.specs.Prelude.{ℕ, suc, ◌+◌, ◌^◌, Bool, not, List, [], ◌∷◌, ◌++◌, length, replicate, Ok, Err, nat_lt, if◌then◌else◌}
 use mathlib.Core.Bool.{beq}
 use Rattle.bitstream_count.specs.declared.error.Error.TheVariants.{RunTooLong}
-use Rattle.bitstream_count.specs.Entry.{Front, TooFew, Takes}
+use Rattle.bitstream_count.specs.Codec.{Prefix, Incomplete, Done}
 
 -- k bits that are not the stop bit, and then the stop bit
 abbrev pub unary : Bool → ℕ → List Bool
@@ -13,11 +13,11 @@ abbrev pub lead : Bool → List Bool → ℕ
 lead stop [] = 0
 lead stop (b ∷ bits) = if beq b stop then 0 else suc (lead stop bits)
 
--- the front of a unary read: the number whose word the bits begin with. A run of 2^32 bits or more is too long: it
--- takes just these.
-abbrev pub read_unary : Bool → List Bool → Front ℕ
+-- the prefix of a unary read: the number whose word the bits begin with. A run of 2^32 bits or more is too
+-- long: 2^32 bits are taken then.
+abbrev pub read_unary : Bool → List Bool → Prefix ℕ
 read_unary stop bits =
     let k = lead stop bits in
     if nat_lt k (2 ^ 32)
-    then (if nat_lt k (length bits) then Takes (k + 1) (Ok k) else TooFew)
-    else Takes (2 ^ 32) (Err RunTooLong)
+    then (if nat_lt k (length bits) then Done (k + 1) (Ok k) else Incomplete)
+    else Done (2 ^ 32) (Err RunTooLong)

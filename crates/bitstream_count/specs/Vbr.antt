@@ -4,11 +4,12 @@ use Rattle.std.specs.Int.{div_ceil}
 use Rattle.bitstream_number.specs.Word.{Order, word, number}
 use Rattle.bitstream_count.specs.declared.error.Error.{Error}
 use Rattle.bitstream_count.specs.declared.error.Error.TheVariants.{VariableWidthOverflow, RedundantGroup}
-use Rattle.bitstream_count.specs.Entry.{Front, TooFew, Takes}
+use Rattle.bitstream_count.specs.Codec.{Prefix, Incomplete, Done}
 
--- The word is a group of `field` bits and `more` further groups. A group is a bit that says whether another group
--- follows, and below it `field - 1` digits of v. The first group has the lowest digits of v. If the word is strict and
--- has two groups or more, it ends in a group other than 0: the groups behind any group stand for more than 0.
+-- The word is a group of `field` bits and `more` further groups. A group is a bit that says whether another
+-- group follows, and below it `field - 1` digits of v. The first group has the lowest digits of v. If the word
+-- is strict and has two groups or more, it ends in a group other than 0: the groups after any group represent
+-- more than 0.
 abbrev pub IsGroups : Bool → Order → ℕ → ℕ → List Bool → ℕ → Type 0
 IsGroups strict o field zero w v = (v < 2 ^ (field - 1)) × (w ≡ word o field v)
 IsGroups strict o field (suc more) w v =
@@ -31,7 +32,7 @@ IsAccepted strict o field width limit w v =
 
 -- ---- writing
 
--- the groups of v, up to the one that holds the rest of v, and at most `more` beside the first
+-- the groups of v: at most `more` after the first, and the last one holds the rest of v
 unfoldable pub groups : ℕ → Order → ℕ → ℕ → List Bool
 groups zero o field v = word o field v
 groups (suc more) o field v =
@@ -44,33 +45,33 @@ vbr_word o field v = groups v o field v
 
 -- ---- reading
 
--- low digits + high * 2^payload, of a group and the groups behind it; a strict read also requires high > 0
-abbrev pub joined : Bool → ℕ → ℕ → ℕ → Result ℕ Error
-joined strict field low high =
+-- low digits + high * 2^payload, of a group and the groups after it; a strict read also requires high > 0
+abbrev pub join_groups : Bool → ℕ → ℕ → ℕ → Result ℕ Error
+join_groups strict field low high =
     if strict && nat_lt high 1 then Err RedundantGroup else Ok (low + 2 ^ (field - 1) * high)
 
--- a group with these low digits, before the front of the other groups
-abbrev pub before : Bool → ℕ → ℕ → Front ℕ → Front ℕ
-before strict field low TooFew = TooFew
-before strict field low (Takes n (Ok high)) = Takes (field + n) (joined strict field low high)
-before strict field low (Takes n (Err e)) = Takes (field + n) (Err e)
+-- a group with these low digits, before the prefix of the other groups
+abbrev pub before : Bool → ℕ → ℕ → Prefix ℕ → Prefix ℕ
+before strict field low Incomplete = Incomplete
+before strict field low (Done n (Ok high)) = Done (field + n) (join_groups strict field low high)
+before strict field low (Done n (Err e)) = Done (field + n) (Err e)
 
--- the front of groups: up to the last one, or `VariableWidthOverflow` behind `room` of them
-unfoldable pub groups_at : Bool → ℕ → Order → ℕ → List Bool → Front ℕ
-groups_at strict zero o field bits = Takes 0 (Err VariableWidthOverflow)
+-- the prefix that is groups: up to the last one, or `VariableWidthOverflow` after `room` of them
+unfoldable pub groups_at : Bool → ℕ → Order → ℕ → List Bool → Prefix ℕ
+groups_at strict zero o field bits = Done 0 (Err VariableWidthOverflow)
 groups_at strict (suc room) o field bits =
     let first = number o (take field bits) in
     let all = before strict field (first - 2 ^ (field - 1)) (groups_at strict room o field (drop field bits)) in
-    if nat_lt (length bits) field then TooFew
-    else if nat_lt first (2 ^ (field - 1)) then Takes field (Ok first) else all
+    if nat_lt (length bits) field then Incomplete
+    else if nat_lt first (2 ^ (field - 1)) then Done field (Ok first) else all
 
--- a front with its number below the limit, else `VariableWidthOverflow`
-abbrev pub below : ℕ → Front ℕ → Front ℕ
-below limit TooFew = TooFew
-below limit (Takes n (Ok v)) = Takes n (if nat_lt v limit then Ok v else Err VariableWidthOverflow)
-below limit (Takes n (Err e)) = Takes n (Err e)
+-- a prefix with its number below the limit, else `VariableWidthOverflow`
+abbrev pub below : ℕ → Prefix ℕ → Prefix ℕ
+below limit Incomplete = Incomplete
+below limit (Done n (Ok v)) = Done n (if nat_lt v limit then Ok v else Err VariableWidthOverflow)
+below limit (Done n (Err e)) = Done n (Err e)
 
--- the front of a variable-width read: a number below the limit of a type of `width` bits, in at most the groups that
+-- the prefix of a variable-width read: a number below the limit of a type of `width` bits, in at most the groups that
 -- begin within the type
-abbrev pub read_vbr : Bool → Order → ℕ → ℕ → ℕ → List Bool → Front ℕ
+abbrev pub read_vbr : Bool → Order → ℕ → ℕ → ℕ → List Bool → Prefix ℕ
 read_vbr strict o field width limit bits = below limit (groups_at strict (div_ceil width (field - 1)) o field bits)

@@ -9,18 +9,18 @@ use std::alloc::{AllocError, AllocFailed};
 use std::io;
 use std::io::ErrorKind;
 
-/// Why a call did not succeed.
+/// The errors of a call.
 ///
 /// After `EndOfInput`, `Stream`, `OutOfMemory` and `RunTooLong`, and after a `Place` from the
 /// stream's end, a bit reader or writer has failed: each later call that reads or writes a value
-/// answers `Failed`. After `VariableWidthOverflow` and `RedundantGroup` the reader goes on behind
+/// returns `Failed`. After `VariableWidthOverflow` and `RedundantGroup` the reader continues after
 /// the groups that it took. After any other error of a single call nothing has changed.
 #[derive(Debug, Drop, thiserror::Error)]
 pub enum Error {
-    /// More bits were to be read than the type has.
+    /// A read of more bits than the type has.
     #[error("excessive bits for type read")]
     ReadBits,
-    /// More bits were to be written than the type has, or a value has more bits than its count.
+    /// A write of more bits than the type has, or of a value with more bits than its count.
     #[error(transparent)]
     Checked(CheckedError),
     /// A signed value of 0 bits.
@@ -62,7 +62,7 @@ pub enum Error {
 }
 
 impl Error {
-    /// Returns the kind of the `io::Error` that stands for this error.
+    /// Returns the kind of the `io::Error` that this error converts to.
     pub fn kind(&self) -> ErrorKind
         ensures { result ≡ kind_of self.now }
     {

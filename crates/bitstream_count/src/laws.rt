@@ -6,7 +6,7 @@
 ghost use Rattle.std.specs.Hash as fed;
 ghost use Rattle.std.specs.List.{fold};
 ghost use Rattle.std.specs.Prelude.{◌≡◌, ◌↔◌, ℕ, ◌^◌, ◌<◌, ◌≤◌, ◌++◌, Bool, true, false, Err, IsOk, IsTrue, List, Ok, Some, length, not, replicate, take, ◌⊎◌, ℤ};
-ghost use Rattle.bitstream_count.specs.Entry.{Takes};
+ghost use Rattle.bitstream_count.specs.Codec.{Done};
 ghost use Rattle.bitstream_count.specs.Unary.{unary, read_unary};
 ghost use Rattle.bitstream_count.specs.declared.error.Error.{Error};
 ghost use Rattle.bitstream_count.specs.declared.error.Error.TheVariants.{RunTooLong};
@@ -50,26 +50,27 @@ pub fn signed_counts_hash_as_their_numbers<const MAX: u32, H: Hasher>(
     count.hash(state);
 }
 
-/// A count comes back from its number.
-pub fn counts_go_back<const MAX: u32>(count: BitCount<MAX>) -> Result<BitCount<MAX>, u32>
+/// A count round-trips through its number.
+pub fn counts_round_trip<const MAX: u32>(count: BitCount<MAX>) -> Result<BitCount<MAX>, u32>
     ensures { result ≡ Ok count.entry }
 {
     BitCount::try_from(u32::from(count))
 }
 
-/// A signed count comes back from its number, and from the `BitCount` of the same number of bits.
-pub fn signed_counts_go_back<const MAX: u32>(
+/// A signed count round-trips through its number, and through the `BitCount` of the same number of
+/// bits.
+pub fn signed_counts_round_trip<const MAX: u32>(
     count: SignedBitCount<MAX>,
 ) -> (
     Result<SignedBitCount<MAX>, u32>,
     Result<SignedBitCount<MAX>, ()>,
     Option<SignedBitCount<MAX>>,
 )
-    // The count comes back from its number.
+    // The count round-trips through its number.
     ensures number { result.0 ≡ Ok count.entry }
-    // It comes back from the `BitCount` of the same number of bits.
+    // It round-trips through the `BitCount` of the same number of bits.
     ensures count { result.1 ≡ Ok count.entry }
-    // It comes back by `signed_count` of that `BitCount`.
+    // It round-trips through `signed_count` of that `BitCount`.
     ensures signed { result.2 ≡ Some count.entry }
 {
     (
@@ -79,8 +80,8 @@ pub fn signed_counts_go_back<const MAX: u32>(
     )
 }
 
-/// A fixed count comes back from the `BitCount` of the same number of bits.
-pub fn fixed_counts_go_back<const BITS: u32>(
+/// A fixed count round-trips through the `BitCount` of the same number of bits.
+pub fn fixed_counts_round_trip<const BITS: u32>(
     count: FixedBitCount<BITS>,
 ) -> Result<FixedBitCount<BITS>, BitCount<BITS>>
     ensures { IsOk result }
@@ -88,8 +89,8 @@ pub fn fixed_counts_go_back<const BITS: u32>(
     FixedBitCount::try_from(BitCount::from(count))
 }
 
-/// A fixed signed count comes back from the `SignedBitCount` of the same number of bits.
-pub fn fixed_signed_counts_go_back<const BITS: u32>(
+/// A fixed signed count round-trips through the `SignedBitCount` of the same number of bits.
+pub fn fixed_signed_counts_round_trip<const BITS: u32>(
     count: FixedSignedBitCount<BITS>,
 ) -> Result<FixedSignedBitCount<BITS>, SignedBitCount<BITS>>
     ensures { IsOk result }
@@ -106,19 +107,19 @@ pub fn unary_words_begin_no_other()
 /// A unary word is read back, whatever follows it.
 pub fn unary_words_read_back()
     ensures { (stop : Bool) (k : ℕ) (rest : List Bool) → k < 2 ^ 32
-        → read_unary stop (unary stop k ++ rest) ≡ Takes (length (unary stop k)) (Ok k) }
+        → read_unary stop (unary stop k ++ rest) ≡ Done (length (unary stop k)) (Ok k) }
 {}
 
-/// A number is answered only if the bits begin with its unary word. `RunTooLong` is answered only
+/// A number is returned only if the bits begin with its unary word. `RunTooLong` is returned only
 /// if they begin with 2^32 bits that are not the stop bit.
 pub fn unary_words_alone_are_read()
-    // If a number is answered, it is below 2^32, and the bits taken are its unary word.
+    // If a number is returned, it is below 2^32, and the bits taken are its unary word.
     ensures number { (stop : Bool) (bits : List Bool) (n k : ℕ)
-        → read_unary stop bits ≡ Takes n (Ok k)
+        → read_unary stop bits ≡ Done n (Ok k)
         → (k < 2 ^ 32) × (n ≤ length bits) × (take n bits ≡ unary stop k) }
     // An error is `RunTooLong`, and 2^32 bits are taken then, none of them the stop bit.
     ensures error { (stop : Bool) (bits : List Bool) (n : ℕ) (error : Error)
-        → read_unary stop bits ≡ Takes n (Err error)
+        → read_unary stop bits ≡ Done n (Err error)
         → (error ≡ RunTooLong) × (n ≡ 2 ^ 32) × (n ≤ length bits)
         × (take n bits ≡ replicate n (not stop)) }
 {}
@@ -133,13 +134,13 @@ pub fn variable_width_words_begin_no_other()
 pub fn variable_width_words_read_back()
     ensures { (strict : Bool) (o : Order) (field width limit : ℕ) (w : List Bool) (v : ℕ) (rest : List Bool)
         → 2 ≤ field → IsAccepted strict o field width limit w v
-        → read_vbr strict o field width limit (w ++ rest) ≡ Takes (length w) (Ok v) }
+        → read_vbr strict o field width limit (w ++ rest) ≡ Done (length w) (Ok v) }
 {}
 
-/// A number of variable width is answered only if the bits begin with an accepted word of it.
+/// A number of variable width is returned only if the bits begin with an accepted word of it.
 pub fn variable_width_words_alone_are_read()
     ensures { (strict : Bool) (o : Order) (field width limit : ℕ) (bits : List Bool) (n v : ℕ) → 2 ≤ field
-        → read_vbr strict o field width limit bits ≡ Takes n (Ok v)
+        → read_vbr strict o field width limit bits ≡ Done n (Ok v)
         → IsAccepted strict o field width limit (take n bits) v × (n ≤ length bits) }
 {}
 
@@ -161,8 +162,8 @@ pub fn variable_width_words_are_the_only_ones()
         → IsAccepted true o field width (2 ^ width) w v → zag v ≡ x → w ≡ vbr_word o field (zig x) }
 {}
 
-/// Of all words that the lenient reader accepts for a number, the one that is written is the
-/// shortest. The same holds for signed numbers.
+/// The word that is written is the shortest of all words that the lenient reader accepts for its
+/// number. The same holds for signed numbers.
 pub fn variable_width_words_are_shortest()
     // The lenient reader accepts the word that is written for a number of the type below the limit.
     ensures accepted { (o : Order) (field width limit v : ℕ) → 2 ≤ field → 0 < width

@@ -1,4 +1,4 @@
-//! Errors, counts of bits, and values that are known to fit a count. What callers need of it stands in
+//! Errors, counts of bits, and values that are known to fit a count. Callers find what they need in
 //! `bitstream_io`.
 //!
 //! - [`count`]: counts of bits, and values that are known to fit one

@@ -1,14 +1,14 @@
 -- Made by `./format` from formats/adts_header.fields: edit that file and make this one anew.
--- What was written of an `AdtsHeader` is read back, and how many bits it takes.
-use Rattle.bitstream_formats.specs.AdtsHeader.{adts_header_entry, adts_header_writes, adts_header_size, adts_header_bits, Fits}
+-- A written `AdtsHeader` is read back, and its number of bits.
+use Rattle.bitstream_formats.specs.AdtsHeader.{adts_header_decoder, adts_header_writes, adts_header_size, adts_header_bits, Fits}
 use Rattle.bitstream_formats.specs.declared.adts_header.AdtsHeader.{AdtsHeader}
 use Rattle.std.proofs.Common.{◌≡◌, ◌++◌, ◌∷◌, [], ℕ, Ok, refl}
-use Rattle.bitstream_io.proofs.CallerLemmas.{GoesBack, Packs, unsigned-accepted, bit-back, unsigned-back, gives-back, literal-back, bit-written, unsigned-written, const-written, packs-none, packs-more}
-use Rattle.bitstream_io.specs.Callers.{Order, High, align, write_run, AllAccepted}
+use Rattle.bitstream_io.proofs.CallerLemmas.{RoundTrip, Packs, unsigned-accepted, bit-back, unsigned-back, pure-back, literal-back, bit-written, unsigned-written, const-written, packs-none, packs-more}
+use Rattle.bitstream_io.specs.Callers.{Order, High, align, write_sequence, AllAccepted}
 
--- what was written is read back
+-- a written value is read back
 pub adts_header_goes : (o : Order) (value : AdtsHeader) → Fits value
-    → GoesBack (adts_header_entry o) (adts_header_writes o value) (Ok value)
+    → RoundTrip (adts_header_decoder o) (adts_header_writes o value) (Ok value)
 adts_header_goes o value fits =
     literal-back _ _ o 12 4095 _ refl (bit-back value.mpeg_2 _ _ _ (literal-back _ _ o 2 0 _ refl (bit-back
     value.protection_absent _ _ _ (unsigned-back o 2 _ _ 8 value.profile _ refl fits.profile (unsigned-back o 4 _ _
@@ -16,9 +16,9 @@ adts_header_goes o value fits =
     refl fits.channels (bit-back value.original _ _ _ (bit-back value.home _ _ _ (bit-back value.copyright_id _ _ _
     (bit-back value.copyright_start _ _ _ (unsigned-back o 13 _ _ 16 value.frame_length _ refl fits.frame_length
     (unsigned-back o 11 _ _ 16 value.fullness _ refl fits.fullness (unsigned-back o 2 _ _ 8 value.blocks _ refl
-    fits.blocks (gives-back _)))))))))))))))
+    fits.blocks (pure-back _)))))))))))))))
 
--- each write is accepted, and so many bits are written
+-- each write is accepted, and the value's size is the number of bits written
 pub adts_header_packs : (o : Order) (value : AdtsHeader) → Fits value
     → Packs (adts_header_writes o value) (adts_header_size o value)
 adts_header_packs o value fits =
@@ -49,6 +49,6 @@ adts_header_fits o value at all = record {
 
 -- the bits, of which a search is to see no part
 pub told : (value : AdtsHeader)
-    → write_run (adts_header_writes High value ++ align ∷ []) 0 ≡ adts_header_bits value
+    → write_sequence (adts_header_writes High value ++ align ∷ []) 0 ≡ adts_header_bits value
 unfolding adts_header_bits
 told value = refl

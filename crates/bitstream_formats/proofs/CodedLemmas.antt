@@ -3,10 +3,10 @@ use Rattle.std.proofs.Common.{◌*◌, ◌/◌, ◌%◌, ◌≤◌, ◌==◌, ze
 use Rattle.std.specs.Prelude.{if◌then◌else◌, Result, Err}
 use native.Mathlib.Nat.{div-div-eq-div-mul, mod-lt, mul-le-mul_right, mul-le-mul_left, mul_assoc, mul_comm, one-le-pow}
 use Rattle.std.proofs.lemmas.Bool.{cases_lt, le-ltb, lt-ltb, ne_eqb}
-use Rattle.bitstream_io.specs.Callers.{BitSource, ReadsOwn, chain, const_entry, gives, unsigned_entry}
-use Rattle.bitstream_io.specs.Entry.{ReadEntry, WriteEntry}
-use Rattle.bitstream_io.proofs.CallerLemmas.{◌≡◌, ◌∙◌, ℕ, ◌+◌, ◌-◌, ◌^◌, ◌<◌, List, Ok, Order, GoesBack, ap, arith, refl, inl, inr, at_most-back, computed-back, else-back, gives-back, literal-back, unary-back, unsigned-back, var-back}
-use Rattle.bitstream_formats.specs.Coded.{becomes_flac, bytes_needed, bytes_writes, coded_entry, coded_writes, least_of, rest_entry, rest_writes, shortest}
+use Rattle.bitstream_io.specs.Callers.{BitSource, ReadsOwn, and_then, const_decoder, pure, unsigned_decoder}
+use Rattle.bitstream_io.specs.Codec.{Decoder, Encoder}
+use Rattle.bitstream_io.proofs.CallerLemmas.{◌≡◌, ◌∙◌, ℕ, ◌+◌, ◌-◌, ◌^◌, ◌<◌, List, Ok, Order, RoundTrip, ap, arith, refl, inl, inr, at_most-back, computed-back, else-back, pure-back, literal-back, unary-back, unsigned-back, var-back}
+use Rattle.bitstream_formats.specs.Coded.{becomes_flac, bytes_needed, bytes_writes, coded_decoder, coded_writes, least_of, rest_decoder, rest_writes, shortest}
 use Rattle.bitstream_formats.specs.declared.flac.error.FlacError.{FlacError}
 use Rattle.bitstream_formats.specs.declared.flac.error.FlacError.TheVariants.{NotCoded}
 
@@ -21,16 +21,16 @@ shortest-is : (least number same : ℕ) → same ≡ number → least ≤ number
 shortest-is least number same is enough = rw (is, le-ltb number least enough) refl
 
 rest-back : (o : Order) (least number c : ℕ) → least ≤ number
-    → GoesBack (rest_entry o least c (number / 64 ^ c)) (rest_writes o c number) (Ok number)
+    → RoundTrip (rest_decoder o least c (number / 64 ^ c)) (rest_writes o c number) (Ok number)
 rest-back o least number zero enough = computed-back _ _ (shortest-is least number _ (omega arith) enough)
 rest-back o least number (suc c) enough =
-    let behind : GoesBack (rest_entry o least c (64 * (number / 64 ^ suc c) + number / 64 ^ c % 64)) (rest_writes o c number) (Ok number) =
+    let behind : RoundTrip (rest_decoder o least c (64 * (number / 64 ^ suc c) + number / 64 ^ c % 64)) (rest_writes o c number) (Ok number) =
     rw (digits number c) (rest-back o least number c enough) in
     literal-back _ _ o 2 2 _ refl
     (unsigned-back o 6 _ _ 64 (number / 64 ^ c % 64) _ refl (mod-lt (number / 64 ^ c) (omega arith)) behind)
 
 bytes-back : (o : Order) (bytes number : ℕ) → 2 ≤ bytes → bytes ≤ 7 → number / 64 ^ (bytes - 1) < 2 ^ (7 - bytes)
-    → least_of bytes ≤ number → GoesBack (coded_entry o) (bytes_writes o bytes number) (Ok number)
+    → least_of bytes ≤ number → RoundTrip (coded_decoder o) (bytes_writes o bytes number) (Ok number)
 bytes-back o bytes number two seven fits enough =
     unary-back _ _ false bytes _ (omega arith)
     (else-back _ _ _ _ (bytes == 0) (ne_eqb bytes 0 (λ e. omega arith))
@@ -40,18 +40,18 @@ bytes-back o bytes number two seven fits enough =
     (rest-back o (least_of bytes) number (bytes - 1) enough)))))
 
 -- the same writes
-written : {A : Type 0} (e : ReadEntry A) (a : A) (ws vs : List WriteEntry) → ws ≡ vs → GoesBack e vs a → GoesBack e ws a
+written : {A : Type 0} (e : Decoder A) (a : A) (ws vs : List Encoder) → ws ≡ vs → RoundTrip e vs a → RoundTrip e ws a
 written e a ws vs same back = rw same back
 
 -- a number in as many bytes as it needs
 sized : (o : Order) (bytes number : ℕ) → bytes_needed number ≡ bytes → 2 ≤ bytes → bytes ≤ 7
     → number / 64 ^ (bytes - 1) < 2 ^ (7 - bytes) → least_of bytes ≤ number
-    → GoesBack (coded_entry o) (bytes_writes o (bytes_needed number) number) (Ok number)
+    → RoundTrip (coded_decoder o) (bytes_writes o (bytes_needed number) number) (Ok number)
 sized o bytes number is two seven fits enough = rw is (bytes-back o bytes number two seven fits enough)
 
 module _ (o : Order) (number : ℕ) (most : number < 2 ^ 36) where
   abbrev IsBack : Type 0
-  IsBack = GoesBack (coded_entry o) (bytes_writes o (bytes_needed number) number) (Ok number)
+  IsBack = RoundTrip (coded_decoder o) (bytes_writes o (bytes_needed number) number) (Ok number)
 
   from_seven : 2 ^ 31 ≤ number → IsBack
   from_seven least = sized o 7 number
@@ -97,10 +97,10 @@ module _ (o : Order) (number : ℕ) (most : number < 2 ^ 36) where
   ]
 
 pub coded-back : (o : Order) (number : ℕ) → number < 2 ^ 36
-    → GoesBack (coded_entry o) (coded_writes o number) (Ok number)
+    → RoundTrip (coded_decoder o) (coded_writes o number) (Ok number)
 coded-back o number most = elim (cases_lt number (2 ^ 7)) [
   | inl less ↦ written _ _ _ _ (rw (lt-ltb number (2 ^ 7) less) refl)
-      (unary-back _ _ false 0 _ (omega arith) (unsigned-back o 7 _ _ 64 number _ refl less (gives-back _)))
+      (unary-back _ _ false 0 _ (omega arith) (unsigned-back o 7 _ _ 64 number _ refl less (pure-back _)))
   | inr more ↦ written _ _ _ _ (rw (le-ltb number (2 ^ 7) more) refl) (from_two o number most more)
 ]
 
@@ -138,10 +138,10 @@ more_room number six (suc bytes) some enough few =
 -- what stands behind a byte more
 pub rest_own : {R : Type 0} {K : BitSource R} {s t : R} {r : Result ℕ FlacError} (o : Order) (least bytes number : ℕ)
     → 0 < bytes
-    → ReadsOwn K becomes_flac (chain (const_entry o 2 2) (λ follows.
-    if follows then chain (unsigned_entry o 64 6) (λ six. rest_entry o least (bytes - 1) (64 * number + six))
-    else gives (Err NotCoded))) s r t
-    → ReadsOwn K becomes_flac (rest_entry o least bytes number) s r t
+    → ReadsOwn K becomes_flac (and_then (const_decoder o 2 2) (λ follows.
+    if follows then and_then (unsigned_decoder o 64 6) (λ six. rest_decoder o least (bytes - 1) (64 * number + six))
+    else pure (Err NotCoded))) s r t
+    → ReadsOwn K becomes_flac (rest_decoder o least bytes number) s r t
 rest_own o least zero number some reads = let no : ⊥ = omega (arith, some) in absurd no
 rest_own o least (suc bytes) number some reads =
     let one : suc bytes - 1 ≡ bytes = omega arith in

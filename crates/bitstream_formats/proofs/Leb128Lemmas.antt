@@ -6,23 +6,23 @@ use Rattle.std.proofs.lemmas.Bool.{cases_lt, le-leb, le-ltb, lt-ltb}
 use native.Mathlib.Nat.{div-add-mod, mul-add, mul_assoc, mul_comm, mul-le-mul_left, one-le-pow}
 use Rattle.bitstream_io.specs.Vbr.{groups}
 use Rattle.bitstream_io.proofs.WriteLemmas.{unsigned-fits}
-use Rattle.bitstream_io.specs.Callers.{BitSource, ReadsOwn, WriteEntry, chain, gives, unsigned, unsigned_entry, word, write_run}
-use Rattle.bitstream_io.proofs.CallerLemmas.{◌≡◌, ◌∙◌, ℕ, ◌+◌, ◌-◌, ◌^◌, ◌<◌, List, [], ◌∷◌, Ok, Order, GoesBack, ap, arith, inl, inr, computed-back, unsigned-back, refl}
-use Rattle.bitstream_formats.specs.Leb128.{becomes_av1, groups_entry, leb128_entry, leb128_writes, small}
+use Rattle.bitstream_io.specs.Callers.{BitSource, ReadsOwn, Encoder, and_then, pure, unsigned, unsigned_decoder, word, write_sequence}
+use Rattle.bitstream_io.proofs.CallerLemmas.{◌≡◌, ◌∙◌, ℕ, ◌+◌, ◌-◌, ◌^◌, ◌<◌, List, [], ◌∷◌, Ok, Order, RoundTrip, ap, arith, inl, inr, computed-back, unsigned-back, refl}
+use Rattle.bitstream_formats.specs.Leb128.{becomes_av1, groups_decoder, leb128_decoder, leb128_writes, small}
 use Rattle.bitstream_formats.specs.declared.av1.Av1Error.{Av1Error}
 
 -- the bytes of a number, at most `more` and one
-abbrev group_writes : ℕ → Order → ℕ → List WriteEntry
+abbrev group_writes : ℕ → Order → ℕ → List Encoder
 group_writes zero o v = unsigned o 64 8 v ∷ []
 group_writes (suc more) o v =
     if nat_lt v 128 then unsigned o 64 8 v ∷ []
     else unsigned o 64 8 (128 + v % 128) ∷ group_writes more o (v / 128)
 
-byte_word : (o : Order) (v len : ℕ) → v < 256 → write_run (unsigned o 64 8 v ∷ []) len ≡ word o 8 v
+byte_word : (o : Order) (v len : ℕ) → v < 256 → write_sequence (unsigned o 64 8 v ∷ []) len ≡ word o 8 v
 byte_word o v len less = rw (unsigned-fits o 64 8 v len (omega arith) less, append-nil (word o 8 v)) refl
 
 -- they are the word of the number
-groups_written : (more : ℕ) (o : Order) (v len : ℕ) → v ≤ more → write_run (group_writes more o v) len ≡ groups more o 8 v
+groups_written : (more : ℕ) (o : Order) (v len : ℕ) → v ≤ more → write_sequence (group_writes more o v) len ≡ groups more o 8 v
 unfolding groups
 groups_written zero o v len le = byte_word o v len (omega (arith, le))
 groups_written (suc more) o v len le = elim (cases_lt v 128) [
@@ -53,7 +53,7 @@ by_groups value place v =
 
 -- a number of one byte is read back
 one-back : (o : Order) (more room value place v : ℕ) → v < 128 → value + place * v < 2 ^ 32
-    → GoesBack (groups_entry o (suc room) place value) (group_writes more o v) (Ok (value + place * v))
+    → RoundTrip (groups_decoder o (suc room) place value) (group_writes more o v) (Ok (value + place * v))
 one-back o zero room value place v few less =
     unsigned-back o 8 _ _ 64 v _ refl (omega (arith, few))
     (rw (lt-ltb v 128 few) (computed-back _ _ (small-is _ _ refl less)))
@@ -64,7 +64,7 @@ one-back o (suc more) room value place v few less =
 
 -- the bytes of a number are read back
 groups-back : (o : Order) (more room value place v : ℕ) → v ≤ more → v < 128 ^ suc room → value + place * v < 2 ^ 32
-    → GoesBack (groups_entry o (suc room) place value) (group_writes more o v) (Ok (value + place * v))
+    → RoundTrip (groups_decoder o (suc room) place value) (group_writes more o v) (Ok (value + place * v))
 groups-back o zero room value place v le fits less = one-back o zero room value place v (omega (arith, le)) less
 groups-back o (suc more) zero value place v le fits less =
     one-back o (suc more) zero value place v (omega (arith, fits)) less
@@ -74,22 +74,22 @@ groups-back o (suc more) (suc room) value place v le fits less = elim (cases_lt 
       let low : 128 + v % 128 < 2 ^ 8 = omega arith in
       let same = by_groups value place v in
       let few : v / 128 < 128 ^ suc room = omega (arith, fits, pow-suc 128 (suc room)) in
-      let others : GoesBack (groups_entry o (suc room) (128 * place) (value + place * (128 + v % 128 - 128))) (group_writes more o (v / 128)) (Ok (value + place * v)) =
-      subst (λ n. GoesBack (groups_entry o (suc room) (128 * place) (value + place * (128 + v % 128 - 128))) (group_writes more o (v / 128)) (Ok n)) same
+      let others : RoundTrip (groups_decoder o (suc room) (128 * place) (value + place * (128 + v % 128 - 128))) (group_writes more o (v / 128)) (Ok (value + place * v)) =
+      subst (λ n. RoundTrip (groups_decoder o (suc room) (128 * place) (value + place * (128 + v % 128 - 128))) (group_writes more o (v / 128)) (Ok n)) same
       (groups-back o more room (value + place * (128 + v % 128 - 128)) (128 * place) (v / 128) (omega (arith, le, enough)) few (omega (arith, same, less))) in
       rw (le-ltb v 128 enough)
       (unsigned-back o 8 _ _ 64 (128 + v % 128) _ refl low
       (rw (le-ltb (128 + v % 128) 128 (omega arith)) others))
 ]
 
-pub leb128-back : (o : Order) (value : ℕ) → value < 2 ^ 32 → GoesBack (leb128_entry o) (leb128_writes o value) (Ok value)
+pub leb128-back : (o : Order) (value : ℕ) → value < 2 ^ 32 → RoundTrip (leb128_decoder o) (leb128_writes o value) (Ok value)
 leb128-back o value less = record {
   back = λ len p more.
-      let same : write_run (group_writes value o value) len ≡ write_run (leb128_writes o value) len =
+      let same : write_sequence (group_writes value o value) len ≡ write_sequence (leb128_writes o value) len =
       groups_written value o value len (omega arith) ∙ sym (append-nil (groups value o 8 value)) in
       let one : 0 + 1 * value ≡ value = omega arith in
-      let back : GoesBack (leb128_entry o) (group_writes value o value) (Ok value) =
-      subst (λ n. GoesBack (leb128_entry o) (group_writes value o value) (Ok n)) one
+      let back : RoundTrip (leb128_decoder o) (group_writes value o value) (Ok value) =
+      subst (λ n. RoundTrip (leb128_decoder o) (group_writes value o value) (Ok n)) one
       (groups-back o value 7 0 1 value (omega arith) (omega arith) (omega arith)) in
       rw (← same) (back.back len p more);
 }
@@ -120,10 +120,10 @@ room_less place (suc room) some enough =
 -- a byte, and the groups after it
 pub groups_own : {R : Type 0} {K : BitSource R} {s t : R} {r : Result ℕ Av1Error} (o : Order) (room place value : ℕ)
     → 0 < room
-    → ReadsOwn K becomes_av1 (chain (unsigned_entry o 64 8) (λ byte.
-    if nat_lt byte 128 then gives (small (value + place * byte))
-    else groups_entry o (room - 1) (128 * place) (value + place * (byte - 128)))) s r t
-    → ReadsOwn K becomes_av1 (groups_entry o room place value) s r t
+    → ReadsOwn K becomes_av1 (and_then (unsigned_decoder o 64 8) (λ byte.
+    if nat_lt byte 128 then pure (small (value + place * byte))
+    else groups_decoder o (room - 1) (128 * place) (value + place * (byte - 128)))) s r t
+    → ReadsOwn K becomes_av1 (groups_decoder o room place value) s r t
 groups_own o zero place value some reads = absurd (omega (arith, some))
 groups_own o (suc room) place value some reads =
     let one : suc room - 1 ≡ room = omega arith in

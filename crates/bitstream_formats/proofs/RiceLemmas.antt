@@ -7,8 +7,8 @@ use Rattle.std.proofs.lemmas.Bool.{ne_eqb}
 use Rattle.std.proofs.lemmas.Int.{ints, to_z-of_z}
 use Rattle.bitstream_io.specs.Word.{zig, zag}
 use Rattle.bitstream_io.proofs.SignedLemmas.{zag-zig}
-use Rattle.bitstream_io.proofs.CallerLemmas.{◌≡◌, ◌∙◌, ℕ, ◌+◌, ◌^◌, ◌<◌, [], Order, GoesBack, ap, arith, computed-back, unary-back, var-back}
-use Rattle.bitstream_formats.specs.Rice.{rice_entry, rice_writes}
+use Rattle.bitstream_io.proofs.CallerLemmas.{◌≡◌, ◌∙◌, ℕ, ◌+◌, ◌^◌, ◌<◌, [], Order, RoundTrip, ap, arith, computed-back, unary-back, var-back}
+use Rattle.bitstream_formats.specs.Rice.{rice_decoder, rice_writes}
 
 -- the number at an odd place
 pub at_odd : (p : ℕ) → p < 2 ^ 64 → ¬ (p % 2 ≡ 0)
@@ -24,7 +24,7 @@ joined_fits k high low few small fits =
     omega (arith, power, product)
 
 pub rice-back : (o : Order) (k : ℕ) (x : ℤ) → k < 32 → zig x / 2 ^ k < 2 ^ 32
-    → GoesBack (rice_entry o k) (rice_writes o k x) x
+    → RoundTrip (rice_decoder o k) (rice_writes o k x) x
 rice-back o k x small high =
     let whole : zag (2 ^ k * (zig x / 2 ^ k) + zig x % 2 ^ k) ≡ x = ap zag (div-add-mod (zig x) (2 ^ k)) ∙ zag-zig x in
     unary-back _ x true (zig x / 2 ^ k) _ high

@@ -1,15 +1,15 @@
 -- Made by `./format` from formats/stream_info.fields: edit that file and make this one anew.
--- What was written of a `StreamInfo` is read back, and how many bits it takes.
-use Rattle.bitstream_formats.specs.StreamInfo.{stream_info_entry, stream_info_writes, stream_info_size, stream_info_bits, Fits}
+-- A written `StreamInfo` is read back, and its number of bits.
+use Rattle.bitstream_formats.specs.StreamInfo.{stream_info_decoder, stream_info_writes, stream_info_size, stream_info_bits, Fits}
 use Rattle.bitstream_formats.specs.declared.stream_info.StreamInfo.{StreamInfo}
 use Rattle.std.proofs.Common.{◌≡◌, ◌++◌, ◌∷◌, [], refl}
-use Rattle.bitstream_io.proofs.CallerLemmas.{GoesBack, Packs, unsigned-back, bytes-back, non_zero-back, gives-back, unsigned-written, bytes-written, non_zero-written, packs-none, packs-more, non_zero_u8-again}
+use Rattle.bitstream_io.proofs.CallerLemmas.{RoundTrip, Packs, unsigned-back, bytes-back, non_zero-back, pure-back, unsigned-written, bytes-written, non_zero-written, packs-none, packs-more, non_zero_u8-again}
 use Rattle.std.specs.Int.NonZero.{non_zero_u8_get}
-use Rattle.bitstream_io.specs.Callers.{Order, High, align, write_run, non_zero_u8}
+use Rattle.bitstream_io.specs.Callers.{Order, High, align, write_sequence, non_zero_u8}
 
--- what was written is read back
+-- a written value is read back
 pub stream_info_goes : (o : Order) (value : StreamInfo) → Fits value
-    → GoesBack (stream_info_entry o) (stream_info_writes o value) value
+    → RoundTrip (stream_info_decoder o) (stream_info_writes o value) value
 stream_info_goes o value fits =
     unsigned-back o 16 _ _ 16 value.minimum_block_size _ refl fits.minimum_block_size (unsigned-back o 16 _ _ 16
     value.maximum_block_size _ refl fits.maximum_block_size (unsigned-back o 24 _ _ 32 value.minimum_frame_size _
@@ -18,10 +18,10 @@ stream_info_goes o value fits =
     (non_zero_u8_get value.channels) value.channels _ refl fits.channels (non_zero_u8-again value.channels)
     (non_zero-back _ _ o non_zero_u8 8 5 (non_zero_u8_get value.bits_per_sample) value.bits_per_sample _ refl
     fits.bits_per_sample (non_zero_u8-again value.bits_per_sample) (unsigned-back o 36 _ _ 64 value.total_samples _
-    refl fits.total_samples (bytes-back _ _ o 16 value.checksum _ fits.checksum_count fits.checksum (gives-back
+    refl fits.total_samples (bytes-back _ _ o 16 value.checksum _ fits.checksum_count fits.checksum (pure-back
     _)))))))))
 
--- each write is accepted, and so many bits are written
+-- each write is accepted, and the value's size is the number of bits written
 pub stream_info_packs : (o : Order) (value : StreamInfo) → Fits value
     → Packs (stream_info_writes o value) (stream_info_size o value)
 stream_info_packs o value fits =
@@ -36,6 +36,6 @@ stream_info_packs o value fits =
 
 -- the bits, of which a search is to see no part
 pub told : (value : StreamInfo)
-    → write_run (stream_info_writes High value ++ align ∷ []) 0 ≡ stream_info_bits value
+    → write_sequence (stream_info_writes High value ++ align ∷ []) 0 ≡ stream_info_bits value
 unfolding stream_info_bits
 told value = refl

@@ -1,9 +1,9 @@
--- What stands before a frame of AAC (ISO/IEC 14496-3, section 1.A.2.2), without its checksum.
+-- The header before a frame of AAC (ISO/IEC 14496-3, section 1.A.2.2), without its checksum.
 use Rattle.bitstream_formats.specs.declared.adts_header.AdtsHeader.{AdtsHeader}
 use Rattle.bitstream_formats.specs.declared.adts_header.AdtsHeaderError.{AdtsHeaderError}
 use Rattle.bitstream_formats.specs.declared.adts_header.AdtsHeaderError.TheVariants.{Reader, NoSync, UnknownLayer}
 use Rattle.std.specs.Prelude.{◌≡◌, ◌^◌, ◌<◌, ◌++◌, ◌∷◌, [], if◌then◌else◌, ℕ, Bool, List, Result, Ok, Err, take, drop}
-use Rattle.bitstream_io.specs.Callers.{◌>>=◌, ReadEntry, WriteEntry, gives, Error, Order, High, number, word, first_bit, bit_entry, unsigned_entry, const_entry, plain, bit, unsigned, align, write_run}
+use Rattle.bitstream_io.specs.Callers.{◌>>=◌, Decoder, Encoder, pure, Error, Order, High, number, word, first_bit, bit_decoder, unsigned_decoder, const_decoder, plain, bit, unsigned, align, write_sequence}
 
 -- Made by `./format` from formats/adts_header.fields: edit that file and make this one anew.
 
@@ -11,7 +11,7 @@ use Rattle.bitstream_io.specs.Callers.{◌>>=◌, ReadEntry, WriteEntry, gives, 
 abbrev pub becomes_adts_header : Error → AdtsHeaderError → Type 0
 becomes_adts_header error own = own ≡ Reader error
 
--- n bits behind the first k
+-- n bits after the first k
 abbrev pub bits_at : ℕ → ℕ → List Bool → List Bool
 bits_at k n bits = take n (drop k bits)
 
@@ -23,22 +23,22 @@ const_at_0 bits = number High (bits_at 0 12 bits)
 abbrev pub const_at_13 : List Bool → ℕ
 const_at_13 bits = number High (bits_at 13 2 bits)
 
--- the reads, in order, behind 2 that may be refused
-abbrev pub adts_header_entry_2 : Order → Bool → ReadEntry (Result AdtsHeader AdtsHeaderError)
-adts_header_entry_2 o mpeg_2 = do
-  protection_absent ← bit_entry
-  profile ← unsigned_entry o 8 2
-  frequency ← unsigned_entry o 8 4
-  private ← bit_entry
-  channels ← unsigned_entry o 8 3
-  original ← bit_entry
-  home ← bit_entry
-  copyright_id ← bit_entry
-  copyright_start ← bit_entry
-  frame_length ← unsigned_entry o 16 13
-  fullness ← unsigned_entry o 16 11
-  blocks ← unsigned_entry o 8 2
-  gives (Ok (record {
+-- the reads, in order, after 2 that may be refused
+abbrev pub adts_header_decoder_2 : Order → Bool → Decoder (Result AdtsHeader AdtsHeaderError)
+adts_header_decoder_2 o mpeg_2 = do
+  protection_absent ← bit_decoder
+  profile ← unsigned_decoder o 8 2
+  frequency ← unsigned_decoder o 8 4
+  private ← bit_decoder
+  channels ← unsigned_decoder o 8 3
+  original ← bit_decoder
+  home ← bit_decoder
+  copyright_id ← bit_decoder
+  copyright_start ← bit_decoder
+  frame_length ← unsigned_decoder o 16 13
+  fullness ← unsigned_decoder o 16 11
+  blocks ← unsigned_decoder o 8 2
+  pure (Ok (record {
     mpeg_2 = mpeg_2;
     protection_absent = protection_absent;
     profile = profile;
@@ -54,21 +54,21 @@ adts_header_entry_2 o mpeg_2 = do
     blocks = blocks;
   }))
 
--- the reads, in order, behind 1 that may be refused
-abbrev pub adts_header_entry_1 : Order → ReadEntry (Result AdtsHeader AdtsHeaderError)
-adts_header_entry_1 o = do
-  mpeg_2 ← bit_entry
-  is_2 ← const_entry o 2 0
-  if is_2 then adts_header_entry_2 o mpeg_2 else gives (Err UnknownLayer)
+-- the reads, in order, after 1 that may be refused
+abbrev pub adts_header_decoder_1 : Order → Decoder (Result AdtsHeader AdtsHeaderError)
+adts_header_decoder_1 o = do
+  mpeg_2 ← bit_decoder
+  is_2 ← const_decoder o 2 0
+  if is_2 then adts_header_decoder_2 o mpeg_2 else pure (Err UnknownLayer)
 
 -- the reads, in order
-abbrev pub adts_header_entry : Order → ReadEntry (Result AdtsHeader AdtsHeaderError)
-adts_header_entry o = do
-  is_0 ← const_entry o 12 4095
-  if is_0 then adts_header_entry_1 o else gives (Err NoSync)
+abbrev pub adts_header_decoder : Order → Decoder (Result AdtsHeader AdtsHeaderError)
+adts_header_decoder o = do
+  is_0 ← const_decoder o 12 4095
+  if is_0 then adts_header_decoder_1 o else pure (Err NoSync)
 
 -- the writes, in order
-abbrev pub adts_header_writes : Order → AdtsHeader → List WriteEntry
+abbrev pub adts_header_writes : Order → AdtsHeader → List Encoder
 adts_header_writes o value =
     plain (word o 12 4095)
     ∷ bit value.mpeg_2
@@ -102,9 +102,9 @@ adts_header_size o value = 56
 
 -- the bits of all fields, up to a whole byte
 unfoldable pub adts_header_bits : AdtsHeader → List Bool
-adts_header_bits value = write_run (adts_header_writes High value ++ align ∷ []) 0
+adts_header_bits value = write_sequence (adts_header_writes High value ++ align ∷ []) 0
 
--- the fields that bits say, each by its place
+-- the fields in bits, each by its place
 abbrev pub adts_header_at : List Bool → AdtsHeader
 adts_header_at bits = record {
   mpeg_2 = first_bit (bits_at 12 1 bits);

@@ -1,6 +1,6 @@
 -- The coded numbers of FLAC's frames, which are coded as UTF-8 codes characters.
 use Rattle.std.specs.Prelude.{◌≡◌, ℕ, zero, suc, ◌+◌, ◌-◌, ◌*◌, ◌/◌, ◌%◌, ◌^◌, ◌==◌, false, List, [], ◌∷◌, Result, Ok, Err, nat_le, nat_lt, if◌then◌else◌}
-use Rattle.bitstream_io.specs.Callers.{ReadEntry, WriteEntry, chain, gives, Error, const_entry, unary_entry, unsigned_entry, ◌>>=◌, Order, plain, unary_word, unsigned, word}
+use Rattle.bitstream_io.specs.Callers.{Decoder, Encoder, and_then, pure, Error, const_decoder, unary_decoder, unsigned_decoder, ◌>>=◌, Order, plain, unary_word, unsigned, word}
 use Rattle.bitstream_formats.specs.declared.flac.error.FlacError.{FlacError}
 use Rattle.bitstream_formats.specs.declared.flac.error.FlacError.TheVariants.{Reader, NotCoded, LongCoded}
 
@@ -12,45 +12,45 @@ becomes_flac error own = own ≡ Reader error
 abbrev pub shortest : ℕ → ℕ → Result ℕ FlacError
 shortest least number = if nat_lt number least then Err LongCoded else Ok number
 
--- so many bytes behind the bits of `number`: each is 0b10 and six bits more
-abbrev pub rest_entry : Order → ℕ → ℕ → ℕ → ReadEntry (Result ℕ FlacError)
-rest_entry o least zero number = gives (shortest least number)
-rest_entry o least (suc bytes) number =
-    chain (const_entry o 2 2) (λ follows.
-    if follows then chain (unsigned_entry o 64 6) (λ six. rest_entry o least bytes (64 * number + six))
-    else gives (Err NotCoded))
+-- the bytes after the bits of `number`: each is 0b10 and six bits more
+abbrev pub rest_decoder : Order → ℕ → ℕ → ℕ → Decoder (Result ℕ FlacError)
+rest_decoder o least zero number = pure (shortest least number)
+rest_decoder o least (suc bytes) number =
+    and_then (const_decoder o 2 2) (λ follows.
+    if follows then and_then (unsigned_decoder o 64 6) (λ six. rest_decoder o least bytes (64 * number + six))
+    else pure (Err NotCoded))
 
--- the least number that needs so many bytes, of two and more
+-- the least number that needs this number of bytes, from two on
 abbrev pub least_of : ℕ → ℕ
 least_of bytes = if bytes == 2 then 2 ^ 7 else 2 ^ (5 * bytes - 4)
 
--- a number of so many bytes, two and more: the first one has as many ones in front
-abbrev pub bytes_entry : Order → ℕ → ReadEntry (Result ℕ FlacError)
-bytes_entry o bytes = do
-  first ← unsigned_entry o 64 (7 - bytes)
-  rest_entry o (least_of bytes) (bytes - 1) first
+-- a number of two bytes or more: the first byte begins with a one for each byte
+abbrev pub bytes_decoder : Order → ℕ → Decoder (Result ℕ FlacError)
+bytes_decoder o bytes = do
+  first ← unsigned_decoder o 64 (7 - bytes)
+  rest_decoder o (least_of bytes) (bytes - 1) first
 
 -- a number of one byte
-abbrev pub byte_entry : Order → ReadEntry (Result ℕ FlacError)
-byte_entry o = do
-  number ← unsigned_entry o 64 7
-  gives (Ok number)
+abbrev pub byte_decoder : Order → Decoder (Result ℕ FlacError)
+byte_decoder o = do
+  number ← unsigned_decoder o 64 7
+  pure (Ok number)
 
--- what stands behind so many ones and a 0
-abbrev pub ones_entry : Order → ℕ → ReadEntry (Result ℕ FlacError)
-ones_entry o ones =
-    if ones == 0 then byte_entry o
-    else if ones == 1 then gives (Err NotCoded)
-    else if nat_le ones 7 then bytes_entry o ones
-    else gives (Err NotCoded)
+-- the part after a number of ones and a 0
+abbrev pub ones_decoder : Order → ℕ → Decoder (Result ℕ FlacError)
+ones_decoder o ones =
+    if ones == 0 then byte_decoder o
+    else if ones == 1 then pure (Err NotCoded)
+    else if nat_le ones 7 then bytes_decoder o ones
+    else pure (Err NotCoded)
 
 -- a coded number: a 0 and seven bits, or two to seven bytes
-abbrev pub coded_entry : Order → ReadEntry (Result ℕ FlacError)
-coded_entry o = do
-  ones ← unary_entry false
-  ones_entry o ones
+abbrev pub coded_decoder : Order → Decoder (Result ℕ FlacError)
+coded_decoder o = do
+  ones ← unary_decoder false
+  ones_decoder o ones
 
--- how many bytes a number needs
+-- the number of bytes that a number needs
 abbrev pub bytes_needed : ℕ → ℕ
 bytes_needed number =
     if nat_lt number (2 ^ 11) then 2
@@ -61,18 +61,18 @@ bytes_needed number =
     else 7
 
 -- the writes of the last bytes of a number
-abbrev pub rest_writes : Order → ℕ → ℕ → List WriteEntry
+abbrev pub rest_writes : Order → ℕ → ℕ → List Encoder
 rest_writes o zero number = []
 rest_writes o (suc bytes) number =
     plain (word o 2 2) ∷ unsigned o 64 6 (number / 64 ^ bytes % 64) ∷ rest_writes o bytes number
 
--- the writes of a number in so many bytes, two and more
-abbrev pub bytes_writes : Order → ℕ → ℕ → List WriteEntry
+-- the writes of a number in two bytes or more
+abbrev pub bytes_writes : Order → ℕ → ℕ → List Encoder
 bytes_writes o bytes number =
     unary_word false bytes ∷ unsigned o 64 (7 - bytes) (number / 64 ^ (bytes - 1)) ∷ rest_writes o (bytes - 1) number
 
 -- the writes of a number below 2^36
-abbrev pub coded_writes : Order → ℕ → List WriteEntry
+abbrev pub coded_writes : Order → ℕ → List Encoder
 coded_writes o number =
     if nat_lt number (2 ^ 7) then unary_word false 0 ∷ unsigned o 64 7 number ∷ []
     else bytes_writes o (bytes_needed number) number

@@ -6,7 +6,7 @@ use Rattle.bitstream_formats.specs.declared.flac.header.Channels.{Channels}
 use Rattle.bitstream_formats.specs.declared.flac.header.Channels.TheVariants.{Independent, LeftSide, SideRight, MidSide}
 use Rattle.bitstream_formats.specs.declared.stream_info.StreamInfo.{StreamInfo}
 
--- how many channels a frame has
+-- the number of channels of a frame
 abbrev pub channel_count : Channels → ℕ
 channel_count (Independent count) = count
 channel_count LeftSide = 2

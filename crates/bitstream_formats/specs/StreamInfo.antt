@@ -1,29 +1,29 @@
--- What a FLAC file says of all its frames (RFC 9639, section 8.2).
+-- The properties of all frames of a FLAC file (RFC 9639, section 8.2).
 use Rattle.bitstream_formats.specs.declared.stream_info.StreamInfo.{StreamInfo}
 use Rattle.std.specs.Prelude.{◌≡◌, ◌^◌, ◌<◌, ◌-◌, ◌++◌, ◌∷◌, [], ℕ, Bool, List, length, take, drop}
 use Rattle.std.specs.List.{All}
 use Rattle.std.specs.Int.NonZero.{non_zero_u8_get}
-use Rattle.bitstream_io.specs.Callers.{◌>>=◌, ReadEntry, WriteEntry, gives, Order, High, number, unsigned_entry, bytes_entry, bytes_of, unsigned, buffer, align, non_zero, write_run, non_zero_u8, non_zero_u8_entry}
+use Rattle.bitstream_io.specs.Callers.{◌>>=◌, Decoder, Encoder, pure, Order, High, number, unsigned_decoder, bytes_decoder, bytes_of, unsigned, buffer, align, non_zero, write_sequence, non_zero_u8, non_zero_u8_decoder}
 
 -- Made by `./format` from formats/stream_info.fields: edit that file and make this one anew.
 
--- n bits behind the first k
+-- n bits after the first k
 abbrev pub bits_at : ℕ → ℕ → List Bool → List Bool
 bits_at k n bits = take n (drop k bits)
 
 -- the reads, in order
-abbrev pub stream_info_entry : Order → ReadEntry StreamInfo
-stream_info_entry o = do
-  minimum_block_size ← unsigned_entry o 16 16
-  maximum_block_size ← unsigned_entry o 16 16
-  minimum_frame_size ← unsigned_entry o 32 24
-  maximum_frame_size ← unsigned_entry o 32 24
-  sample_rate ← unsigned_entry o 32 20
-  channels ← non_zero_u8_entry o 3
-  bits_per_sample ← non_zero_u8_entry o 5
-  total_samples ← unsigned_entry o 64 36
-  checksum ← bytes_entry o 16
-  gives (record {
+abbrev pub stream_info_decoder : Order → Decoder StreamInfo
+stream_info_decoder o = do
+  minimum_block_size ← unsigned_decoder o 16 16
+  maximum_block_size ← unsigned_decoder o 16 16
+  minimum_frame_size ← unsigned_decoder o 32 24
+  maximum_frame_size ← unsigned_decoder o 32 24
+  sample_rate ← unsigned_decoder o 32 20
+  channels ← non_zero_u8_decoder o 3
+  bits_per_sample ← non_zero_u8_decoder o 5
+  total_samples ← unsigned_decoder o 64 36
+  checksum ← bytes_decoder o 16
+  pure (record {
     minimum_block_size = minimum_block_size;
     maximum_block_size = maximum_block_size;
     minimum_frame_size =
@@ -37,7 +37,7 @@ stream_info_entry o = do
   })
 
 -- the writes, in order
-abbrev pub stream_info_writes : Order → StreamInfo → List WriteEntry
+abbrev pub stream_info_writes : Order → StreamInfo → List Encoder
 stream_info_writes o value =
     unsigned o 16 16 value.minimum_block_size
     ∷ unsigned o 16 16 value.maximum_block_size
@@ -69,9 +69,9 @@ stream_info_size o value = 272
 
 -- the bits of all fields, up to a whole byte
 unfoldable pub stream_info_bits : StreamInfo → List Bool
-stream_info_bits value = write_run (stream_info_writes High value ++ align ∷ []) 0
+stream_info_bits value = write_sequence (stream_info_writes High value ++ align ∷ []) 0
 
--- the fields that bits say, each by its place
+-- the fields in bits, each by its place
 abbrev pub stream_info_at : List Bool → StreamInfo
 stream_info_at bits = record {
   minimum_block_size = number High (bits_at 0 16 bits);

@@ -13,7 +13,7 @@ pub enum AdtsError {
     /// The header was not read, or the bytes end before the frame does.
     #[error(transparent)]
     Header(#[from] AdtsHeaderError),
-    /// The length of the frame is less than that of its header.
+    /// The length of the frame is less than the length of its header.
     #[error("the frame is shorter than its header")]
     FrameTooShort,
 }
@@ -48,8 +48,9 @@ impl<'a> Frames<'a> {
     ///
     /// # Errors
     ///
-    /// Those of [`AdtsError`]: `FrameTooShort` for a frame that is shorter than its header, with the checksum and
-    /// what comes before it. The elements that were read before are appended.
+    /// The errors of [`AdtsError`]: `FrameTooShort` for a frame that is shorter than its header,
+    /// with the checksum and the elements before it. The elements that were read before are
+    /// appended.
     pub fn next_frame(
         &mut self,
         elements: &mut Vec<Element>,
@@ -127,35 +128,26 @@ fn note_header(
     header: &AdtsHeader,
 ) -> Result<(), Error> {
     let elements = [
-        (0, "syncword", 0xfff),
-        (12, "ID", header.mpeg_2 as i64),
-        (13, "layer", 0),
-        (15, "protection_absent", header.protection_absent as i64),
-        (16, "profile_ObjectType", header.profile as i64),
-        (18, "sampling_frequency_index", header.frequency as i64),
-        (22, "private_bit", header.private as i64),
-        (23, "channel_configuration", header.channels as i64),
-        (26, "original_copy", header.original as i64),
-        (27, "home", header.home as i64),
+        ("syncword", 0xfff),
+        ("ID", header.mpeg_2 as i64),
+        ("layer", 0),
+        ("protection_absent", header.protection_absent as i64),
+        ("profile_ObjectType", header.profile as i64),
+        ("sampling_frequency_index", header.frequency as i64),
+        ("private_bit", header.private as i64),
+        ("channel_configuration", header.channels as i64),
+        ("original_copy", header.original as i64),
+        ("home", header.home as i64),
+        ("copyright_identification_bit", header.copyright_id as i64),
         (
-            28,
-            "copyright_identification_bit",
-            header.copyright_id as i64,
-        ),
-        (
-            29,
             "copyright_identification_start",
             header.copyright_start as i64,
         ),
-        (30, "aac_frame_length", header.frame_length as i64),
-        (43, "adts_buffer_fullness", header.fullness as i64),
-        (
-            54,
-            "number_of_raw_data_blocks_in_frame",
-            header.blocks as i64,
-        ),
+        ("aac_frame_length", header.frame_length as i64),
+        ("adts_buffer_fullness", header.fullness as i64),
+        ("number_of_raw_data_blocks_in_frame", header.blocks as i64),
     ];
-    for (at, name, value) in elements {
+    for (at, (name, value)) in AdtsHeader::PLACES.into_iter().zip(elements) {
         syntax.note(start.saturating_add(at), name, value)?;
     }
     Ok(())

@@ -1,13 +1,13 @@
-//! What stands before a frame of AAC (ISO/IEC 14496-3, section 1.A.2.2), without its checksum.
+//! The header before a frame of AAC (ISO/IEC 14496-3, section 1.A.2.2), without its checksum.
 //!
 //! Made by `./format` from formats/adts_header.fields: edit that file and make this one anew.
-ghost use Rattle.bitstream_formats.specs.AdtsHeader.{adts_header_entry, adts_header_writes, adts_header_bits, adts_header_at, Fits, becomes_adts_header, const_at_0, const_at_13};
+ghost use Rattle.bitstream_formats.specs.AdtsHeader.{adts_header_decoder, adts_header_writes, adts_header_bits, adts_header_at, Fits, becomes_adts_header, const_at_0, const_at_13};
 ghost use Rattle.bitstream_formats.specs.declared.adts_header.AdtsHeader.{AdtsHeader};
 ghost use Rattle.bitstream_formats.specs.declared.adts_header.AdtsHeaderError.{AdtsHeaderError};
 ghost use Rattle.bitstream_formats.specs.declared.adts_header.AdtsHeaderError.TheVariants.{Reader, NoSync, UnknownLayer};
 ghost use Rattle.std.specs.Prelude.{◌≡◌, ◌≢◌, ◌<◌, ◌≤◌, ◌++◌, ℕ, Bool, List, Ok, Err, length, IfOk, IsOk};
 ghost use Rattle.std.specs.declared.io.ErrorKind.TheVariants.{WriteZero};
-ghost use Rattle.bitstream_io.specs.Callers.{Takes, Error, EndOfInput, Order, High, bits, write_run, ReadsOwn, OwnAnswer, WritesAll, run_length, sure_answer, Stream, same_error};
+ghost use Rattle.bitstream_io.specs.Callers.{Done, Error, EndOfInput, Order, High, bits, write_sequence, ReadsOwn, OwnAnswer, WritesAll, sequence_length, sure_answer, Stream, same_error};
 ghost use Rattle.bitstream_io.specs.SliceMut.{HoldsFirst, written_bytes};
 
 use bitstream_io::{
@@ -15,7 +15,7 @@ use bitstream_io::{
     SliceMut, ToBitStream, pack_into,
 };
 
-/// What stands before a frame of AAC (ISO/IEC 14496-3, section 1.A.2.2), without its checksum.
+/// The header before a frame of AAC (ISO/IEC 14496-3, section 1.A.2.2), without its checksum.
 ///
 /// ```text
 ///  0                   1                   2                   3
@@ -28,9 +28,9 @@ use bitstream_io::{
 /// ```
 #[derive(Clone, Copy, Debug, PartialEq)]
 pub struct AdtsHeader {
-    /// Whether the frame is of MPEG-2, and not of MPEG-4.
+    /// True if the frame is MPEG-2, and not MPEG-4.
     pub mpeg_2: bool,
-    /// Whether no checksum follows.
+    /// True if no checksum follows.
     pub protection_absent: bool,
     /// The profile. Below 2^2.
     pub profile: u8,
@@ -40,23 +40,23 @@ pub struct AdtsHeader {
     pub private: bool,
     /// The channel configuration. Below 2^3.
     pub channels: u8,
-    /// Whether the work is an original.
+    /// True if the work is an original.
     pub original: bool,
-    /// Whether the work is for the home.
+    /// True if the work is for the home.
     pub home: bool,
     /// A bit of the number that is registered for the work.
     pub copyright_id: bool,
-    /// Whether that number starts here.
+    /// True if that number starts here.
     pub copyright_start: bool,
     /// The bytes of the frame with this header. Below 2^13.
     pub frame_length: u16,
-    /// How full the buffer is. Below 2^11.
+    /// The fullness of the buffer. Below 2^11.
     pub fullness: u16,
     /// The blocks of the frame but one. Below 2^2.
     pub blocks: u8,
 }
 
-/// Why an `AdtsHeader` is not read.
+/// The errors of reading an `AdtsHeader`.
 #[derive(Debug, Drop, thiserror::Error)]
 pub enum AdtsHeaderError {
     /// An error of the reader.
@@ -79,14 +79,17 @@ impl From<Error> for AdtsHeaderError {
 }
 
 impl AdtsHeader {
+    /// The number of bits before each line of the description.
+    pub const PLACES: [u64; 15] = [0, 12, 13, 15, 16, 18, 22, 23, 26, 27, 28, 29, 30, 43, 54];
+
     /// Reads the fields in order.
     ///
     /// # Errors
     ///
-    /// `NoSync`, `UnknownLayer`, behind the bits that say so.
-    /// Else those of the reader: after each of them it has failed.
+    /// `NoSync`, `UnknownLayer`, after the bits that are refused.
+    /// Else the errors of the reader: after each of them it has failed.
     pub fn read<R: BitRead>(reader: &mut R) -> Result<AdtsHeader, AdtsHeaderError>
-        ensures { ReadsOwn R.source becomes_adts_header (adts_header_entry R.source.order) reader.old result reader.new }
+        ensures { ReadsOwn R.source becomes_adts_header (adts_header_decoder R.source.order) reader.old result reader.new }
     {
         reader.read_const::<Bits<12>, Bits<4095>, AdtsHeaderError>(AdtsHeaderError::NoSync)?;
         let mpeg_2 = reader.read_bit()?;
@@ -120,14 +123,14 @@ impl AdtsHeader {
         })
     }
 
-    /// Returns what bytes begin with.
+    /// Parses the value at the start of `packet`.
     ///
     /// # Errors
     ///
     /// `NoSync`, `UnknownLayer`, `Reader(EndOfInput)` for fewer than 7 bytes.
     pub fn parse(packet: &[u8]) -> Result<AdtsHeader, AdtsHeaderError>
         ensures answer { OwnAnswer becomes_adts_header (λ answer. answer)
-            (sure_answer ((adts_header_entry High).reads 0 (bits High packet.now))) result }
+            (sure_answer ((adts_header_decoder High).reads 0 (bits High packet.now))) result }
         ensures there { 7 ≤ length packet.now → const_at_0 (bits High packet.now) ≡ 4095
             → const_at_13 (bits High packet.now) ≡ 0
             → result ≡ Ok (adts_header_at (bits High packet.now)) }
@@ -142,7 +145,7 @@ impl AdtsHeader {
         ensures back { (value : AdtsHeader) (more : List Bool) → Fits value
             → bits High packet.now ≡ adts_header_bits value ++ more → result ≡ Ok value }
     {
-        adts_header_goes_back();
+        adts_header_round_trip();
         AdtsHeader::read(&mut BitReader::<_, BE>::over(packet))
     }
 
@@ -151,7 +154,7 @@ impl AdtsHeader {
     /// # Errors
     ///
     /// `Checked` for a field that does not fit its bits. The fields before it are written then.
-    /// Else those of the sink.
+    /// Else the errors of the sink.
     pub fn write<W: BitWrite>(&self, writer: &mut W) -> Result<(), Error>
         ensures { WritesAll W.sink (adts_header_writes W.sink.order self.now) writer.old result writer.new }
     {
@@ -185,7 +188,7 @@ impl AdtsHeader {
         ensures packed { IfOk result (λ packed. bits High (written_bytes packed) ≡ adts_header_bits self.now) }
         ensures first { IfOk result (HoldsFirst buffer.entry.ghost_name buffer.old) }
         ensures fits { IsOk result → Fits self.now }
-        ensures misfit { (error : Error) → run_length (adts_header_writes High self.now) 0 ≡ Err error
+        ensures misfit { (error : Error) → sequence_length (adts_header_writes High self.now) 0 ≡ Err error
             → result ≡ Err error }
         ensures room { Fits self.now → 7 ≤ length buffer.old → IsOk result }
         ensures short { Fits self.now → length buffer.old < 7 → result ≡ Err (Stream WriteZero) }
@@ -199,7 +202,7 @@ impl FromBitStream for AdtsHeader {
 
     ghost becomes = { becomes_adts_header };
 
-    ghost reads = { adts_header_entry };
+    ghost reads = { adts_header_decoder };
 
     fn from_reader<R: BitRead>(reader: &mut R) -> Result<AdtsHeader, AdtsHeaderError> {
         AdtsHeader::read(reader)
@@ -218,12 +221,12 @@ impl ToBitStream for AdtsHeader {
     }
 }
 
-/// What fits its bits is read back as it was written, in either order of bits, wherever it stands.
-/// The read takes the bits that were written, and no more: 56 bits.
-pub fn adts_header_goes_back()
+/// A value that fits its bits is read back as it was written, in either order of bits, at any place.
+/// The read takes only the bits that were written: 56 bits.
+pub fn adts_header_round_trip()
     ensures back { (o : Order) (value : AdtsHeader) (at from : ℕ) (more : List Bool) → Fits value
-        → let written = write_run (adts_header_writes o value) at in
-        (adts_header_entry o).reads from (written ++ more) ≡ Takes (length written) (Ok (Ok value)) }
+        → let written = write_sequence (adts_header_writes o value) at in
+        (adts_header_decoder o).reads from (written ++ more) ≡ Done (length written) (Ok (Ok value)) }
     ensures size { (o : Order) (value : AdtsHeader) (at : ℕ) → Fits value
-        → length (write_run (adts_header_writes o value) at) ≡ 56 }
+        → length (write_sequence (adts_header_writes o value) at) ≡ 56 }
 {}

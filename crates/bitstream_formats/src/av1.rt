@@ -8,10 +8,10 @@ use bitstream_io::{BE, BitRead, BitReadExt, Bits, Error, SliceReader};
 mod leb128;
 mod sequence;
 
-pub use leb128::{leb128_numbers_go_back, read_leb128};
+pub use leb128::{leb128_numbers_round_trip, read_leb128};
 use sequence::read_sequence;
 
-/// Why an OBU is not read.
+/// The reasons that an OBU is not read.
 #[derive(Debug, Drop, thiserror::Error)]
 pub enum Av1Error {
     /// The bits were not read.
@@ -20,7 +20,7 @@ pub enum Av1Error {
     /// The first bit of an OBU is not 0.
     #[error("the forbidden bit is set")]
     Forbidden,
-    /// An OBU does not say its size.
+    /// An OBU has no size.
     #[error("an OBU has no size field")]
     NoSize,
     /// The size is 2^32 or more, or has more than eight bytes.
@@ -66,13 +66,14 @@ impl<'a> Obus<'a> {
         self.reader.rest()
     }
 
-    /// Reads an OBU, and appends the elements of its header, and if it is a sequence header its elements.
-    /// Answers whether there was one.
+    /// Reads an OBU, and appends the elements of its header and, for a sequence header, of its
+    /// contents. Returns true if there was an OBU.
     ///
     /// # Errors
     ///
-    /// Those of [`Av1Error`]. The elements that were read before are appended. After an error in a sequence
-    /// header the next call reads the next OBU. After an error in the header of an OBU no later one is found.
+    /// The errors of [`Av1Error`]. The elements that were read before are appended. After an error
+    /// in a sequence header the next call reads the next OBU. After an error in the header of an
+    /// OBU no later one is found.
     pub fn next_obu(&mut self, elements: &mut Vec<Element>) -> Result<bool, At<Av1Error>> {
         if self.reader.is_at_end() {
             return Ok(false);
@@ -137,7 +138,7 @@ fn read_whole_sequence(syntax: &mut Obu<'_, '_, '_>) -> Result<(), Av1Error> {
     Ok(())
 }
 
-/// Reads the header of an OBU: its type, and the bytes behind it.
+/// Reads the header of an OBU. Returns its type and the number of bytes after it.
 fn read_header(syntax: &mut Obu<'_, '_, '_>) -> Result<(u32, usize), Av1Error> {
     if syntax.flag("obu_forbidden_bit")? {
         return Err(Av1Error::Forbidden);

@@ -1,4 +1,4 @@
-//! Elements of a format, as they are read one by one.
+//! Elements of a format, which are read one by one.
 ghost use Rattle.std.specs.Prelude.{◌<◌, ◌^◌, IfOk};
 
 use bitstream_io::{BitRead, BitReadExt, Endianness, Error, SliceReader};
@@ -30,11 +30,11 @@ impl fmt::Display for Index {
 pub struct Element {
     /// The place of its first bit.
     pub place: u64,
-    /// Its name in the format's document.
+    /// The name in the format's document.
     pub name: &'static str,
-    /// Its numbers, of several of one name.
+    /// The indexes among elements of the same name.
     pub index: Option<Index>,
-    /// Its value. Of a number of 64 bits without a sign, the signed one of the same bits.
+    /// The value. For an unsigned number of 64 bits, the signed number with the same bits.
     pub value: i64,
 }
 
@@ -47,12 +47,12 @@ impl fmt::Display for Element {
     }
 }
 
-/// A reader, and what was read by it.
+/// A reader, and the elements that it read.
 #[derive(Drop)]
 pub(crate) struct Syntax<'r, 'a, 'b, E: Endianness> {
     /// The reader.
     pub(crate) reader: &'r mut SliceReader<'a, E>,
-    /// What was read.
+    /// The elements read.
     pub(crate) elements: &'b mut Vec<Element>,
     /// The numbers of the elements that are being read.
     pub(crate) index: Option<Index>,

@@ -13,11 +13,11 @@ mod rice;
 mod subframe;
 mod sum;
 
-pub use coded::{coded_numbers_go_back, read_coded};
+pub use coded::{coded_numbers_round_trip, read_coded};
 pub use crc::{Crc16, crc8};
 pub use decoder::Decoder;
 pub use error::FlacError;
 pub use frame::Frame;
 pub use header::{Channels, FrameHeader};
 pub use metadata::{Block, Blocks};
-pub use rice::{read_rice, rice_numbers_go_back};
+pub use rice::{read_rice, rice_numbers_round_trip};

@@ -1,5 +1,6 @@
-//! H.264 (ITU-T H.264, ISO/IEC 14496-10): the units of a byte stream, and the elements of its sequence and
-//! picture parameter sets. [`Stream`] reads a whole stream, and goes on after a unit that it refuses.
+//! H.264 (ITU-T H.264, ISO/IEC 14496-10): the units of a byte stream, and the elements of its
+//! sequence and picture parameter sets. [`Stream`] reads a whole stream, and continues after a unit
+//! that it refuses.
 
 ghost use Rattle.std.specs.Prelude.{◌≡◌, IsErr};
 
@@ -16,7 +17,7 @@ mod sps;
 mod stream;
 mod vui;
 
-pub use crate::nal::{Units, emulation_goes_back, remove_emulation};
+pub use crate::nal::{Units, emulation_round_trip, remove_emulation};
 use pps::read_pps;
 pub use sets::{ParameterSets, PictureSet, SequenceSet};
 use sps::read_sps;
@@ -60,29 +61,30 @@ impl From<Error> for H264Error {
     }
 }
 
-/// What a unit is.
+/// The kind of a unit.
 #[derive(Clone, Copy, Debug, PartialEq, Eq)]
 pub enum Unit {
     /// A sequence parameter set.
     Sequence,
     /// A picture parameter set.
     Picture,
-    /// Another one. Only its header is read.
+    /// Another kind of unit. Only its header is read.
     Other,
 }
 
 /// Reads a unit without its start code, and appends the elements of its header and of a parameter set. Their
 /// places are counted in bits of the unit without its bytes against emulation, as the standard counts them.
 ///
-/// A parameter set that was read whole is kept in `sets`, in place of the one of its number. A picture
-/// parameter set is read by the sequence parameter set of `sets` that it names.
+/// A parameter set that was read whole is kept in `sets`, and replaces the one of its number. A
+/// picture parameter set is read with the sequence parameter set of `sets` that it names.
 ///
 /// The end of a unit is checked: the stop bit is 1 and the bits after it are 0. What the other units hold is
 /// not read, so their last 1 counts as the stop bit. It must come after the header.
 ///
 /// # Errors
 ///
-/// Those of [`H264Error`]: `sets` are unchanged, and the elements that were read before are appended.
+/// The errors of [`H264Error`]: `sets` are unchanged, and the elements that were read before are
+/// appended.
 pub fn read_unit(
     alloc: Global,
     sets: &mut ParameterSets,

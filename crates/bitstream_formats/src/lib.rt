@@ -1,24 +1,24 @@
 //! Formats of audio, video, transport and compression, read over `bitstream_io`: from bytes in memory, and
 //! by `deflate` from any reader.
 //!
-//! What is wrong with some bytes is an error of the format's own, with the bit at which the reader
-//! stood ([`at::At`]). Nothing is asked of the bytes, and a length or a count that they say takes no
-//! memory which they do not fill.
+//! An error in some bytes is an error of the format's own, with the bit at which the reader was
+//! ([`at::At`]). There is no condition on the bytes, and a length or a count in them takes no
+//! memory that they do not fill.
 //!
 //! [`flac`] and [`deflate`] decode. The others read headers, element by element ([`element::Element`]).
 //!
 //! - [`adts`]: ADTS, the frames of AAC in a stream
-//! - [`adts_header`]: the header of such a frame, printed by `./format`
-//! - [`at`]: where an error was found
+//! - [`adts_header`]: the header of an ADTS frame, printed by `./format`
+//! - [`at`]: the places of errors
 //! - [`av1`]: AV1: the headers of OBUs, and sequence headers
 //! - [`deflate`]: DEFLATE, and the files of gzip
-//! - [`element`]: elements of a format, as they are read one by one
+//! - [`element`]: elements of a format, which are read one by one
 //! - [`flac`]: FLAC: the metadata of a file, and its samples
 //! - [`h264`]: H.264: the units of a byte stream, and its parameter sets
 //! - [`h265`]: H.265: the same, with video parameter sets
 //! - [`nal`]: what H.264 and H.265 have in common: units, and bytes against emulation
 //! - [`ogg`]: Ogg: pages and packets, and the first byte of a packet of Opus
-//! - [`stream_info`]: what a FLAC file says of all its frames, printed by `./format`
+//! - [`stream_info`]: the properties of all frames of a FLAC file, printed by `./format`
 //! - [`ts`]: MPEG transport streams: packets, and the headers of PES packets
 #![tactic(auto)]
 

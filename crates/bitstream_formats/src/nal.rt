@@ -10,7 +10,7 @@ mod signal;
 mod trailing;
 mod units;
 
-pub use emulation::{emulation_goes_back, remove_emulation};
+pub use emulation::{emulation_round_trip, remove_emulation};
 pub(crate) use golomb::{read_se, read_ue};
 pub use refused::RefusedUnit;
 pub(crate) use signal::read_signal;

@@ -5,7 +5,7 @@ use crate::at::At;
 use crate::element::{Element, Syntax};
 use bitstream_io::{BE, BitRead, BitReadExt, Bits, Error, LE, SliceReader};
 
-/// Why a page is not read.
+/// The reasons that a page is not read.
 #[derive(Debug, Drop, thiserror::Error)]
 pub enum OggError {
     /// The bits were not read.
@@ -17,7 +17,7 @@ pub enum OggError {
     /// The version of the page is not 0.
     #[error("the version of the page is not 0")]
     UnknownVersion,
-    /// The checksum of the page is not that of its bytes.
+    /// The checksum of the page differs from its bytes.
     #[error("the checksum of the page is wrong")]
     Checksum,
 }
@@ -69,12 +69,13 @@ impl<'a> Pages<'a> {
         self.reader.rest()
     }
 
-    /// Reads a page, and appends its elements: those of its header, the length of each packet that ends
-    /// in it, and the first byte of each that begins in it as Opus has it. Answers whether there was one.
+    /// Reads a page, and appends the elements of its header, the length of each packet that ends in
+    /// it, and the first byte of each packet that begins in it as Opus has it. Returns true if
+    /// there was a page.
     ///
     /// # Errors
     ///
-    /// Those of [`OggError`]. The elements that were read before are appended.
+    /// The errors of [`OggError`]. The elements that were read before are appended.
     pub fn next_page(&mut self, elements: &mut Vec<Element>) -> Result<bool, At<OggError>> {
         if self.reader.is_at_end() {
             return Ok(false);
@@ -123,7 +124,7 @@ fn read_page(
     Ok(())
 }
 
-/// Reads the packets of a page. `goes_on` tells whether the first one began in a page before.
+/// Reads the packets of a page. `goes_on` is true if the first one began in a page before.
 fn read_packets(
     syntax: &mut Syntax<'_, '_, '_, LE>,
     laces: &[u8],

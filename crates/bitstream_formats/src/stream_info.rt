@@ -1,11 +1,11 @@
-//! What a FLAC file says of all its frames (RFC 9639, section 8.2).
+//! The properties of all frames of a FLAC file (RFC 9639, section 8.2).
 //!
 //! Made by `./format` from formats/stream_info.fields: edit that file and make this one anew.
-ghost use Rattle.bitstream_formats.specs.StreamInfo.{stream_info_entry, stream_info_writes, stream_info_bits, stream_info_at, Fits};
+ghost use Rattle.bitstream_formats.specs.StreamInfo.{stream_info_decoder, stream_info_writes, stream_info_bits, stream_info_at, Fits};
 ghost use Rattle.bitstream_formats.specs.declared.stream_info.StreamInfo.{StreamInfo};
 ghost use Rattle.std.specs.Prelude.{◌≡◌, ◌<◌, ◌≤◌, ◌++◌, ℕ, Bool, List, Ok, Err, length, IfOk, IsOk};
 ghost use Rattle.std.specs.declared.io.ErrorKind.TheVariants.{WriteZero};
-ghost use Rattle.bitstream_io.specs.Callers.{Takes, Error, EndOfInput, Order, High, bits, write_run, Reads, WritesAll, AllAccepted, run_length, sure_answer, Stream, same_error, plain_reads};
+ghost use Rattle.bitstream_io.specs.Callers.{Done, Error, EndOfInput, Order, High, bits, write_sequence, Reads, WritesAll, AllAccepted, sequence_length, sure_answer, Stream, same_error, plain_reads};
 ghost use Rattle.bitstream_io.specs.SliceMut.{HoldsFirst, written_bytes};
 
 use bitstream_io::{
@@ -14,7 +14,7 @@ use bitstream_io::{
 };
 use std::num::NonZero;
 
-/// What a FLAC file says of all its frames (RFC 9639, section 8.2).
+/// The properties of all frames of a FLAC file (RFC 9639, section 8.2).
 ///
 /// ```text
 ///  0                   1                   2                   3
@@ -58,13 +58,16 @@ pub struct StreamInfo {
 }
 
 impl StreamInfo {
+    /// The number of bits before each line of the description.
+    pub const PLACES: [u64; 9] = [0, 16, 32, 56, 80, 100, 103, 108, 144];
+
     /// Reads the fields in order.
     ///
     /// # Errors
     ///
-    /// Those of the reader: after each of them it has failed.
+    /// The errors of the reader: after each of them it has failed.
     pub fn read<R: BitRead>(reader: &mut R) -> Result<StreamInfo, Error>
-        ensures { Reads R.source (stream_info_entry R.source.order) reader.old result reader.new }
+        ensures { Reads R.source (stream_info_decoder R.source.order) reader.old result reader.new }
     {
         let minimum_block_size = reader.read::<Bits<16>, u16>()?;
         let maximum_block_size = reader.read::<Bits<16>, u16>()?;
@@ -88,20 +91,20 @@ impl StreamInfo {
         })
     }
 
-    /// Returns what bytes begin with.
+    /// Parses the value at the start of `packet`.
     ///
     /// # Errors
     ///
     /// `EndOfInput` for fewer than 34 bytes.
     pub fn parse(packet: &[u8]) -> Result<StreamInfo, Error>
-        ensures answer { result ≡ sure_answer ((stream_info_entry High).reads 0 (bits High packet.now)) }
+        ensures answer { result ≡ sure_answer ((stream_info_decoder High).reads 0 (bits High packet.now)) }
         ensures there { 34 ≤ length packet.now
             → result ≡ Ok (stream_info_at (bits High packet.now)) }
         ensures short { length packet.now < 34 → result ≡ Err EndOfInput }
         ensures back { (value : StreamInfo) (more : List Bool) → Fits value
             → bits High packet.now ≡ stream_info_bits value ++ more → result ≡ Ok value }
     {
-        stream_info_goes_back();
+        stream_info_round_trip();
         StreamInfo::read(&mut BitReader::<_, BE>::over(packet))
     }
 
@@ -110,7 +113,7 @@ impl StreamInfo {
     /// # Errors
     ///
     /// `Checked` for a field that does not fit its bits. The fields before it are written then.
-    /// Else those of the sink.
+    /// Else the errors of the sink.
     pub fn write<W: BitWrite>(&self, writer: &mut W) -> Result<(), Error>
         ensures { WritesAll W.sink (stream_info_writes W.sink.order self.now) writer.old result writer.new }
     {
@@ -138,7 +141,7 @@ impl StreamInfo {
         ensures packed { IfOk result (λ packed. bits High (written_bytes packed) ≡ stream_info_bits self.now) }
         ensures first { IfOk result (HoldsFirst buffer.entry.ghost_name buffer.old) }
         ensures accepted { IsOk result → AllAccepted (stream_info_writes High self.now) 0 }
-        ensures misfit { (error : Error) → run_length (stream_info_writes High self.now) 0 ≡ Err error
+        ensures misfit { (error : Error) → sequence_length (stream_info_writes High self.now) 0 ≡ Err error
             → result ≡ Err error }
         ensures room { Fits self.now → 34 ≤ length buffer.old → IsOk result }
         ensures short { Fits self.now → length buffer.old < 34 → result ≡ Err (Stream WriteZero) }
@@ -152,7 +155,7 @@ impl FromBitStream for StreamInfo {
 
     ghost becomes = { same_error };
 
-    ghost reads = { λ o. plain_reads (stream_info_entry o) };
+    ghost reads = { λ o. plain_reads (stream_info_decoder o) };
 
     fn from_reader<R: BitRead>(reader: &mut R) -> Result<StreamInfo, Error> {
         StreamInfo::read(reader)
@@ -171,12 +174,12 @@ impl ToBitStream for StreamInfo {
     }
 }
 
-/// What fits its bits is read back as it was written, in either order of bits, wherever it stands.
-/// The read takes the bits that were written, and no more: 272 bits.
-pub fn stream_info_goes_back()
+/// A value that fits its bits is read back as it was written, in either order of bits, at any place.
+/// The read takes only the bits that were written: 272 bits.
+pub fn stream_info_round_trip()
     ensures back { (o : Order) (value : StreamInfo) (at from : ℕ) (more : List Bool) → Fits value
-        → let written = write_run (stream_info_writes o value) at in
-        (stream_info_entry o).reads from (written ++ more) ≡ Takes (length written) (Ok value) }
+        → let written = write_sequence (stream_info_writes o value) at in
+        (stream_info_decoder o).reads from (written ++ more) ≡ Done (length written) (Ok value) }
     ensures size { (o : Order) (value : StreamInfo) (at : ℕ) → Fits value
-        → length (write_run (stream_info_writes o value) at) ≡ 272 }
+        → length (write_sequence (stream_info_writes o value) at) ≡ 272 }
 {}

@@ -8,10 +8,10 @@ use bitstream_io::{BE, Error, SliceReader};
 /// The bytes of a packet.
 pub const PACKET: usize = 188;
 
-/// Why a packet is not read.
+/// The reasons that a packet is not read.
 #[derive(Debug, Drop, thiserror::Error)]
 pub enum TsError {
-    /// The bits were not read: what the packet says does not fit in it.
+    /// The bits were not read: the contents of the packet do not fit in it.
     #[error("{0}")]
     Reader(Error),
     /// The packet does not begin with 0x47.
@@ -44,12 +44,12 @@ impl<'a> Packets<'a> {
         self.reader.rest()
     }
 
-    /// Reads a packet, and appends its elements: those of its header, of its adaptation field, and of the
-    /// header of a PES packet that begins in it. Answers whether there was one.
+    /// Reads a packet, and appends the elements of its header, of its adaptation field, and of the
+    /// header of a PES packet that begins in it. Returns true if there was a packet.
     ///
     /// # Errors
     ///
-    /// Those of [`TsError`]. The elements that were read before are appended.
+    /// The errors of [`TsError`]. The elements that were read before are appended.
     pub fn next_packet(&mut self, elements: &mut Vec<Element>) -> Result<bool, At<TsError>> {
         if self.reader.is_at_end() {
             return Ok(false);
@@ -149,7 +149,7 @@ fn read_clock(field: &mut Packet<'_, '_, '_>, name: &'static str) -> Result<(), 
     Ok(())
 }
 
-/// Whether the header of a PES packet of this stream has no more than its length.
+/// Returns true if the header of a PES packet of this stream has only its length.
 fn is_bare(id: u32) -> bool {
     matches!(id, 0xbc | 0xbe | 0xbf | 0xf0 | 0xf1 | 0xf2 | 0xf8 | 0xff)
 }
@@ -188,7 +188,7 @@ fn read_pes(syntax: &mut Packet<'_, '_, '_>) -> Result<(), TsError> {
     Ok(())
 }
 
-/// Reads a time stamp of 33 bits, in units of 90 kHz: three parts with a bit behind each.
+/// Reads a time stamp of 33 bits, in units of 90 kHz: three parts with a bit after each.
 fn read_time_stamp(syntax: &mut Packet<'_, '_, '_>, name: &'static str) -> Result<(), TsError> {
     let place = syntax.place();
     syntax.bits(4)?;

@@ -10,17 +10,17 @@ use Rattle.std.proofs.lemmas.List.{map_more, map_push, map-append, length-map}
 use Rattle.std.proofs.lemmas.List.Elements.{All-head, All-map, All-tail, All-weaker}
 use Rattle.bitstream_number.specs.Word.{Order, number}
 use Rattle.bitstream_count.specs.declared.error.Error.{Error}
-use Rattle.bitstream_count.specs.Entry.{ReadEntry, WriteEntry, chain, gives}
-use Rattle.bitstream_order.specs.Moving.Gather.{seen}
-use Rattle.bitstream_stream.specs.Reading.ReadTable.{unsigned_entry}
+use Rattle.bitstream_count.specs.Codec.{Decoder, Encoder, and_then, pure}
+use Rattle.bitstream_order.specs.Moving.Gather.{result_map}
+use Rattle.bitstream_stream.specs.Reading.ReadTable.{unsigned_decoder}
 use Rattle.bitstream_stream.specs.Writing.WriteTable.{unsigned}
-use Rattle.bitstream_value.specs.Array.{items_entry, words}
+use Rattle.bitstream_value.specs.Array.{items_decoder, words}
 use Rattle.bitstream_stream.specs.Reading.Reads.{BitSource}
-use Rattle.bitstream_value.specs.Grows.{GrowingOutcome, GrowsOwn, parts_entry}
+use Rattle.bitstream_value.specs.Grows.{GrowingOutcome, GrowsOwn, parts_decoder}
 use Rattle.bitstream_value.specs.Own.{OwnAnswer, part_then}
-use Rattle.bitstream_value.proofs.BackLemmas.{GoesBack}
+use Rattle.bitstream_value.proofs.BackLemmas.{RoundTrip}
 use Rattle.bitstream_value.proofs.GrowsLemmas.{go_grown, grown_is, stop_grown}
-use Rattle.bitstream_value.proofs.ReadSteps.{Finds, gives-finds, next-finds}
+use Rattle.bitstream_value.proofs.ReadSteps.{Finds, pure-finds, next-finds}
 use Rattle.bitstream_value.proofs.SureLemmas.{items-word, mapped-word, unsigned-word}
 use Rattle.bitstream_io.specs.Loop.{all_ok, ok_then}
 use Rattle.bitstream_io.specs.Optional.{optional_writes, own_optional}
@@ -32,7 +32,7 @@ use Rattle.bitstream_io.proofs.PackLemmas.{IsWritten, Packs, packs-each, unsigne
 
 -- ---- an optional part with errors of its own
 
-pub own_optional-back : {A E : Type 0} (e : ReadEntry (Result A E)) (ws : A → List WriteEntry) (value : Option A)
+pub own_optional-back : {A E : Type 0} (e : Decoder (Result A E)) (ws : A → List Encoder) (value : Option A)
     → ForSome value (λ a. IsReadAs (ws a) e (Ok a))
     → IsReadAs (optional_writes ws value) (own_optional (is_some value) e) (Ok value)
 own_optional-back e ws None part = λ len p more. refl
@@ -41,37 +41,37 @@ own_optional-back e ws (Some a) part = then_made-read e (λ v. Some v) (ws a) a 
 -- ---- a part that asks for memory, whose errors become others: `own_made` says the same of one that asks for none
 
 grown_made-of : {R A E F : Type 0} {K : BitSource R} (there : Error → E → Type 0) (here : Error → F → Type 0)
-    {e : ReadEntry (Result A E)} (makes : Result A E → Result A F) (r : Result A E) {s t : R}
+    {e : Decoder (Result A E)} (makes : Result A E → Result A F) (r : Result A E) {s t : R}
     (plain : Result (Result A E) Error) → GrowingOutcome K e s plain t → OwnAnswer there (λ y. y) plain r
     → ((x : Error) → IsErrAnd r (there x) → IsErrAnd (makes r) (here x))
-    → GrowsOwn K here (chain e (λ answer. gives (makes answer))) s (makes r) t
+    → GrowsOwn K here (and_then e (λ answer. pure (makes answer))) s (makes r) t
 grown_made-of there here makes r (Ok x) h is errors =
-    go_grown (λ answer. gives (makes answer)) h (grown_is (ap makes (sym is)))
-grown_made-of there here makes r (Err x) h is errors = stop_grown (λ answer. gives (makes answer)) h (errors x is)
+    go_grown (λ answer. pure (makes answer)) h (grown_is (ap makes (sym is)))
+grown_made-of there here makes r (Err x) h is errors = stop_grown (λ answer. pure (makes answer)) h (errors x is)
 
 pub grown_made : {R A E F : Type 0} {K : BitSource R} {there : Error → E → Type 0} {here : Error → F → Type 0}
-    {e : ReadEntry (Result A E)} (makes : Result A E → Result A F) (r : Result A E) {s t : R} → GrowsOwn K there e s r t
+    {e : Decoder (Result A E)} (makes : Result A E → Result A F) (r : Result A E) {s t : R} → GrowsOwn K there e s r t
     → ((x : Error) → IsErrAnd r (there x) → IsErrAnd (makes r) (here x))
-    → GrowsOwn K here (chain e (λ answer. gives (makes answer))) s (makes r) t
+    → GrowsOwn K here (and_then e (λ answer. pure (makes answer))) s (makes r) t
 grown_made {there = there} {here = here} makes r h errors =
     grown_made-of there here makes r h.plain h.called h.answer errors
 
 -- ---- a list of parts with errors of their own
 
 -- an error of an answer, as a view of the values shows it
-pub own_seen_err : {A V E : Type 0} (view : A → V) {x : E} (r : Result A E) → IsErrAnd r (λ y. y ≡ x)
-    → seen view r ≡ Err x
-own_seen_err view (Ok a) is = absurd is
-own_seen_err view (Err y) is = ap Err is
+pub own_map_err : {A V E : Type 0} (view : A → V) {x : E} (r : Result A E) → IsErrAnd r (λ y. y ≡ x)
+    → result_map view r ≡ Err x
+own_map_err view (Ok a) is = absurd is
+own_map_err view (Err y) is = ap Err is
 
-pub each_part-back : {A B E : Type 0} (es : List WriteEntry) (b : B) (e : ReadEntry (Result A E))
-    (writes : A → List WriteEntry) (count : ℕ) (xs : List A) (f : Result (List A) E → ReadEntry B) → length xs ≡ count
-    → All (λ x. IsReadAs (writes x) e (Ok x)) xs → GoesBack (f (Ok xs)) es b
-    → GoesBack (chain (parts_entry e count) f) (flat_map writes xs ++ es) b
+pub each_part-back : {A B E : Type 0} (es : List Encoder) (b : B) (e : Decoder (Result A E))
+    (writes : A → List Encoder) (count : ℕ) (xs : List A) (f : Result (List A) E → Decoder B) → length xs ≡ count
+    → All (λ x. IsReadAs (writes x) e (Ok x)) xs → RoundTrip (f (Ok xs)) es b
+    → RoundTrip (and_then (parts_decoder e count) f) (flat_map writes xs ++ es) b
 each_part-back es b e writes count xs f is all behind =
     let ws = flat_map writes xs in
-    subst (λ (k : ℕ). GoesBack (chain (parts_entry e k) f) (ws ++ es) b) is
-    (part-back (parts_entry e (length xs)) f ws es (Ok xs) b (parts-read e writes xs all) behind)
+    subst (λ (k : ℕ). RoundTrip (and_then (parts_decoder e k) f) (ws ++ es) b) is
+    (part-back (parts_decoder e (length xs)) f ws es (Ok xs) b (parts-read e writes xs all) behind)
 
 -- ---- values that are made of numbers of n bits, which give them back: `num` is the number, `make` what it makes
 
@@ -97,11 +97,11 @@ module _ {A V : Type 0} (o : Order) (size n : ℕ) (num : A → ℕ) (make : ℕ
       rw ((All-head Is y ys all).1, made ys (All-tail Is y ys all)) refl
 
   -- each is read back by itself
-  pub made-each : All (λ x. IsReadAs (unsigned o size n (num x) ∷ []) (chain (unsigned_entry o size n) (λ k. gives (make k)))
+  pub made-each : All (λ x. IsReadAs (unsigned o size n (num x) ∷ []) (and_then (unsigned_decoder o size n) (λ k. pure (make k)))
       (ok x)) xs
   made-each =
       All-weaker (λ x. (num x < 2 ^ n) × (make (num x) ≡ ok x)) (λ x. IsReadAs (unsigned o size n (num x) ∷ [])
-      (chain (unsigned_entry o size n) (λ k. gives (make k))) (ok x))
+      (and_then (unsigned_decoder o size n) (λ k. pure (make k))) (ok x))
       (λ x is. made-read o size n (num x) make (ok x) le is.0 is.1) xs known
 
   pub packs-made : (count : ℕ) → length xs ≡ count
@@ -111,54 +111,54 @@ module _ {A V : Type 0} (o : Order) (size n : ℕ) (num : A → ℕ) (make : ℕ
       (λ x. IsWritten (unsigned o size n (num x)) n) (λ x fits. unsigned-written o size n (num x) le fits) xs fit)
 
   -- and all of them, as an array; `whole` is what they say together
-  pub made_items-back : {B C : Type 0} (es : List WriteEntry) (b : B) (count : ℕ) (whole : List V → C) (a : C)
-      (f : C → ReadEntry B) → length xs ≡ count → whole (map ok xs) ≡ a → GoesBack (f a) es b
-      → GoesBack (chain (chain (items_entry (unsigned_entry o size n) count) (λ v. gives (whole (map make v)))) f)
+  pub made_items-back : {B C : Type 0} (es : List Encoder) (b : B) (count : ℕ) (whole : List V → C) (a : C)
+      (f : C → Decoder B) → length xs ≡ count → whole (map ok xs) ≡ a → RoundTrip (f a) es b
+      → RoundTrip (and_then (and_then (items_decoder (unsigned_decoder o size n) count) (λ v. pure (whole (map make v)))) f)
       (flat_map (λ x. unsigned o size n (num x) ∷ []) xs ++ es) b
   made_items-back es b count whole a f is said behind =
-      let each = unsigned_entry o size n in
+      let each = unsigned_decoder o size n in
       let ws = flat_map (λ x. unsigned o size n (num x) ∷ []) xs in
-      let e = λ (k : ℕ). chain (items_entry each k) (λ v. gives (whole (map make v))) in
+      let e = λ (k : ℕ). and_then (items_decoder each k) (λ v. pure (whole (map make v))) in
       let words = flat_map-map (λ k. unsigned o size n k ∷ []) num xs in
       let read = numbers-read o size n (map num xs) le (All-map (λ x. x < 2 ^ n) num xs fit) in
       let long : length (map num xs) ≡ count = length-map xs num ∙ is in
-      let all : IsReadAs ws (items_entry each count) (map num xs) =
-      subst (λ (es : List WriteEntry). IsReadAs es (items_entry each count) (map num xs)) words
-      (subst (λ (k : ℕ). IsReadAs (flat_map (λ k. unsigned o size n k ∷ []) (map num xs)) (items_entry each k)
+      let all : IsReadAs ws (items_decoder each count) (map num xs) =
+      subst (λ (es : List Encoder). IsReadAs es (items_decoder each count) (map num xs)) words
+      (subst (λ (k : ℕ). IsReadAs (flat_map (λ k. unsigned o size n k ∷ []) (map num xs)) (items_decoder each k)
       (map num xs)) long read) in
       let value : whole (map make (map num xs)) ≡ a = ap whole (made xs known) ∙ said in
       part-back (e count) f ws es a b
-      (subst (IsReadAs ws (e count)) value (mapped-read (λ v. whole (map make v)) ws (items_entry each count) (map num xs) all))
+      (subst (IsReadAs ws (e count)) value (mapped-read (λ v. whole (map make v)) ws (items_decoder each count) (map num xs) all))
       behind
 
 -- such an array among known bits
-module _ {A B : Type 0} (b : List Bool) (k l n count : ℕ) (o : Order) (size : ℕ) (make : List ℕ → A) (f : A → ReadEntry B)
+module _ {A B : Type 0} (b : List Bool) (k l n count : ℕ) (o : Order) (size : ℕ) (make : List ℕ → A) (f : A → Decoder B)
   where
     pub made_items-finds : (r : Result B Error) → nat_le n size ≡ true → nat_le (count * n) l ≡ true
         → Finds b (k + count * n) (f (make (map (number o) (words n count (take (count * n) (drop k b)))))) (l - count * n) r
-        → Finds b k (chain (chain (items_entry (unsigned_entry o size n) count) (λ v. gives (make v))) f) l r
+        → Finds b k (and_then (and_then (items_decoder (unsigned_decoder o size n) count) (λ v. pure (make v))) f) l r
     made_items-finds r fits le found =
-        let e = items_entry (unsigned_entry o size n) count in
+        let e = items_decoder (unsigned_decoder o size n) count in
         let word = items-word (unsigned-word o size n (leb-true n size fits)) count in
-        next-finds b k (count * n) l (chain e (λ v. gives (make v))) f (λ w. make (map (number o) (words n count w))) r
+        next-finds b k (count * n) l (and_then e (λ v. pure (make v))) f (λ w. make (map (number o) (words n count w))) r
         (mapped-word e (count * n) (λ w. map (number o) (words n count w)) make word) le found
 
 module _ {A B E : Type 0} (b : List Bool) (k l n count : ℕ) (o : Order) (size : ℕ) (make : List ℕ → Result A E)
-    (f : A → ReadEntry (Result B E)) where
+    (f : A → Decoder (Result B E)) where
   pub part_items-finds : (a : A) (r : Result (Result B E) Error) → nat_le n size ≡ true → nat_le (count * n) l ≡ true
       → make (map (number o) (words n count (take (count * n) (drop k b)))) ≡ Ok a
       → Finds b (k + count * n) (f a) (l - count * n) r
-      → Finds b k (chain (chain (items_entry (unsigned_entry o size n) count) (λ v. gives (make v))) (part_then f)) l r
+      → Finds b k (and_then (and_then (items_decoder (unsigned_decoder o size n) count) (λ v. pure (make v))) (part_then f)) l r
   part_items-finds a r fits le is found =
       made_items-finds b k l n count o size make (part_then f) r fits le (rw is found)
 
   pub part_items-misses : (x : E) → nat_le n size ≡ true → nat_le (count * n) l ≡ true
       → make (map (number o) (words n count (take (count * n) (drop k b)))) ≡ Err x → l - count * n ≡ 0
-      → Finds b k (chain (chain (items_entry (unsigned_entry o size n) count) (λ v. gives (make v))) (part_then f)) l
+      → Finds b k (and_then (and_then (items_decoder (unsigned_decoder o size n) count) (λ v. pure (make v))) (part_then f)) l
       (Ok (Err x))
   part_items-misses x fits le is ends =
       made_items-finds b k l n count o size make (part_then f) (Ok (Err x)) fits le
-      (rw (is, ends) (gives-finds b (k + count * n) (Err x)))
+      (rw (is, ends) (pure-finds b (k + count * n) (Err x)))
 
 -- ---- a loop that makes items of numbers, each in its place
 

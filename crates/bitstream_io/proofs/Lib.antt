@@ -1,4 +1,4 @@
-pub mod RunLemmas
+pub mod SequenceLemmas
 pub mod NonZeroBack
 pub mod CallsBack
 pub mod CallerLemmas
@@ -20,7 +20,7 @@ pub use Rattle.bitstream_order.proofs.Streaming.SliceLemmas as SliceEnds
 pub use Rattle.bitstream_stream.proofs.WholeBytes.ByteReadsLemmas
 pub use Rattle.bitstream_stream.proofs.WholeBytes.ByteWritesLemmas
 pub use Rattle.bitstream_stream.proofs.Writing.BytesWritten
-pub use Rattle.bitstream_stream.proofs.Reading.EntryLemmas
+pub use Rattle.bitstream_stream.proofs.Reading.CodecLemmas
 pub use Rattle.bitstream_stream.proofs.Reading.LawLemmas
 pub use Rattle.bitstream_stream.proofs.Reading.ReaderLemmas
 pub use Rattle.bitstream_stream.proofs.Reading.ReadsLemmas

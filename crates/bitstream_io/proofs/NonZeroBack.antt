@@ -1,4 +1,4 @@
--- A value of `NonZero<u8>`, or of its like, is the one that its number gives back: `calls_go_back` asks for that fact.
+-- A value of `NonZero<u8>`, or of its like, is the one that its number gives back: `calls_round_trip` asks for that fact.
 use Rattle.std.proofs.Common.{◌≡◌, ◌∙◌, ℕ, zero, suc, ◌+◌, ◌-◌, ◌<◌, Option, Some, None, refl, ap, arith}
 use Rattle.std.specs.Int.NonZero.{non_zero_u8_get, non_zero_u16_get, non_zero_u32_get, non_zero_u64_get, non_zero_u128_get}
 use Rattle.std.specs.declared.num.NonZeroU8.{NonZeroU8}

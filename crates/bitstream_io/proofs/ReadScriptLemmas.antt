@@ -3,44 +3,44 @@ use Rattle.std.proofs.Common.{◌≡◌, ◌⊎◌, inl, inr, ℕ, suc, ◌+◌,
 use Rattle.std.specs.Prelude.{IsOkAnd, MatchResult}
 use Rattle.std.specs.Result.{IsErrAnd}
 use Rattle.std.proofs.Math.Seq.{drop-append_seam}
-use Rattle.bitstream_count.specs.Entry.{ReadEntry, Front, TooFew, Takes, gives}
+use Rattle.bitstream_count.specs.Codec.{Decoder, Prefix, Incomplete, Done, pure}
 use Rattle.bitstream_count.specs.declared.error.Error.{Error}
 use Rattle.bitstream_count.specs.declared.error.Error.TheVariants.{RunTooLong}
 use Rattle.bitstream_number.specs.Word.{bits}
 use Rattle.bitstream_number.proofs.WordLemmas.{bits-append}
 use Rattle.bitstream_order.specs.Fault.{read_refusal_of}
-use Rattle.bitstream_order.specs.Moving.Gather.{seen}
+use Rattle.bitstream_order.specs.Moving.Gather.{result_map}
 use Rattle.bitstream_order.specs.Refusal.{Refusal, TrueEnds}
 use Rattle.bitstream_stream.specs.Reading.Reads.{ReaderState, BitSource, HadFailed, ReadDone, ReadRefused, MemoryRefused, ReadOutcome, had_failed, was_done, was_refused, memory_refused, is_run_too_long}
-use Rattle.bitstream_stream.specs.Run.{answer_and, read_run}
-use Rattle.bitstream_stream.proofs.Reading.ReadsLemmas.{Consumes-known, Reads-chain-ok, Reads-gives, exit}
-use Rattle.bitstream_io.specs.ReadScript.{answered, read_entry, asks_memory, read_entries, ReadsEach, run_answers, place_behind, failed_answers, ReadsRun, sure_answers, AsksNoMemory}
+use Rattle.bitstream_stream.specs.Sequence.{answer_and, read_sequence}
+use Rattle.bitstream_stream.proofs.Reading.ReadsLemmas.{Consumes-known, Reads-and_then-ok, Reads-pure, exit}
+use Rattle.bitstream_io.specs.ReadScript.{map_answer, read_decoder, asks_memory, read_decoders, ReadsEach, sequence_answers, place_behind, failed_answers, ReadsSequence, sure_answers, AsksNoMemory}
 use Rattle.bitstream_io.specs.ReadScript as lists
 use Rattle.bitstream_io.specs.declared.script.answers.Answer.{Answer}
 use Rattle.bitstream_io.specs.declared.script.read_call.ReadCall.{ReadCall}
 use Rattle.bitstream_io.specs.declared.script.read_call.ReadCall.TheVariants.{Bytes}
-use Rattle.bitstream_io.proofs.RunLemmas.{failed_or_not}
+use Rattle.bitstream_io.proofs.SequenceLemmas.{failed_or_not}
 
 -- ---- read runs
 
--- what a call's front makes of the run
-front-few : (front : Front Answer) (p : ℕ) (others : ℕ → List (Result Answer Error × ℕ)) → front ≡ TooFew
-    → answer_and front p others ≡ []
-front-few front p others h = ap (λ (f : Front Answer). answer_and f p others) h
+-- what a call's prefix makes of the run
+prefix-few : (prefix : Prefix Answer) (p : ℕ) (others : ℕ → List (Result Answer Error × ℕ)) → prefix ≡ Incomplete
+    → answer_and prefix p others ≡ []
+prefix-few prefix p others h = ap (λ (f : Prefix Answer). answer_and f p others) h
 
-front-long : (front : Front Answer) (n p : ℕ) (others : ℕ → List (Result Answer Error × ℕ)) → front
-    ≡ Takes n (Err RunTooLong) → answer_and front p others ≡ (Err RunTooLong, p + n) ∷ []
-front-long front n p others h = ap (λ (f : Front Answer). answer_and f p others) h
+prefix-long : (prefix : Prefix Answer) (n p : ℕ) (others : ℕ → List (Result Answer Error × ℕ)) → prefix
+    ≡ Done n (Err RunTooLong) → answer_and prefix p others ≡ (Err RunTooLong, p + n) ∷ []
+prefix-long prefix n p others h = ap (λ (f : Prefix Answer). answer_and f p others) h
 
 goes_on : (n p : ℕ) (answer : Result Answer Error) (others : ℕ → List (Result Answer Error × ℕ))
-    → is_run_too_long answer ≡ false → answer_and (Takes n answer) p others ≡ (answer, p + n) ∷ others n
+    → is_run_too_long answer ≡ false → answer_and (Done n answer) p others ≡ (answer, p + n) ∷ others n
 goes_on n p (Err RunTooLong) others h = cc
 goes_on n p _ others h = refl
 
-front-done : (front : Front Answer) (n p : ℕ) (answer : Result Answer Error) (others : ℕ
-    → List (Result Answer Error × ℕ)) → front ≡ Takes n answer → is_run_too_long answer ≡ false
-    → answer_and front p others ≡ (answer, p + n) ∷ others n
-front-done front n p answer others h sound = ap (λ (f : Front Answer). answer_and f p others) h
+prefix-done : (prefix : Prefix Answer) (n p : ℕ) (answer : Result Answer Error) (others : ℕ
+    → List (Result Answer Error × ℕ)) → prefix ≡ Done n answer → is_run_too_long answer ≡ false
+    → answer_and prefix p others ≡ (answer, p + n) ∷ others n
+prefix-done prefix n p answer others h sound = ap (λ (f : Prefix Answer). answer_and f p others) h
     ∙ goes_on n p answer others sound
 
 too_long-is : (answer : Result Answer Error) → is_run_too_long answer ≡ true → answer ≡ Err RunTooLong
@@ -55,29 +55,29 @@ free_call _ calls h = (refl, h)
 
 -- ---- one call
 
-module _ {R A : Type 0} {K : BitSource R} {grows : Bool} (make : A → Answer) {e : ReadEntry A} {s t : R} where
-  pub answered_ok : {a : A} → ReadOutcome K grows e s (Ok a) t → ReadOutcome K grows (answered make e) s (Ok (make a)) t
-  answered_ok {a = a} h = Reads-chain-ok e (λ (v : A). gives (make v)) h (Reads-gives (make a) t)
+module _ {R A : Type 0} {K : BitSource R} {grows : Bool} (make : A → Answer) {e : Decoder A} {s t : R} where
+  pub answered_ok : {a : A} → ReadOutcome K grows e s (Ok a) t → ReadOutcome K grows (map_answer make e) s (Ok (make a)) t
+  answered_ok {a = a} h = Reads-and_then-ok e (λ (v : A). pure (make v)) h (Reads-pure (make a) t)
 
   pub answered_stops : {x : Error} (r : Result Answer Error) → IsErrAnd r (λ y. y ≡ x)
-      → ReadOutcome K grows e s (Err x) t → ReadOutcome K grows (answered make e) s r t
-  answered_stops r h k = exit (λ (v : A). gives (make v)) r h k
+      → ReadOutcome K grows e s (Err x) t → ReadOutcome K grows (map_answer make e) s r t
+  answered_stops r h k = exit (λ (v : A). pure (make v)) r h k
 
   -- what is made of the answer
   pub answered_as : {r : Result A Error} (q : Result Answer Error) → MatchResult r (λ x. IsOkAnd q (λ y. y ≡ make x))
-      (λ x. q ≡ Err x) → ReadOutcome K grows e s r t → ReadOutcome K grows (answered make e) s q t
+      (λ x. q ≡ Err x) → ReadOutcome K grows e s r t → ReadOutcome K grows (map_answer make e) s q t
   answered_as {r = Ok _} (Ok _) is h =
-      subst (λ (z : Answer). ReadOutcome K grows (answered make e) s (Ok z) t) (sym is) (answered_ok h)
+      subst (λ (z : Answer). ReadOutcome K grows (map_answer make e) s (Ok z) t) (sym is) (answered_ok h)
   answered_as {r = Ok _} (Err _) is h = absurd is
   answered_as {r = Err x} q is h =
       answered_stops q (subst (λ (z : Result Answer Error). IsErrAnd z (λ y. y ≡ x)) (sym is) refl) h
 
   -- what is made of a number
-  pub answered_seen : {B : Type 0} (number : B → A) (r : Result B Error) (q : Result Answer Error)
+  pub answered_map : {B : Type 0} (number : B → A) (r : Result B Error) (q : Result Answer Error)
       → MatchResult r (λ x. IsOkAnd q (λ y. y ≡ make (number x))) (λ x. q ≡ Err x)
-      → ReadOutcome K grows e s (seen number r) t → ReadOutcome K grows (answered make e) s q t
-  answered_seen number (Ok _) q is h = answered_as q is h
-  answered_seen number (Err _) q is h = answered_as q is h
+      → ReadOutcome K grows e s (result_map number r) t → ReadOutcome K grows (map_answer make e) s q t
+  answered_map number (Ok _) q is h = answered_as q is h
+  answered_map number (Err _) q is h = answered_as q is h
 
 module _ {R : Type 0} (K : BitSource R) where
   pub each_none : (s : R) → ReadsEach K [] s [] s
@@ -85,7 +85,7 @@ module _ {R : Type 0} (K : BitSource R) where
   each_none s = refl
 
   -- a call from a state that tells the same
-  same_start : {grows : Bool} {e : ReadEntry Answer} {s t : R} {r : Result Answer Error} {u : R}
+  same_start : {grows : Bool} {e : Decoder Answer} {s t : R} {r : Result Answer Error} {u : R}
       → ReadOutcome K grows e s r u → K.state s ≡ K.state t → ReadOutcome K grows e t r u
   same_start {e = e} {r = r} {u = u} (had_failed h) q =
       had_failed (subst (λ (z : ReaderState). HadFailed e z r (K.state u)) q h)
@@ -100,7 +100,7 @@ module _ {R : Type 0} (K : BitSource R) where
   pub each_more : (calls : List ReadCall) (places : List (Option (Result Answer Error))) (old mid : R)
       (call : ReadCall) (answer : Result Answer Error) (place : Option (Result Answer Error)) (new : R)
       → ReadsEach K calls old places mid → place ≡ Some answer
-      → ReadOutcome K (asks_memory call) (read_entry K.order call) mid answer new
+      → ReadOutcome K (asks_memory call) (read_decoder K.order call) mid answer new
       → ReadsEach K (calls ++ call ∷ []) old (places ++ place ∷ []) new
   unfolding ReadsEach
   each_more [] [] old mid call answer place new h is k = (answer, new, is, same_start k h, refl)
@@ -110,7 +110,7 @@ module _ {R : Type 0} (K : BitSource R) where
       (h.0, h.1, h.2, h.3, each_more calls places h.1 mid call answer place new h.4 is k)
 
   -- a call on a reader that has failed
-  call_failed : {grows : Bool} {e : ReadEntry Answer} {s : R} {r : Result Answer Error} {t : R}
+  call_failed : {grows : Bool} {e : Decoder Answer} {s : R} {r : Result Answer Error} {t : R}
       → ReadOutcome K grows e s r t → (K.state s).failed ≡ true → (r ≡ e.on_failed) × (K.state t ≡ K.state s)
   call_failed (had_failed h) f = (h.answer, h.same)
   call_failed (was_done h) f = let z = h.fine in cc
@@ -136,7 +136,7 @@ module _ {R : Type 0} (K : BitSource R) where
   -- ---- known bits
 
   -- the bits left behind a call that was answered
-  module _ {e : ReadEntry Answer} {answer : Result Answer Error} {old mid : R}
+  module _ {e : Decoder Answer} {answer : Result Answer Error} {old mid : R}
       (h : ReadDone K.order e (K.state old) answer (K.state mid)) (sound : is_run_too_long answer ≡ false)
       (xs : List ℕ) (known : (K.state old).bytes ≡ Some xs) where
     left : (ys : List ℕ) × ((K.state mid).bytes ≡ Some ys)
@@ -155,11 +155,11 @@ module _ {R : Type 0} (K : BitSource R) where
               ∙ ap (λ (l : List Bool). h.word ++ (l ++ bits K.order ys)) (sym rest),
         )
 
-  -- the front of a call that was answered, on the bits left
-  front_is : {e : ReadEntry Answer} {answer : Result Answer Error} {old mid : R}
+  -- the prefix of a call that was answered, on the bits left
+  prefix_is : {e : Decoder Answer} {answer : Result Answer Error} {old mid : R}
       (h : ReadDone K.order e (K.state old) answer (K.state mid)) (xs : List ℕ) → (K.state old).bytes ≡ Some xs
-      → e.reads (K.state old).taken ((K.state old).queue ++ bits K.order xs) ≡ Takes (length h.word) answer
-  front_is {e = e} {old = old} {mid = mid} h xs known =
+      → e.reads (K.state old).taken ((K.state old).queue ++ bits K.order xs) ≡ Done (length h.word) answer
+  prefix_is {e = e} {old = old} {mid = mid} h xs known =
       let k = Consumes-known (K.state old).bytes (K.state mid).bytes h.gone xs h.loses known in
       let whole : (K.state old).queue ++ bits K.order xs ≡ h.word ++ (h.rest ++ bits K.order k.0) =
       ap (λ (l : List ℕ). (K.state old).queue ++ bits K.order l) k.2
@@ -173,15 +173,15 @@ module _ {R : Type 0} (K : BitSource R) where
       (answer : Result Answer Error) (places : List (Option (Result Answer Error)))
       (fine : (K.state old).failed ≡ false) (still : (K.state mid).failed ≡ false) (refusals : (K.state mid).refusals
       ≡ (K.state old).refusals)
-      (step : read_run (read_entries K.order (call ∷ calls)) (K.state old).taken bits_old
-      ≡ (answer, (K.state mid).taken) ∷ read_run (read_entries K.order calls) (K.state mid).taken bits_mid) where
+      (step : read_sequence (read_decoders K.order (call ∷ calls)) (K.state old).taken bits_old
+      ≡ (answer, (K.state mid).taken) ∷ read_sequence (read_decoders K.order calls) (K.state mid).taken bits_mid) where
     -- behind a call that was answered, what the others do
-    behind_one : ReadsRun K calls bits_mid mid places new
-        → ReadsRun K (call ∷ calls) bits_old old (Some answer ∷ places) new
+    behind_one : ReadsSequence K calls bits_mid mid places new
+        → ReadsSequence K (call ∷ calls) bits_old old (Some answer ∷ places) new
     behind_one (lists.had_failed f same state) = cc
     behind_one (lists.was_done f g all same taken) =
         lists.was_done fine g (ap length step ∙ ap suc all)
-        (ap (λ (l : List (Option (Result Answer Error))). Some answer ∷ l) same ∙ ap run_answers (sym step)) (taken
+        (ap (λ (l : List (Option (Result Answer Error))). Some answer ∷ l) same ∙ ap sequence_answers (sym step)) (taken
         ∙ ap (place_behind (K.state old).taken) (sym step))
     behind_one (lists.too_long before behind first place f g parts size run same taken) =
         lists.too_long (call ∷ before) behind ((answer, (K.state mid).taken) ∷ first) place fine g
@@ -202,10 +202,10 @@ module _ {R : Type 0} (K : BitSource R) where
 
   one_and : (call : ReadCall) (calls : List ReadCall) (old mid new : R) (answer : Result Answer Error)
       (places : List (Option (Result Answer Error))) (xs : List ℕ) → (K.state old).bytes ≡ Some xs
-      → ReadOutcome K (asks_memory call) (read_entry K.order call) old answer mid → ReadsEach K calls mid places new
+      → ReadOutcome K (asks_memory call) (read_decoder K.order call) old answer mid → ReadsEach K calls mid places new
       → ((ys : List ℕ) → (K.state mid).bytes ≡ Some ys
-      → ReadsRun K calls ((K.state mid).queue ++ bits K.order ys) mid places new)
-      → ReadsRun K (call ∷ calls) ((K.state old).queue ++ bits K.order xs) old (Some answer ∷ places) new
+      → ReadsSequence K calls ((K.state mid).queue ++ bits K.order ys) mid places new)
+      → ReadsSequence K (call ∷ calls) ((K.state old).queue ++ bits K.order xs) old (Some answer ∷ places) new
   one_and call calls old mid new answer places xs known (had_failed h) others ih =
       let z = all_failed calls mid places new others (ap (λ (s : ReaderState). s.failed) h.same ∙ h.failed) in
       lists.had_failed h.failed (ap₂ (λ (x : Option (Result Answer Error)) (l : List (Option (Result Answer Error))). x
@@ -214,27 +214,27 @@ module _ {R : Type 0} (K : BitSource R) where
       let o = K.order in
       let p = (K.state old).taken in
       let b = (K.state old).queue ++ bits o xs in
-      let front = front_is {old = old} {mid = mid} h xs known in
+      let prefix = prefix_is {old = old} {mid = mid} h xs known in
       elim (failed_or_not (is_run_too_long answer)) [
         | inl long ↦
             let z = all_failed calls mid places new others (h.failed ∙ long) in
             let is = too_long-is answer long in
             lists.too_long (call ∷ []) calls [] (p + length h.word) h.fine (ap (λ (s : ReaderState). s.failed) z.1
             ∙ h.failed ∙ long) refl refl
-            (front-long ((read_entry o call).reads p b) (length h.word) p
-            (λ n. read_run (read_entries o calls) (p + n) (drop n b)) (front ∙ ap (Takes (length h.word)) is))
+            (prefix-long ((read_decoder o call).reads p b) (length h.word) p
+            (λ n. read_sequence (read_decoders o calls) (p + n) (drop n b)) (prefix ∙ ap (Done (length h.word)) is))
             (ap₂ (λ (x : Result Answer Error) (l : List (Option (Result Answer Error))). Some x ∷ l) is z.0)
             (ap (λ (s : ReaderState). s.taken) z.1 ∙ h.taken)
         | inr sound ↦
             let k = left {old = old} {mid = mid} h sound xs known in
             let behind : drop (length h.word) b ≡ (K.state mid).queue ++ bits o k.0 = ap (drop (length h.word)) k.2
             ∙ drop-append_seam h.word ((K.state mid).queue ++ bits o k.0) in
-            let step = front-done ((read_entry o call).reads p b) (length h.word) p answer
-            (λ n. read_run (read_entries o calls) (p + n) (drop n b)) front sound in
+            let step = prefix-done ((read_decoder o call).reads p b) (length h.word) p answer
+            (λ n. read_sequence (read_decoders o calls) (p + n) (drop n b)) prefix sound in
             let at : p + length h.word ≡ (K.state mid).taken = sym h.taken in
             behind_one call calls b ((K.state mid).queue ++ bits o k.0) old mid new answer places h.fine (h.failed
             ∙ sound) h.refusals
-            (step ∙ ap₂ (λ (n : ℕ) (l : List Bool). (answer, n) ∷ read_run (read_entries o calls) n l) at behind)
+            (step ∙ ap₂ (λ (n : ℕ) (l : List Bool). (answer, n) ∷ read_sequence (read_decoders o calls) n l) at behind)
             (ih k.0 k.1)
       ]
   one_and call calls old mid new answer places xs known (was_refused h) others ih =
@@ -242,16 +242,16 @@ module _ {R : Type 0} (K : BitSource R) where
       let p = (K.state old).taken in
       let b = (K.state old).queue ++ bits o xs in
       let z = all_failed calls mid places new others h.failed in
-      lists.was_refused [] call calls [] (read_run (read_entries o (call ∷ calls)) p b) h.refusal h.fine
+      lists.was_refused [] call calls [] (read_sequence (read_decoders o (call ∷ calls)) p b) h.refusal h.fine
       (ap (λ (s : ReaderState). s.failed) z.1 ∙ h.failed) refl refl refl h.allowed
       (ap (λ (s : ReaderState). s.refusals) z.1 ∙ h.refusals)
-      (λ true_end. front-few ((read_entry o call).reads p b) p (λ n. read_run (read_entries o calls) (p + n) (drop n b))
+      (λ true_end. prefix-few ((read_decoder o call).reads p b) p (λ n. read_sequence (read_decoders o calls) (p + n) (drop n b))
       (h.ended true_end xs known))
       (ap₂ (λ (x : Result Answer Error) (l : List (Option (Result Answer Error))). Some x ∷ l) h.answer z.0)
   one_and call calls old mid new answer places xs known (memory_refused g h) others ih =
       let o = K.order in
       let z = all_failed calls mid places new others h.failed in
-      lists.memory_refused [] call calls [] (read_run (read_entries o (call ∷ calls)) (K.state old).taken
+      lists.memory_refused [] call calls [] (read_sequence (read_decoders o (call ∷ calls)) (K.state old).taken
       ((K.state old).queue ++ bits o xs)) h.fine (ap (λ (s : ReaderState). s.failed) z.1
       ∙ h.failed) refl refl g refl
       (ap (λ (s : ReaderState). s.refusals) z.1 ∙ h.refusals)
@@ -260,7 +260,7 @@ module _ {R : Type 0} (K : BitSource R) where
   -- the answers on the bits left
   pub run_of : (calls : List ReadCall) (old : R) (places : List (Option (Result Answer Error))) (new : R)
       → ReadsEach K calls old places new → (xs : List ℕ) → (K.state old).bytes ≡ Some xs
-      → ReadsRun K calls ((K.state old).queue ++ bits K.order xs) old places new
+      → ReadsSequence K calls ((K.state old).queue ++ bits K.order xs) old places new
   unfolding ReadsEach
   run_of [] old [] new h xs known = elim (failed_or_not (K.state old).failed) [
     | inl f ↦ lists.had_failed f refl h
@@ -270,7 +270,7 @@ module _ {R : Type 0} (K : BitSource R) where
   run_of [] old (q ∷ places) new h xs known = absurd h
   run_of (c ∷ calls) old [] new h xs known = absurd h
   run_of (c ∷ calls) old (q ∷ places) new h xs known =
-      subst (λ (place : Option (Result Answer Error)). ReadsRun K (c ∷ calls) ((K.state old).queue
+      subst (λ (place : Option (Result Answer Error)). ReadsSequence K (c ∷ calls) ((K.state old).queue
       ++ bits K.order xs) old (place ∷ places) new) (sym h.2)
       (one_and c calls old h.1 new h.0 places xs known h.3 h.4 (λ ys is. run_of calls h.1 places new h.4 ys is))
 
@@ -280,39 +280,39 @@ module _ {R : Type 0} (K : BitSource R) where
     one_sure : (call : ReadCall) (calls : List ReadCall) (old mid new : R) (answer : Result Answer Error) (places :
         List (Option (Result Answer Error))) (xs : List ℕ) → (K.state old).failed ≡ false → (K.state old).bytes
         ≡ Some xs
-        → asks_memory call ≡ false → ReadOutcome K (asks_memory call) (read_entry K.order call) old answer mid
+        → asks_memory call ≡ false → ReadOutcome K (asks_memory call) (read_decoder K.order call) old answer mid
         → ReadsEach K calls mid places new
         → ((ys : List ℕ) → (K.state mid).failed ≡ false → (K.state mid).bytes ≡ Some ys → places
-        ≡ sure_answers K.order calls (read_run (read_entries K.order calls) (K.state mid).taken ((K.state mid).queue
+        ≡ sure_answers K.order calls (read_sequence (read_decoders K.order calls) (K.state mid).taken ((K.state mid).queue
         ++ bits K.order ys)))
         → Some answer ∷ places ≡ sure_answers K.order (call ∷ calls)
-        (read_run (read_entries K.order (call ∷ calls)) (K.state old).taken ((K.state old).queue
+        (read_sequence (read_decoders K.order (call ∷ calls)) (K.state old).taken ((K.state old).queue
         ++ bits K.order xs))
     one_sure call calls old mid new answer places xs fine known free (had_failed h) others ih = let z = h.failed in cc
     one_sure call calls old mid new answer places xs fine known free (was_done h) others ih =
         let o = K.order in
         let p = (K.state old).taken in
         let b = (K.state old).queue ++ bits o xs in
-        let front = front_is {old = old} {mid = mid} h xs known in
+        let prefix = prefix_is {old = old} {mid = mid} h xs known in
         elim (failed_or_not (is_run_too_long answer)) [
           | inl long ↦
               let z = all_failed calls mid places new others (h.failed ∙ long) in
               let is = too_long-is answer long in
               ap₂ (λ (x : Result Answer Error) (l : List (Option (Result Answer Error))). Some x ∷ l) is z.0
-              ∙ ap (sure_answers o (call ∷ calls)) (sym (front-long ((read_entry o call).reads p b) (length h.word) p
-              (λ n. read_run (read_entries o calls) (p + n) (drop n b)) (front ∙ ap (Takes (length h.word)) is)))
+              ∙ ap (sure_answers o (call ∷ calls)) (sym (prefix-long ((read_decoder o call).reads p b) (length h.word) p
+              (λ n. read_sequence (read_decoders o calls) (p + n) (drop n b)) (prefix ∙ ap (Done (length h.word)) is)))
           | inr sound ↦
               let k = left {old = old} {mid = mid} h sound xs known in
               let behind : drop (length h.word) b ≡ (K.state mid).queue ++ bits o k.0 = ap (drop (length h.word)) k.2
               ∙ drop-append_seam h.word ((K.state mid).queue ++ bits o k.0) in
-              let step = front-done ((read_entry o call).reads p b) (length h.word) p answer
-              (λ n. read_run (read_entries o calls) (p + n) (drop n b)) front sound in
+              let step = prefix-done ((read_decoder o call).reads p b) (length h.word) p answer
+              (λ n. read_sequence (read_decoders o calls) (p + n) (drop n b)) prefix sound in
               let at : p + length h.word ≡ (K.state mid).taken = sym h.taken in
-              let rest = read_run (read_entries o calls) (K.state mid).taken ((K.state mid).queue ++ bits o k.0) in
+              let rest = read_sequence (read_decoders o calls) (K.state mid).taken ((K.state mid).queue ++ bits o k.0) in
               ap (λ (l : List (Option (Result Answer Error))). Some answer ∷ l) (ih k.0 (h.failed ∙ sound) k.1
               ∙ ap (λ (c : Bool). cond c (failed_answers o calls) (sure_answers o calls rest)) (sym sound))
               ∙ ap (sure_answers o (call ∷ calls)) (sym (step
-              ∙ ap₂ (λ (n : ℕ) (l : List Bool). (answer, n) ∷ read_run (read_entries o calls) n l) at behind))
+              ∙ ap₂ (λ (n : ℕ) (l : List Bool). (answer, n) ∷ read_sequence (read_decoders o calls) n l) at behind))
         ]
     one_sure call calls old mid new answer places xs fine known free (was_refused h) others ih =
         let o = K.order in
@@ -322,14 +322,14 @@ module _ {R : Type 0} (K : BitSource R) where
         let end = ends h.refusal h.allowed in
         ap₂ (λ (x : Result Answer Error) (l : List (Option (Result Answer Error))). Some x ∷ l) (h.answer
         ∙ ap (λ k. Err (read_refusal_of k)) end.kind) z.0
-        ∙ ap (sure_answers o (call ∷ calls)) (sym (front-few ((read_entry o call).reads p b) p
-        (λ n. read_run (read_entries o calls) (p + n) (drop n b)) (h.ended end xs known)))
+        ∙ ap (sure_answers o (call ∷ calls)) (sym (prefix-few ((read_decoder o call).reads p b) p
+        (λ n. read_sequence (read_decoders o calls) (p + n) (drop n b)) (h.ended end xs known)))
     one_sure call calls old mid new answer places xs fine known free (memory_refused g h) others ih = cc
 
     pub sure_of : (calls : List ReadCall) (old : R) (places : List (Option (Result Answer Error))) (new : R)
         → ReadsEach K calls old places new → (xs : List ℕ) → (K.state old).failed ≡ false → (K.state old).bytes
         ≡ Some xs → AsksNoMemory calls
-        → places ≡ sure_answers K.order calls (read_run (read_entries K.order calls) (K.state old).taken
+        → places ≡ sure_answers K.order calls (read_sequence (read_decoders K.order calls) (K.state old).taken
         ((K.state old).queue ++ bits K.order xs))
     unfolding ReadsEach
     sure_of [] old [] new h xs fine known free = refl

@@ -2,17 +2,17 @@
 use Rattle.std.proofs.Common.{◌≡◌, ◌<◌, ◌^◌, ℕ, ℤ, Bool, true, false, List, [], ◌∷◌, Some, None, Ok, Err, length, refl}
 use Rattle.std.specs.List.{All}
 use Rattle.bitstream_number.specs.Word.{Order, High, FitsSignedBits, bits, digits, digits_number}
-use Rattle.bitstream_count.specs.Entry.{chain, gives}
+use Rattle.bitstream_count.specs.Codec.{and_then, pure}
 use Rattle.bitstream_count.specs.Vbr.{groups_at}
 use Rattle.bitstream_count.specs.declared.error.Error.TheVariants.{RedundantGroup}
-use Rattle.bitstream_stream.specs.Reading.ReadTable.{unsigned_entry, unary_entry, groups_entry, vbr_entry, signed_vbr_entry, bytes_entry, skip_entry, align_entry}
-use Rattle.bitstream_stream.specs.Run.{write_run, read_run}
+use Rattle.bitstream_stream.specs.Reading.ReadTable.{unsigned_decoder, unary_decoder, groups_decoder, vbr_decoder, signed_vbr_decoder, bytes_decoder, skip_decoder, align_decoder}
+use Rattle.bitstream_stream.specs.Sequence.{write_sequence, read_sequence}
 use Rattle.bitstream_stream.specs.Writing.WriteTable.{unsigned, unary_word, vbr, signed_vbr, buffer, zeros}
-use Rattle.bitstream_value.proofs.BackLemmas.{GoesBack}
-use Rattle.bitstream_io.proofs.CallsBack.{calls_go_back}
+use Rattle.bitstream_value.proofs.BackLemmas.{RoundTrip}
+use Rattle.bitstream_io.proofs.CallsBack.{calls_round_trip}
 use Rattle.bitstream_io.specs.ReadBack.{accepted_calls, matching_reads, answers_of}
-use Rattle.bitstream_io.specs.ReadScript.{read_entries, run_answers}
-use Rattle.bitstream_io.specs.Script.{write_entries}
+use Rattle.bitstream_io.specs.ReadScript.{read_decoders, sequence_answers}
+use Rattle.bitstream_io.specs.Script.{write_encoders}
 use Rattle.bitstream_io.specs.declared.script.answers.Answer.TheVariants as answer
 use Rattle.bitstream_io.specs.declared.script.read_call.ReadCall.TheVariants as read
 use Rattle.bitstream_io.specs.declared.script.write_call.WriteCall.{WriteCall}
@@ -26,7 +26,7 @@ kept : accepted_calls High calls 0 ≡ U8 3 5 ∷ U8 0 7 ∷ Unary0 2 ∷ Align 
 unfolding calls digits unsigned
 kept = refl
 
-words : write_run (write_entries None High calls) 0 ≡ true ∷ false ∷ true ∷ true ∷ true ∷ false ∷ false ∷ false ∷ []
+words : write_sequence (write_encoders None High calls) 0 ≡ true ∷ false ∷ true ∷ true ∷ true ∷ false ∷ false ∷ false ∷ []
 unfolding calls digits unsigned
 words = refl
 
@@ -43,22 +43,22 @@ answers = refl
 left : List Bool
 left = true ∷ false ∷ true ∷ true ∷ true ∷ false ∷ false ∷ false ∷ true ∷ []
 
-back : run_answers (read_run (read_entries High (read.U8 3 ∷ read.U8 0 ∷ read.Unary0 ∷ read.Align ∷ [])) 0 left)
+back : sequence_answers (read_sequence (read_decoders High (read.U8 3 ∷ read.U8 0 ∷ read.Unary0 ∷ read.Align ∷ [])) 0 left)
     ≡ Some (Ok (answer.U8 5)) ∷ Some (Ok (answer.U8 0)) ∷ Some (Ok (answer.Unary 2)) ∷ Some (Ok answer.Done) ∷ []
-unfolding left chain digits_number unsigned_entry unary_entry align_entry
+unfolding left and_then digits_number unsigned_decoder unary_decoder align_decoder
 back = refl
 
 -- 1 in two groups, of which the last is 0: by the strict call and by the lenient one
-redundant : run_answers (read_run (read_entries High (read.Vbr4 ∷ read.AnyVbr4 ∷ [])) 0 (bits High (144 ∷ 144 ∷ [])))
+redundant : sequence_answers (read_sequence (read_decoders High (read.Vbr4 ∷ read.AnyVbr4 ∷ [])) 0 (bits High (144 ∷ 144 ∷ [])))
     ≡ Some (Err RedundantGroup) ∷ Some (Ok (answer.Vbr 1)) ∷ []
-unfolding chain digits digits_number groups_entry groups_at
+unfolding and_then digits digits_number groups_decoder groups_at
 redundant = refl
 
 -- a run, two numbers of variable width, four bytes and three bits of padding
 in_a_row : (o : Order) (k v : ℕ) (x : ℤ) (bytes : List ℕ) → k < 2 ^ 32 → v < 2 ^ 32 → FitsSignedBits 64 x
     → length bytes ≡ 4 → All (λ b. b < 256) bytes
-    → GoesBack {A = ℕ × ℕ × ℤ × List ℕ}
-    (chain (unary_entry false) (λ a. chain (vbr_entry o 8 32 (2 ^ 32)) (λ b. chain (signed_vbr_entry o 4 64)
-    (λ c. chain (bytes_entry o 4) (λ d. chain (skip_entry 3) (λ _. gives (a, b, c, d)))))))
+    → RoundTrip {A = ℕ × ℕ × ℤ × List ℕ}
+    (and_then (unary_decoder false) (λ a. and_then (vbr_decoder o 8 32 (2 ^ 32)) (λ b. and_then (signed_vbr_decoder o 4 64)
+    (λ c. and_then (bytes_decoder o 4) (λ d. and_then (skip_decoder 3) (λ _. pure (a, b, c, d)))))))
     (unary_word false k ∷ vbr o 8 v ∷ signed_vbr o 4 x ∷ buffer o bytes ∷ zeros 3 ∷ []) (k, v, x, bytes)
-in_a_row o k v x bytes small less fits size each = search (calls_go_back, small, less, fits, size, each) depth 16
+in_a_row o k v x bytes small less fits size each = search (calls_round_trip, small, less, fits, size, each) depth 16

@@ -13,7 +13,7 @@ pub use Rattle.bitstream_count.specs.Checks
 pub use Rattle.bitstream_count.specs.Counts
 pub use Rattle.bitstream_count.specs.declared.checked_error.CheckedError
 pub use Rattle.bitstream_count.specs.declared.error.Error
-pub use Rattle.bitstream_count.specs.Entry
+pub use Rattle.bitstream_count.specs.Codec
 pub use Rattle.bitstream_count.specs.Kind
 pub use Rattle.bitstream_count.specs.Unary
 pub use Rattle.bitstream_count.specs.Vbr
@@ -45,7 +45,7 @@ pub use Rattle.bitstream_stream.specs.Reading.ReadTable
 pub use Rattle.bitstream_stream.specs.Reading.Reader
 pub use Rattle.bitstream_stream.specs.Reading.Reads
 pub use Rattle.bitstream_stream.specs.Writing.Room
-pub use Rattle.bitstream_stream.specs.Run
+pub use Rattle.bitstream_stream.specs.Sequence
 pub use Rattle.bitstream_stream.specs.Reading.Seek
 pub use Rattle.bitstream_stream.specs.Writing.Sink
 pub use Rattle.bitstream_stream.specs.Ways

@@ -1,13 +1,13 @@
--- What the values of `NonZero<u8>` and its like are, by names for the definitions of a caller.
+-- The values of the `NonZero` types, by names for the definitions of a caller.
 use Rattle.std.specs.Prelude.{ℕ}
 use Rattle.std.specs.declared.num.NonZeroU8.{NonZeroU8}
 use Rattle.std.specs.declared.num.NonZeroU16.{NonZeroU16}
 use Rattle.std.specs.declared.num.NonZeroU32.{NonZeroU32}
 use Rattle.std.specs.declared.num.NonZeroU64.{NonZeroU64}
 use Rattle.std.specs.declared.num.NonZeroU128.{NonZeroU128}
-use Rattle.bitstream_count.specs.Entry.{ReadEntry}
+use Rattle.bitstream_count.specs.Codec.{Decoder}
 use Rattle.bitstream_number.specs.Word.{Order}
-use Rattle.bitstream_value.specs.NonZero.{non_zero_entry}
+use Rattle.bitstream_value.specs.NonZero.{non_zero_decoder}
 use Rattle.bitstream_value.specs.contracts.integer.non_zero.NonZeroU8NonZeroInteger.TheImpl as u8s
 use Rattle.bitstream_value.specs.contracts.integer.non_zero.NonZeroU16NonZeroInteger.TheImpl as u16s
 use Rattle.bitstream_value.specs.contracts.integer.non_zero.NonZeroU32NonZeroInteger.TheImpl as u32s
@@ -35,21 +35,21 @@ abbrev pub non_zero_u128 : ℕ → NonZeroU128
 non_zero_u128 n = u128s.after-value.it n
 
 -- the read of a `NonZero<u8>` in n bits
-abbrev pub non_zero_u8_entry : Order → ℕ → ReadEntry NonZeroU8
-non_zero_u8_entry o n = non_zero_entry non_zero_u8 o 8 n
+abbrev pub non_zero_u8_decoder : Order → ℕ → Decoder NonZeroU8
+non_zero_u8_decoder o n = non_zero_decoder non_zero_u8 o 8 n
 
 -- the read of a `NonZero<u16>` in n bits
-abbrev pub non_zero_u16_entry : Order → ℕ → ReadEntry NonZeroU16
-non_zero_u16_entry o n = non_zero_entry non_zero_u16 o 16 n
+abbrev pub non_zero_u16_decoder : Order → ℕ → Decoder NonZeroU16
+non_zero_u16_decoder o n = non_zero_decoder non_zero_u16 o 16 n
 
 -- the read of a `NonZero<u32>` in n bits
-abbrev pub non_zero_u32_entry : Order → ℕ → ReadEntry NonZeroU32
-non_zero_u32_entry o n = non_zero_entry non_zero_u32 o 32 n
+abbrev pub non_zero_u32_decoder : Order → ℕ → Decoder NonZeroU32
+non_zero_u32_decoder o n = non_zero_decoder non_zero_u32 o 32 n
 
 -- the read of a `NonZero<u64>` in n bits
-abbrev pub non_zero_u64_entry : Order → ℕ → ReadEntry NonZeroU64
-non_zero_u64_entry o n = non_zero_entry non_zero_u64 o 64 n
+abbrev pub non_zero_u64_decoder : Order → ℕ → Decoder NonZeroU64
+non_zero_u64_decoder o n = non_zero_decoder non_zero_u64 o 64 n
 
 -- the read of a `NonZero<u128>` in n bits
-abbrev pub non_zero_u128_entry : Order → ℕ → ReadEntry NonZeroU128
-non_zero_u128_entry o n = non_zero_entry non_zero_u128 o 128 n
+abbrev pub non_zero_u128_decoder : Order → ℕ → Decoder NonZeroU128
+non_zero_u128_decoder o n = non_zero_decoder non_zero_u128 o 128 n

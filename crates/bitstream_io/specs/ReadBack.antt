@@ -1,14 +1,14 @@
--- Lists of write calls and their matching reads: what was written is read back.
+-- Lists of write calls and their matching reads: the values written are read back.
 use Rattle.std.specs.Prelude.{◌≡◌, ◌++◌, ℕ, ◌+◌, ◌%◌, ◌^◌, ◌<◌, ◌==◌, if◌then◌else◌, Bool, true, false, List, [], ◌∷◌, length, map, Option, Some, None, Result, Ok, Err, is_ok, ⊤}
 use Rattle.std.specs.List.{All}
 use Rattle.bitstream_number.specs.Word.{Order, FitsSignedBits, bits}
-use Rattle.bitstream_count.specs.Entry.{ReadEntry, WriteEntry, Takes}
+use Rattle.bitstream_count.specs.Codec.{Decoder, Encoder, Done}
 use Rattle.bitstream_count.specs.declared.error.Error.{Error}
 use Rattle.bitstream_count.specs.declared.error.Error.TheVariants.{OutOfMemory}
 use Rattle.bitstream_order.specs.Fault.{read_refusal_of}
 use Rattle.bitstream_order.specs.Refusal.{Refusal, IsTrueEnd}
 use Rattle.bitstream_stream.specs.Reading.Reads.{BitSource}
-use Rattle.bitstream_stream.specs.Run.{accepted, write_run}
+use Rattle.bitstream_stream.specs.Sequence.{accepted_bits, write_sequence}
 use Rattle.bitstream_io.specs.declared.script.answers.Answer.{Answer}
 use Rattle.bitstream_io.specs.declared.script.answers.Answer.TheVariants as answer
 use Rattle.bitstream_io.specs.declared.script.read_call.ReadCall.{ReadCall}
@@ -16,11 +16,10 @@ use Rattle.bitstream_io.specs.declared.script.read_call.ReadCall.TheVariants as 
 use Rattle.bitstream_io.specs.declared.script.write_call.WriteCall.{WriteCall}
 use Rattle.bitstream_io.specs.declared.script.write_call.WriteCall.TheVariants.{Bit, U8, U16, U32, U64, U128, I8, I16, I32, I64, I128, Unary0, Unary1, Vbr4, Vbr8, SignedVbr4, SignedVbr8, Bytes, Pad, Align}
 use Rattle.bitstream_io.specs.ReadScript.{asks_memory, failed_answers}
-use Rattle.bitstream_io.specs.Script.{write_entry, write_entries}
+use Rattle.bitstream_io.specs.Script.{write_encoder, write_encoders}
 
--- The values of a call are values of their types. Of a number in a given number of bits nothing is asked: if it is
--- accepted, it
--- fits them.
+-- The values of a call are values of their types. There is no condition on a number in n bits: if it is
+-- accepted, it fits them.
 abbrev pub IsCall : WriteCall → Type 0
 IsCall (Unary0 k) = k < 2 ^ 32
 IsCall (Unary1 k) = k < 2 ^ 32
@@ -31,21 +30,23 @@ IsCall (SignedVbr8 x) = FitsSignedBits 64 x
 IsCall (Bytes bytes) = All (λ b. b < 256) bytes
 IsCall _ = ⊤
 
--- Wherever these calls write, the read takes just what they wrote, whatever follows it, and answers a.
-abbrev pub IsReadAs : {A : Type 0} → List WriteEntry → ReadEntry A → A → Type 0
+-- Wherever these calls write, the read takes only the bits that they wrote, whatever follows them, and returns
+-- a.
+abbrev pub IsReadAs : {A : Type 0} → List Encoder → Decoder A → A → Type 0
 IsReadAs writes entry a =
     (len p : ℕ) (more : List Bool)
-    → let word = write_run writes len in entry.reads p (word ++ more) ≡ Takes (length word) (Ok a)
+    → let word = write_sequence writes len in entry.reads p (word ++ more) ≡ Done (length word) (Ok a)
 
 -- the accepted ones of calls, in their order, each called at the length that is reached before it
 abbrev pub accepted_calls : Order → List WriteCall → ℕ → List WriteCall
 accepted_calls o [] len = []
 accepted_calls o (call ∷ calls) len =
-    let word = write_entry o call len in
-    let others = accepted_calls o calls (len + length (accepted word)) in
+    let word = write_encoder o call len in
+    let others = accepted_calls o calls (len + length (accepted_bits word)) in
     if is_ok word then call ∷ others else others
 
--- the read of the same name and width; for a pad the skip of as many bits, for bytes as many bytes
+-- the read of the same name and width; for a pad, the skip of the same number of bits; for bytes, the same
+-- number of bytes
 abbrev pub matching_read : WriteCall → ReadCall
 matching_read (Bit b) = read.Bit
 matching_read (U8 n v) = read.U8 n
@@ -72,11 +73,11 @@ matching_read Align = read.Align
 abbrev pub matching_reads : List WriteCall → List ReadCall
 matching_reads calls = map matching_read calls
 
--- what n bits of v answer: v, and 0 if they are none
+-- the value that n bits of v encode: v, or 0 if n is 0
 abbrev pub value_in : ℕ → ℕ → ℕ
 value_in n v = if n == 0 then 0 else v
 
--- what the matching read of an accepted call answers: its value, if it has one
+-- the result of the matching read of an accepted call: its value, if it has one
 abbrev pub answer_of : WriteCall → Answer
 answer_of (Bit b) = answer.Bit b
 answer_of (U8 n v) = answer.U8 (value_in n v)
@@ -99,22 +100,23 @@ answer_of (Bytes bytes) = answer.Bytes bytes
 answer_of (Pad n) = answer.Done
 answer_of Align = answer.Done
 
--- the answers of the matching reads of calls, each in its place
+-- the results of the matching reads of calls, each in its place
 abbrev pub answers_of : List WriteCall → List (Option (Result Answer Error))
 answers_of calls = map (λ call. Some (Ok (answer_of call))) calls
 
--- The bits left of a reader begin with the words of these calls, as they are written behind `len` bits. The reader has
--- taken as many bits, or whole bytes more or less.
+-- The bits left of a reader begin with the words of these calls, as they are written after `len` bits. The
+-- number of bits that the reader has taken is `len`, or differs from it by whole bytes.
 pub record StandsBefore {R : Type 0} (K : BitSource R) (calls : List WriteCall) (len : ℕ) (reader : R) : Type 0 where
   pub bytes : List ℕ
   pub more : List Bool
   pub known : (K.state reader).bytes ≡ Some bytes
-  pub begins : (K.state reader).queue ++ bits K.order bytes ≡ write_run (write_entries None K.order calls) len ++ more
+  pub begins : (K.state reader).queue ++ bits K.order bytes ≡ write_sequence (write_encoders None K.order calls) len ++ more
   pub place : (K.state reader).taken % 8 ≡ len % 8
 
--- What the matching reads of calls answer that wrote these words, if the bits left begin with them. A reader that had
--- failed is as it was. Else each read answers what was written; or up to one of which a request was refused, or memory,
--- and each behind it answers as on a failed reader. A request is not refused at a true end.
+-- The results of the matching reads of calls that wrote these words, if the bits left begin with them. A reader
+-- that had failed is unchanged. Else each read returns the value that was written; or this holds up to a read
+-- whose request or memory was refused, and each later read returns the same as on a failed reader. No request
+-- is refused at a true end.
 pub data ReadsBack {R : Type 0} (K : BitSource R) (calls : List WriteCall) (words : List Bool) (old : R)
     (answers : List (Option (Result Answer Error))) (new : R) : Type 0 where
   had_failed : (K.state old).failed ≡ true

@@ -3,8 +3,8 @@
 //! A number below 2^32 - 1 is written as n zeros, a one, and n more bits: together the one and these bits
 //! are the number plus 1. A signed number is written as its index in the order 0, 1, -1, 2, -2, and so on.
 ghost use Rattle.std.specs.Prelude.{◌≡◌, ◌++◌, ◌^◌, ◌<◌, ◌-◌, ℕ, ℤ, Bool, List, Ok, IfOk, length, unsigned_abs};
-ghost use Rattle.bitstream_io.specs.Callers.{Takes, Reads, write_run, WritesAll, Order};
-ghost use Rattle.bitstream_io.specs.Golomb.{se_entry, se_writes, ue_entry, ue_writes};
+ghost use Rattle.bitstream_io.specs.Callers.{Done, Reads, write_sequence, WritesAll, Order};
+ghost use Rattle.bitstream_io.specs.Golomb.{se_decoder, se_writes, ue_decoder, ue_writes};
 
 use crate::error::Error;
 use crate::number::Bits;
@@ -15,8 +15,8 @@ use crate::write::{BitWrite, BitWriteExt};
 ///
 /// # Errors
 ///
-/// `VariableWidthOverflow` for more than 31 leading zeros. The zeros and the one after them are read
-/// then, and the reader goes on after them. Else the errors of the reader.
+/// `VariableWidthOverflow` for more than 31 leading zeros. The zeros and the one after them are
+/// read then, and the reader continues after them. Else the errors of the reader.
 ///
 /// # Examples
 ///
@@ -31,7 +31,7 @@ use crate::write::{BitWrite, BitWriteExt};
 /// assert_eq!(rt; read_se(&mut reader)?, -1);
 /// ```
 pub fn read_ue<R: BitRead>(reader: &mut R) -> Result<u32, Error>
-    ensures reads { Reads R.source (ue_entry R.source.order) reader.old result reader.new }
+    ensures reads { Reads R.source (ue_decoder R.source.order) reader.old result reader.new }
     ensures below { IfOk result (λ value. value < 2 ^ 32 - 1) }
 {
     let zeros = reader.read_unary::<Bits<1>>()?;
@@ -46,9 +46,9 @@ pub fn read_ue<R: BitRead>(reader: &mut R) -> Result<u32, Error>
 ///
 /// # Errors
 ///
-/// Those of [`read_ue`].
+/// The errors of [`read_ue`].
 pub fn read_se<R: BitRead>(reader: &mut R) -> Result<i32, Error>
-    ensures { Reads R.source (se_entry R.source.order) reader.old result reader.new }
+    ensures { Reads R.source (se_decoder R.source.order) reader.old result reader.new }
 {
     let place = read_ue(reader)?;
     let half = (place / 2) as i32;
@@ -88,16 +88,16 @@ pub fn write_se<W: BitWrite>(writer: &mut W, value: i32) -> Result<(), Error>
 }
 
 /// An unsigned number is read back as it was written, in either order of bits, at any position.
-pub fn unsigned_golomb_numbers_go_back()
+pub fn unsigned_golomb_numbers_round_trip()
     ensures { (o : Order) (value at from : ℕ) (more : List Bool) → value < 2 ^ 32 - 1
-        → let word = write_run (ue_writes o value) at in
-        (ue_entry o).reads from (word ++ more) ≡ Takes (length word) (Ok value) }
+        → let word = write_sequence (ue_writes o value) at in
+        (ue_decoder o).reads from (word ++ more) ≡ Done (length word) (Ok value) }
 {}
 
 /// A signed number is read back as it was written, in either order of bits, at any position.
-pub fn signed_golomb_numbers_go_back()
+pub fn signed_golomb_numbers_round_trip()
     ensures { (o : Order) (value : ℤ) (at from : ℕ) (more : List Bool)
         → unsigned_abs value < 2 ^ 31
-        → let word = write_run (se_writes o value) at in
-        (se_entry o).reads from (word ++ more) ≡ Takes (length word) (Ok value) }
+        → let word = write_sequence (se_writes o value) at in
+        (se_decoder o).reads from (word ++ more) ≡ Done (length word) (Ok value) }
 {}

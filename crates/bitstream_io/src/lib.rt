@@ -2,7 +2,7 @@
 //!
 //! Ported from `bitstream-io` 4.10.0 by Brian Langenberger; MIT OR Apache-2.0, see `LICENSE`.
 //!
-//! The items stand in modules by subject. Most stand here too:
+//! The items are in modules by subject. Most are here too:
 //!
 //! - [`compat`]: the calls of today by their older names
 //! - [`golomb`]: exponential Golomb numbers
@@ -13,8 +13,8 @@
 //! - [`integer`]: types whose values are read and written as bits
 //! - [`huffman`]: prefix codes
 //! - [`order`]: the two orders of bits
-//! - [`read`]: reading bits: the readers, their calls, what they read from, and types that are read
-//! - [`write`]: writing bits: the writer, counters and recorders, their calls, what is written to, and
+//! - [`read`]: reading bits: the readers, their calls, their sources, and types that are read
+//! - [`write`]: writing bits: the writer, counters and recorders, their calls, their targets, and
 //!   types that are written
 //! - [`bytes`]: reading and writing whole bytes
 //! - [`laws`]: laws of the definitions: one function each, whose contract is the law
@@ -124,25 +124,26 @@ pub mod bytes {
 
 /// Laws of the definitions: one function each, whose contract is the law.
 pub mod laws {
-    pub use crate::golomb::{signed_golomb_numbers_go_back, unsigned_golomb_numbers_go_back};
+    pub use crate::golomb::{signed_golomb_numbers_round_trip, unsigned_golomb_numbers_round_trip};
     pub use crate::script::laws::{
         appending_composes, calls_have_values_of_their_types, lists_of_reads_are_known,
-        played_calls_are_direct_calls, words_have_one_length, write_runs_join,
-        written_calls_are_read, written_calls_come_back, written_parts_are_read,
+        played_calls_are_direct_calls, words_have_one_length, write_sequences_join,
+        written_calls_are_read, written_calls_round_trip, written_parts_are_read,
         written_values_are_read, written_words_are_read,
     };
     pub use bitstream_count::laws::{
-        counts_go_back, counts_hash_as_their_numbers, equal_counts_are_equal_numbers,
-        equal_signed_counts_are_equal_numbers, fixed_counts_go_back, fixed_signed_counts_go_back,
-        signed_counts_go_back, signed_counts_hash_as_their_numbers, unary_words_alone_are_read,
-        unary_words_begin_no_other, unary_words_read_back, variable_width_words_alone_are_read,
+        counts_hash_as_their_numbers, counts_round_trip, equal_counts_are_equal_numbers,
+        equal_signed_counts_are_equal_numbers, fixed_counts_round_trip,
+        fixed_signed_counts_round_trip, signed_counts_hash_as_their_numbers,
+        signed_counts_round_trip, unary_words_alone_are_read, unary_words_begin_no_other,
+        unary_words_read_back, variable_width_words_alone_are_read,
         variable_width_words_are_shortest, variable_width_words_are_the_only_ones,
         variable_width_words_begin_no_other, variable_width_words_read_back,
     };
     pub use bitstream_number::laws::{
         bytes_are_words, masks_are_remainders, ors_are_sums, shifts_past_the_size_are_zero,
-        signed_bytes_go_back, signed_shifts_round_down, unsigned_bytes_go_back, values_go_back,
-        words_hold_numbers, words_split, zigzags_go_back,
+        signed_bytes_round_trip, signed_shifts_round_down, unsigned_bytes_round_trip,
+        values_round_trip, words_hold_numbers, words_split, zigzags_round_trip,
     };
     pub use bitstream_sink::recorder::laws::{recorders_lack_memory, recordings_grow};
     pub use bitstream_stream::laws::{

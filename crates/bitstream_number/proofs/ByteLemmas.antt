@@ -10,14 +10,14 @@ use Rattle.bitstream_number.proofs.WordLemmas.{length-word, number-word, word-nu
 
 -- ---- the first byte
 
-front : (o : Order) (b : ℕ) (w : List Bool) → take 8 (word o 8 b ++ w) ≡ word o 8 b
-front o b w = ap (λ k. take k (word o 8 b ++ w)) (sym (length-word o 8 b)) ∙ take-append_seam (word o 8 b) w
+prefix : (o : Order) (b : ℕ) (w : List Bool) → take 8 (word o 8 b ++ w) ≡ word o 8 b
+prefix o b w = ap (λ k. take k (word o 8 b ++ w)) (sym (length-word o 8 b)) ∙ take-append_seam (word o 8 b) w
 
 behind : (o : Order) (b : ℕ) (w : List Bool) → drop 8 (word o 8 b ++ w) ≡ w
 behind o b w = ap (λ k. drop k (word o 8 b ++ w)) (sym (length-word o 8 b)) ∙ drop-append_seam (word o 8 b) w
 
 first_byte : (o : Order) (b : ℕ) (w : List Bool) → b < 256 → number o (take 8 (word o 8 b ++ w)) ≡ b
-first_byte o b w small = ap (number o) (front o b w) ∙ number-word o 8 b ∙ mod-eq_of_lt small
+first_byte o b w small = ap (number o) (prefix o b w) ∙ number-word o 8 b ∙ mod-eq_of_lt small
 
 -- ---- there and back
 

@@ -11,7 +11,7 @@ use mathlib.Core.List.{reverse-cons}
 use Rattle.std.proofs.lemmas.List.Concat.{flat_map-append}
 use Rattle.std.proofs.lemmas.Nat.{shr-shr, shr_split, shr_high, mod-pow-add, pow-add}
 use Rattle.std.proofs.lemmas.Nat.Bits.{bit_at_cat_low}
-use Rattle.bitstream_number.specs.Word.{Order, High, Low, digits, in_order, joined, word, digit_value, digits_number, number, bits, bytes, count_width}
+use Rattle.bitstream_number.specs.Word.{Order, High, Low, digits, in_order, concat_in, word, digit_value, digits_number, number, bits, bytes, count_width}
 
 -- ---- digits, the highest first
 
@@ -98,7 +98,7 @@ length-in_order High xs = refl
 length-in_order Low xs = length-reverse xs
 
 pub in_order-append : {A : Type 0} (o : Order) (xs ys : List A) → in_order o (xs ++ ys)
-    ≡ joined o (in_order o xs) (in_order o ys)
+    ≡ concat_in o (in_order o xs) (in_order o ys)
 in_order-append High xs ys = refl
 in_order-append Low xs ys = reverse-append xs ys
 
@@ -107,15 +107,15 @@ in_order-append Low xs ys = reverse-append xs ys
 pub length-word : (o : Order) (n v : ℕ) → length (word o n v) ≡ n
 length-word o n v = length-in_order o (digits n v) ∙ length-digits n v
 
-pub word-add : (o : Order) (a b v : ℕ) → word o (a + b) v ≡ joined o (word o a (v / 2 ^ b)) (word o b v)
+pub word-add : (o : Order) (a b v : ℕ) → word o (a + b) v ≡ concat_in o (word o a (v / 2 ^ b)) (word o b v)
 word-add o a b v = ap (in_order o) (digits-add a b v) ∙ in_order-append o (digits a (v / 2 ^ b)) (digits b v)
 
 -- the word of a number that is put together from two
 pub word_cat : (o : Order) (a b u v : ℕ) → v < 2 ^ b → word o (a + b) (u * 2 ^ b + v)
-    ≡ joined o (word o a u) (word o b v)
+    ≡ concat_in o (word o a u) (word o b v)
 word_cat o a b u v small =
     word-add o a b (u * 2 ^ b + v)
-    ∙ ap₂ (joined o) (ap (word o a) (shr_high u b v small)) (ap (in_order o) (digits_low b b u v (omega arith)))
+    ∙ ap₂ (concat_in o) (ap (word o a) (shr_high u b v small)) (ap (in_order o) (digits_low b b u v (omega arith)))
 
 pub word-mod : (o : Order) (n v : ℕ) → word o n (v % 2 ^ n) ≡ word o n v
 word-mod o n v = ap (in_order o) (digits-mod n v)
@@ -123,7 +123,7 @@ word-mod o n v = ap (in_order o) (digits-mod n v)
 pub number-word : (o : Order) (n v : ℕ) → number o (word o n v) ≡ v % 2 ^ n
 number-word o n v = ap digits_number (in_order-twice o (digits n v)) ∙ number-digits n v
 
-pub number-joined : (o : Order) (high low : List Bool) → number o (joined o high low)
+pub number-joined : (o : Order) (high low : List Bool) → number o (concat_in o high low)
     ≡ number o high * 2 ^ length low + number o low
 number-joined High high low = number-append high low
 number-joined Low high low = rw (

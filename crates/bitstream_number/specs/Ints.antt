@@ -1,5 +1,4 @@
--- How the integer types meet the laws of the traits.
--- These are lemmas: ghost members of the impls cite them.
+-- The integer types satisfy the laws of the traits. These are lemmas: ghost members of the impls cite them.
 use Rattle.std.specs.Prelude.{◌≡◌, ◌≢◌, ◌↔◌, ℕ, ℤ, pos, negsuc, zero, suc, ◌+◌, ◌-◌, ◌*◌, ◌/◌, ◌^◌, ◌<◌, ◌≤◌, ◌==◌, ◌-ℤ◌, Some, IsTrue, int_div, unsigned_abs, neg_ℤ}
 use Rattle.std.specs.Int.{Width, w8, w16, w32, w64, w128, CanDivide, FitsUnsignedBits, cast_unsigned, cast_signed}
 use Rattle.std.specs.Ordering.{nat_cmp, int_cmp, int_eq}
@@ -52,7 +51,7 @@ unsigned-can_rem (suc n) h = omega arith
 
 -- ---- signed types
 
--- a type has twice as many numbers as it has numbers that are not negative
+-- half of the numbers of an integer type are not negative
 pub half-one : (w : Width) → 2 ^ bit_len w ≡ 2 * 2 ^ hbits w
 half-one w8 = refl
 half-one w16 = refl
@@ -77,7 +76,7 @@ signed-can_sub w (negsuc n) h = record { sfits = below-half w n h }
 suc-step : (t n : ℕ) → t - suc n ≡ t - 1 - n
 suc-step t n = omega arith
 
--- what a cast keeps of a number
+-- a cast of a signed number keeps it modulo 2^bits
 pub signed-bits : (w : Width) (z : ℤ) → FitsSignedBits (bit_len w) z → cast_unsigned w z ≡ residue (bit_len w) z
 signed-bits w (pos n) h =
     let f = below-half w n h in

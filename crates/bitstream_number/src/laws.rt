@@ -1,14 +1,14 @@
 //! Laws of words, bytes and numbers, whatever reads or writes them.
 //!
-//! The contract of each function is a law. A law of words alone has an empty body. A law of numbers
-//! makes the calls that it is about, for any type of its bound.
+//! The contract of each function is a law. A law that is only about words has an empty body. A law
+//! of numbers makes the calls that it is about, for any type of its bound.
 
 ghost use Rattle.std.specs.Prelude.{◌≡◌, ℕ, ℤ, pos, ◌+◌, ◌*◌, ◌%◌, ◌^◌, ◌<◌, ◌≤◌, ◌+ℤ◌, ◌*ℤ◌, ◌≤ℤ◌, ◌<ℤ◌, Bool, List, ◌++◌, length};
 ghost use Rattle.bitstream_number.specs.Word.{Order, High, Low, word, number, bits, bytes, FitsSignedBits, signed_word, signed_number, zig, zag};
 
 use crate::number::{Numeric, Primitive, SignedInteger, UnsignedInteger};
 
-/// The word of a number at n bits has n bits, and gives the number back, modulo 2^n.
+/// The word of a number at n bits has n bits, and encodes the number modulo 2^n.
 pub fn words_hold_numbers()
     // The word of a number at n bits has n bits.
     ensures length { (o : Order) (n v : ℕ) → length (word o n v) ≡ n }
@@ -19,12 +19,13 @@ pub fn words_hold_numbers()
     // Two numbers below 2^n are the same if their words at n bits are.
     ensures same { (o : Order) (n u v : ℕ) → u < 2 ^ n → v < 2 ^ n
         → word o n u ≡ word o n v → u ≡ v }
-    // A signed number that fits in n bits, where n is not 0, comes back from its two's complement.
+    // A signed number that fits in n bits, where n is not 0, round-trips through its two's
+    // complement.
     ensures signed { (o : Order) (n : ℕ) (x : ℤ) → 0 < n → FitsSignedBits n x
         → signed_number o (signed_word o n x) ≡ x }
 {}
 
-/// The number of two words, one after the other, is made of the two words' numbers.
+/// The number of two words, one after the other, is computed from the numbers of the two words.
 pub fn words_split()
     // Big-endian: the first word is the high part of the number of both.
     ensures high { (first second : List Bool) → number High (first ++ second)
@@ -39,12 +40,12 @@ pub fn bytes_are_words()
     ensures { (o : Order) (n v : ℕ) → bits o (bytes o n v) ≡ word o (8 * n) v }
 {}
 
-/// Every signed number has a place of its own in the order 0, -1, 1, -2, 2, .. (zigzag), and every
-/// place is taken.
-pub fn zigzags_go_back()
-    // A signed number is the one that stands at its place.
+/// Every signed number has a place of its own in the zigzag order 0, -1, 1, -2, 2 and so on, and
+/// every place is taken.
+pub fn zigzags_round_trip()
+    // `zag` undoes `zig`.
     ensures signed { (x : ℤ) → zag (zig x) ≡ x }
-    // A place is that of the signed number that stands there.
+    // `zig` undoes `zag`.
     ensures unsigned { (n : ℕ) → zig (zag n) ≡ n }
 {}
 
@@ -88,11 +89,11 @@ pub fn signed_shifts_round_down<S: SignedInteger>(value: S, by: u32) -> S
     value >> by
 }
 
-/// An unsigned value comes back from its bytes, in either byte order.
-pub fn unsigned_bytes_go_back<U: UnsignedInteger>(value: U) -> (U, U)
-    // The value made of its big-endian bytes is the same number.
+/// An unsigned value round-trips through its bytes, in either byte order.
+pub fn unsigned_bytes_round_trip<U: UnsignedInteger>(value: U) -> (U, U)
+    // The value of its big-endian bytes is the same number.
     ensures high { U.value result.0 ≡ U.value value }
-    // The value made of its little-endian bytes is the same number.
+    // The value of its little-endian bytes is the same number.
     ensures low { U.value result.1 ≡ U.value value }
 {
     let high = U::from_be_bytes(value.to_be_bytes());
@@ -103,11 +104,11 @@ pub fn unsigned_bytes_go_back<U: UnsignedInteger>(value: U) -> (U, U)
     (high, low)
 }
 
-/// A signed value comes back from its bytes, in either byte order.
-pub fn signed_bytes_go_back<S: SignedInteger>(value: S) -> (S, S)
-    // The value made of its big-endian bytes is the same number.
+/// A signed value round-trips through its bytes, in either byte order.
+pub fn signed_bytes_round_trip<S: SignedInteger>(value: S) -> (S, S)
+    // The value of its big-endian bytes is the same number.
     ensures high { S.integer result.0 ≡ S.integer value }
-    // The value made of its little-endian bytes is the same number.
+    // The value of its little-endian bytes is the same number.
     ensures low { S.integer result.1 ≡ S.integer value }
 {
     let high = S::from_be_bytes(value.to_be_bytes());
@@ -118,8 +119,8 @@ pub fn signed_bytes_go_back<S: SignedInteger>(value: S) -> (S, S)
     (high, low)
 }
 
-/// Bytes come back from the value that is made of them, in either byte order.
-pub fn values_go_back<V: Primitive>(high: V::Bytes, low: V::Bytes) -> (V::Bytes, V::Bytes)
+/// Bytes round-trip through the value that they encode, in either byte order.
+pub fn values_round_trip<V: Primitive>(high: V::Bytes, low: V::Bytes) -> (V::Bytes, V::Bytes)
     // The big-endian bytes of the value made of them are the same bytes.
     ensures high { V.Bytes.items result.0 ≡ V.Bytes.items high }
     // The little-endian bytes of the value made of them are the same bytes.

@@ -1,5 +1,5 @@
-//! The integer types as numbers, with what generic code may count on, and the laws of their bits, words
-//! and bytes. What callers need of it stands in `bitstream_io`.
+//! The integer types as numbers, the properties that generic code uses, and the laws of their bits,
+//! words and bytes. Callers find what they need in `bitstream_io`.
 //!
 //! - [`laws`]: laws of words, bytes and numbers, whatever reads or writes them
 //! - [`number`]: the ten integer types as numbers, and numbers of bits as types

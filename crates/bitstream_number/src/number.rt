@@ -1,4 +1,4 @@
-//! The ten integer types as numbers, and what generic code may ask of them.
+//! The ten integer types as numbers, and the properties that generic code uses.
 
 mod numeric;
 mod primitive;

@@ -16,7 +16,7 @@ use Rattle.bitstream_number.proofs.WordLemmas.{digits-add, word-add, word-mod, l
 
 -- ---- words in the midst
 
--- k of s bits, of which n went off the front
+-- k of s bits, of which n went off the prefix
 pub middle_high : (v n k s : ℕ) → n + k ≤ s → v * 2 ^ n % 2 ^ s / 2 ^ (s - k) ≡ v / 2 ^ (s - (n + k)) % 2 ^ k
 middle_high v n k s le =
     let r = s - (n + k) in
@@ -83,12 +83,12 @@ turned_lead (false ∷ w) = refl
 -- ---- runs
 
 -- a run that ends within the first part
-pub lead-front : (stop : Bool) (x y : List Bool) → lead stop (x ++ y) < length x → lead stop x ≡ lead stop (x ++ y)
-lead-front stop [] y h = absurd (omega arith)
-lead-front true (true ∷ x) y h = refl
-lead-front true (false ∷ x) y h = ap suc (lead-front true x y (omega arith))
-lead-front false (true ∷ x) y h = ap suc (lead-front false x y (omega arith))
-lead-front false (false ∷ x) y h = refl
+pub lead-prefix : (stop : Bool) (x y : List Bool) → lead stop (x ++ y) < length x → lead stop x ≡ lead stop (x ++ y)
+lead-prefix stop [] y h = absurd (omega arith)
+lead-prefix true (true ∷ x) y h = refl
+lead-prefix true (false ∷ x) y h = ap suc (lead-prefix true x y (omega arith))
+lead-prefix false (true ∷ x) y h = ap suc (lead-prefix false x y (omega arith))
+lead-prefix false (false ∷ x) y h = refl
 
 pub lead-longer : (stop : Bool) (x y : List Bool) → lead stop x < length x → lead stop (x ++ y) ≡ lead stop x
 lead-longer stop [] y h = absurd (omega arith)
@@ -195,7 +195,7 @@ run_behind o stop v at w r y few begins is within =
     let x = drop at (word o 64 v) in
     let parts = ap (lead stop) begins in
     let less : lead stop (x ++ y) < length x = omega (arith, is, parts, within, rest_long o v at) in
-    is ∙ parts ∙ sym (lead-front stop x y less)
+    is ∙ parts ∙ sym (lead-prefix stop x y less)
 
 ones_of : (o : Order) (w r : ℕ) → w < 2 ^ 64 → r ≡ lead true (word o 64 (bit_not w64 w)) → r ≡ lead false (word o 64 w)
 ones_of o w r below is = is ∙ ap (lead true) (turned_word o w below) ∙ turned_lead (word o 64 w)

@@ -21,12 +21,13 @@ abbrev pub count_told : Option (List ℕ) → Option ℕ
 count_told (Some bytes) = Some (length bytes)
 count_told None = None
 
--- the first of two numbers that is told
+-- the first of two numbers that is known
 abbrev pub first_told : Option ℕ → Option ℕ → Option ℕ
 first_told (Some n) other = Some n
 first_told None other = other
 
--- how many bytes a stream can hold that is reached through these references: as many as the slice to which one leads
+-- the capacity in bytes of a stream that is reached through these references: the length of the slice to which
+-- one leads
 abbrev pub capacity_of : List Reference → Option ℕ
 capacity_of [] = None
 capacity_of (reference ∷ others) = first_told (count_told reference.was) (capacity_of others)

@@ -6,8 +6,8 @@ use Rattle.std.specs.declared.io.traits.SeekFrom.{SeekFrom}
 use Rattle.bitstream_order.specs.Reference.{Reference, capacity_of}
 use Rattle.bitstream_order.specs.Streams.{InputStream, OutputStream}
 
--- A refused request: its kind, the number of bytes asked for, and what the stream told: how many bytes it can hold, and
--- its bytes before the request and after it (those left to read, or those that it holds).
+-- A refused request: its kind, the number of bytes asked for, and what is known of the stream: its capacity,
+-- and its bytes before the request and after it (the bytes left to read, or the bytes that it holds).
 pub record Refusal : Type 0 where
   pub kind : ErrorKind
   pub wanted : ℕ
@@ -15,7 +15,7 @@ pub record Refusal : Type 0 where
   pub before : Option (List ℕ)
   pub after : Option (List ℕ)
 
--- the refusal of a request, by what the stream told before it and after it
+-- the refusal of a request, from the known state of the stream before it and after it
 abbrev pub refusal_told : {S : Type 0} → (S → Option (List ℕ)) → (S → List Reference) → S → ℕ → ErrorKind → S → Refusal
 refusal_told known references old wanted kind new = record {
   kind = kind;
@@ -25,11 +25,11 @@ refusal_told known references old wanted kind new = record {
   after = known new;
 }
 
--- the refusal of a request for a number of bytes, by what its source told
+-- the refusal of a request for a number of bytes, from what is known of its source
 abbrev pub refused_read : {R : Type 0} → InputStream R → R → ℕ → ErrorKind → R → Refusal
 refused_read I = refusal_told I.remaining I.references
 
--- the refusal of a request to send a number of bytes, by what its target told
+-- the refusal of a request to send a number of bytes, from what is known of its target
 abbrev pub refused_write : {W : Type 0} → OutputStream W → W → ℕ → ErrorKind → W → Refusal
 refused_write O = refusal_told O.contents O.references
 
@@ -48,7 +48,7 @@ pub record LacksRoom (refusal : Refusal) : Type 0 where
   pub room : refusal.capacity ≡ Some most
   pub few : most < length held + refusal.wanted
 
--- a refusal that a stream may make, by what it tells of its bytes and says of its requests
+-- a refusal that a stream may make, from what is known of its bytes and of its requests
 pub record MayRefuse {S : Type 0} (known : S → Option (List ℕ)) (references : S → List Reference)
     (refuses : S → ℕ → ErrorKind → S → Type 0) (refusal : Refusal) : Type 0 where
   pub old : S

@@ -1,4 +1,5 @@
-//! What only contracts see: a count, the refusals of a stream, and bytes as they were. They take no memory.
+//! Values that only contracts see: a count, the refusals of a stream, and bytes as they were. They
+//! take no memory.
 ghost use Rattle.std.specs.Prelude.{◌≡◌, ℕ, ◌+◌, ◌*◌, List, [], ◌∷◌};
 ghost use Rattle.std.specs.Borrow.{ftrue};
 ghost use Rattle.bitstream_order.specs.Refusal.{Refusal};
@@ -31,7 +32,7 @@ impl GhostCount {
         GhostCount { seal: () }
     }
 
-    /// Does nothing at run time. The caller's proof says by what the count grows.
+    /// Does nothing at run time. The caller's proof states the growth of the count.
     pub(crate) fn grow(&mut self, _n: u64)
         ghost by: { ℕ }
         ensures { self.new.count ≡ self.old.count + by }
@@ -95,7 +96,7 @@ impl GhostRefusals {
         GhostRefusals { seal: () }
     }
 
-    /// Does nothing at run time. The caller's proof says by what the list grows.
+    /// Does nothing at run time. The caller's proof states the growth of the list.
     pub fn push(&mut self, _n: u64)
         ghost by: { Refusal }
         ensures { self.new.list ≡ by ∷ self.old.list }
@@ -128,13 +129,13 @@ impl GhostBytes {
         GhostBytes { seal: () }
     }
 
-    /// Does nothing at run time. The caller's proof says what the list becomes.
+    /// Does nothing at run time. The caller's proof states the new list.
     fn set(&mut self, _n: u64)
         ghost by: { List ℕ }
         ensures { self.new.list ≡ by }
     {}
 
-    /// Does nothing at run time. The list becomes the bytes of the slice.
+    /// Does nothing at run time. The list is then the bytes of the slice.
     fn set_to(&mut self, _bytes: &[u8])
         ghost by: { List ℕ }
         requires { by ≡ _bytes.now }

@@ -1,4 +1,5 @@
-//! What moves words: gathered from a port and sent to it, shifted, turned by their sign, counted and copied.
+//! The functions that move words: they gather words from a port, send them to it, shift, convert
+//! signs, count and copy.
 
 pub(crate) mod copy;
 pub mod gather;

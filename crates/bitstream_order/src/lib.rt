@@ -1,12 +1,13 @@
-//! Orders of bits, streams with counts of their requests, and the kernels that move words. What callers
-//! need of it stands in `bitstream_io`.
+//! Orders of bits, streams with counts of their requests, and the kernels that move words. Callers
+//! find what they need in `bitstream_io`.
 //!
-//! - [`ghosts`]: what only contracts see: a count, and the refusals of a stream
-//! - [`kernels`]: what moves words: gathers them from a stream, sends, shifts, counts and copies them
+//! - [`ghosts`]: values that only contracts see: a count, and the refusals of a stream
+//! - [`kernels`]: functions that move words: they gather them from a stream, send, shift, count and
+//!   copy them
 //! - [`order`]: the two orders of bits
 //! - [`port`]: the one holder of a stream, which counts its requests for contracts
-//! - [`streams`]: what bytes are read from and written to: the traits of streams, bytes in memory, a
-//!   vector that grows, and a stream that is lent
+//! - [`streams`]: sources and targets of bytes: the traits of streams, bytes in memory, a vector
+//!   that grows, and a stream that is lent
 //!
 //! Ported from `bitstream-io` 4.10.0 by Brian Langenberger; MIT OR Apache-2.0, see `LICENSE`.
 #![tactic(auto)]

@@ -6,7 +6,7 @@ ghost use Rattle.std.specs.IoError.{error_kind};
 ghost use Rattle.std.specs.declared.io.traits.SeekFrom.TheVariants.{Current};
 ghost use Rattle.bitstream_order.specs.Fault.{read_refusal_of, refusal_of};
 ghost use Rattle.bitstream_order.specs.Refusal.{Refusal, MayRefuseRead, MayRefuseSeek, MayRefuseWrite, refused_read, refused_write};
-ghost use Rattle.bitstream_order.specs.Port.{source_state, target_state, fetched_count, port_stream, with_stream, Fetches, Sends, Seeks, Places};
+ghost use Rattle.bitstream_order.specs.Port.{source_state, target_state, fetched_count, sent_count, requests_count, port_refusals, port_stream, with_stream, Fetches, Sends, Seeks, Places};
 
 use crate::ghosts::{GhostCount, GhostRefusals};
 use crate::streams::seek::SeekSource;
@@ -82,18 +82,17 @@ impl<S> Port<S> {
     ghost use Rattle.std.specs.Borrow.{Lends, sem};
     ghost use Rattle.bitstream_order.specs.contracts.port.Port.{the_row};
 
-    /// Returns a new port to a stream: nothing was asked of the stream yet.
+    /// Returns a new port to a stream, which has made no request yet.
     pub fn new(stream: S) -> Port<S>
         // The port holds this stream.
-        ensures stream { result.stream ≡ stream }
+        ensures stream { port_stream result ≡ stream }
         // No byte was fetched yet.
-        ensures fetched { result.fetched.count ≡ 0 }
+        ensures fetched { fetched_count result ≡ 0 }
         // No byte was sent yet.
-        ensures sent { result.sent.count ≡ 0 }
-        // No request was made yet.
-        ensures requests { result.requests.count ≡ 0 }
+        ensures sent { sent_count result ≡ 0 }
+        ensures requests { requests_count result ≡ 0 }
         // No request was refused yet.
-        ensures refusals { result.refusals.list ≡ [] }
+        ensures refusals { port_refusals result ≡ [] }
     {
         Port {
             stream,
@@ -106,7 +105,6 @@ impl<S> Port<S> {
 
     /// Lends the stream. What is done to it then is not counted.
     pub fn lend(&mut self) -> &mut S
-        // What is lent is the port's stream.
         ensures value { result.now ≡ port_stream self.old }
         // When the borrow ends, only the stream may have changed: it is as it was left.
         ensures* writes_back { sem 𝓛
@@ -122,18 +120,18 @@ impl<S> Port<S> {
         &self.stream
     }
 
-    /// Forgets what was asked of the stream, which stays as it is.
+    /// Forgets the requests made to the stream, which is unchanged.
     pub fn restart(&mut self)
         // The stream stays as it is.
         ensures stream { port_stream self.new ≡ port_stream self.old }
         // No byte counts as fetched.
-        ensures fetched { self.new.fetched.count ≡ 0 }
+        ensures fetched { fetched_count self.new ≡ 0 }
         // No byte counts as sent.
-        ensures sent { self.new.sent.count ≡ 0 }
+        ensures sent { sent_count self.new ≡ 0 }
         // No request counts as made.
-        ensures requests { self.new.requests.count ≡ 0 }
+        ensures requests { requests_count self.new ≡ 0 }
         // No refusal is recorded any more.
-        ensures refusals { self.new.refusals.list ≡ [] }
+        ensures refusals { port_refusals self.new ≡ [] }
     {
         self.fetched = GhostCount::new();
         self.sent = GhostCount::new();
@@ -171,30 +169,34 @@ impl<S: Source> Port<S> {
             (source_state S.stream self.old) buf.new result (source_state S.stream self.new) }
     {
         let count = buf.len();
-        self.fetch_front(buf, count, true)
+        self.fetch_prefix(buf, count, true)
     }
 
-    /// Fills the first `count` bytes of the buffer, which has as many or more, by one request, for these
-    /// bytes alone. What stands behind them in the buffer is then not told. `constant` tells whether
-    /// `count` is known as the program is compiled, and changes only how the bytes are copied.
+    /// Fills the first `count` bytes of the buffer, which has at least `count`, by one request for
+    /// these bytes alone. The contents of the buffer after them are then unspecified. `constant` is
+    /// true if `count` is known at compile time, and changes only how the bytes are copied.
     ///
     /// # Errors
     ///
     /// As [`fetch`](Port::fetch).
     #[inline(always)]
-    pub fn fetch_front(&mut self, buf: &mut [u8], count: usize, constant: bool) -> Result<(), Error>
+    pub fn fetch_prefix(
+        &mut self,
+        buf: &mut [u8],
+        count: usize,
+        constant: bool,
+    ) -> Result<(), Error>
         requires { count ≤ length buf.old }
         // The buffer's front gets the next `count` bytes by one request, or it is refused.
         ensures fetches { Fetches (MayRefuseRead S.stream)
             (source_state S.stream self.old) (take count buf.new) result
             (source_state S.stream self.new) }
-        // The buffer keeps its length.
         ensures len { length buf.new ≡ length buf.old }
     {
         let before = Snapshot::of(&self.stream);
         // A request counts even if it is refused.
         self.requests.add(1);
-        match self.stream.read_front(buf, count, constant) {
+        match self.stream.read_prefix(buf, count, constant) {
             Ok(()) => {
                 self.fetched.add(count as u64);
                 Ok(())
@@ -250,10 +252,10 @@ impl<S: Target> Port<S> {
         // One request is made, and no byte is sent, whether it is refused or not.
         ensures sends { Sends (MayRefuseWrite S.stream) (target_state S.stream self.old) [] result
             (target_state S.stream self.new) }
-        // The stream holds the same bytes as before, if it tells them.
+        // The stream holds the same bytes as before, if they are known.
         ensures bytes { Keeps (S.stream.contents (port_stream self.old))
             (S.stream.contents (port_stream self.new)) }
-        // If it succeeds, the stream did what it says that a flush does.
+        // If it succeeds, its effect is the one that the stream states for a flush.
         ensures flushed { OnOk result (S.stream.flushes (port_stream self.old) (port_stream self.new)) }
     {
         let before = Snapshot::of(&self.stream);
@@ -271,22 +273,23 @@ impl<S: Target> Port<S> {
 }
 
 impl<S: SeekSource> Port<S> {
-    /// Seeks by one request, and returns the new position in bytes. From there on the fetched bytes
-    /// are counted anew.
+    /// Seeks by one request, and returns the new position in bytes. The count of fetched bytes
+    /// starts again there.
     ///
     /// # Errors
     ///
     /// `OutOfMemory` if the stream refuses with that kind, else `Stream` with its kind. The
-    /// position stays as it was then.
+    /// position is unchanged then.
     pub fn seek(&mut self, to: SeekFrom) -> Result<u64, Error>
-        // One request is made. Fetched bytes are counted anew, or stay counted if it is refused.
+        // One request is made. The count of fetched bytes starts again, or is unchanged if it is
+        // refused.
         ensures seeks { Seeks (MayRefuseSeek S.stream S.refuses_seek to)
             (source_state S.stream self.old) result (source_state S.stream self.new) }
-        // If the stream tells its position, that becomes the answer, or stays if the seek is
-        // refused. If it tells its bytes too, the answer is the place meant.
+        // If the stream's position is known, it becomes the result, or stays if the seek is
+        // refused. If its bytes are known too, the result is the place meant.
         ensures moves { SeekMoves (S.position (port_stream self.old))
             (S.position (port_stream self.new)) (S.bytes (port_stream self.old)) to result }
-        // All bytes of the stream stay the same, if it tells them.
+        // All bytes of the stream stay the same, if they are known.
         ensures bytes { Keeps (S.bytes (port_stream self.old)) (S.bytes (port_stream self.new)) }
     {
         let before = Snapshot::of(&self.stream);
@@ -305,8 +308,8 @@ impl<S: SeekSource> Port<S> {
         }
     }
 
-    /// Asks for the position in bytes by one request: a seek by 0 bytes. The fetched bytes stay
-    /// counted as they are.
+    /// Asks for the position in bytes by one request: a seek by 0 bytes. The count of fetched bytes
+    /// is unchanged.
     ///
     /// # Errors
     ///
@@ -315,12 +318,12 @@ impl<S: SeekSource> Port<S> {
         // One request is made, and no byte is fetched or sent, whether it is refused or not.
         ensures places { Places (MayRefuseSeek S.stream S.refuses_seek (Current (pos 0)))
             (source_state S.stream self.old) result (source_state S.stream self.new) }
-        // A position that the stream tells stays the same.
+        // A known position of the stream stays the same.
         ensures stays { StaysAt (S.position (port_stream self.old)) (S.position (port_stream self.new)) }
-        // If it succeeds, the answer is the position that the stream tells, if it tells one.
+        // If it succeeds, the result is the position of the stream, if it is known.
         ensures answer { OnOk result (IfSome (S.position (port_stream self.old))
             (λ position. result ≡ Ok position)) }
-        // All bytes of the stream stay the same, if it tells them.
+        // All bytes of the stream stay the same, if they are known.
         ensures bytes { Keeps (S.bytes (port_stream self.old)) (S.bytes (port_stream self.new)) }
     {
         let before = Snapshot::of(&self.stream);

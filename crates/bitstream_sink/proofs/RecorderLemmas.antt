@@ -4,7 +4,7 @@ use Rattle.std.specs.Io.KnownBytes.{Appends}
 use Rattle.std.proofs.Common.{◌≡◌, ℕ, ◌+◌, ◌*◌, ◌%◌, ◌^◌, ◌<◌, ◌≤◌, Bool, List, [], ◌∷◌, ◌++◌, length, Option, Some, Result, Ok, Err, refl, sym, ap, ◌∙◌, subst, arith, length-append, append_assoc}
 use Rattle.bitstream_number.specs.Word.{Order, word, bits}
 use Rattle.bitstream_number.proofs.WordLemmas.{length-word, length-bits, bits-append}
-use Rattle.bitstream_count.specs.Entry.{WriteEntry}
+use Rattle.bitstream_count.specs.Codec.{Encoder}
 use Rattle.bitstream_count.specs.declared.error.Error.{Error}
 use Rattle.bitstream_count.specs.declared.error.Error.TheVariants.{OutOfMemory}
 use Rattle.bitstream_order.specs.Fault.{refusal_of}
@@ -27,11 +27,11 @@ added : (xs ys bytes : List ℕ) (old new : ℕ) → Appends (Some xs) (Some ys)
 added xs ys bytes old new grows is more = omega (arith, is, more, ap length grows, length-append xs bytes)
 
 -- all that was sent before a refusal
-sent_before : (old new queued kept front bytes rest : ℕ) → (8 * new + kept) % 8 ≡ 0 → kept < 8
-    → 8 * old + queued + front < 8 * new + kept + 8 → 8 * new + kept ≤ 8 * old + queued + front → queued + front
+sent_before : (old new queued kept prefix bytes rest : ℕ) → (8 * new + kept) % 8 ≡ 0 → kept < 8
+    → 8 * old + queued + prefix < 8 * new + kept + 8 → 8 * new + kept ≤ 8 * old + queued + prefix → queued + prefix
     ≡ 8 * bytes + rest → rest < 8
     → new ≡ old + bytes
-sent_before old new queued kept front bytes rest whole few least most sum small = omega arith
+sent_before old new queued kept prefix bytes rest whole few least most sum small = omega arith
 
 module _ {A E : Type 0} (o : Order) where
   holds_more : (a b : BitWriter (Growing A) E) (x : List Bool) → HoldsAll a → (growing_sink o).appends a x b
@@ -49,21 +49,21 @@ module _ {A E : Type 0} (o : Order) where
       subst (λ (known : Option (List ℕ)). Appends (Some (written_bytes a)) known fill.bytes) (sym same) fill.grows
       in
       let q = word o (queued_bits a) (queue_number a) in
-      let sum : queued_bits a + length k.front ≡ 8 * length fill.bytes + length fill.rest =
+      let sum : queued_bits a + length k.prefix ≡ 8 * length fill.bytes + length fill.rest =
       omega (
         arith,
         ap length fill.word,
-        length-append q k.front,
+        length-append q k.prefix,
         length-append (bits o fill.bytes) fill.rest,
         length-word o (queued_bits a) (queue_number a),
         length-bits o fill.bytes,
       ) in
       added (written_bytes a) (written_bytes b) fill.bytes _ _ grows h
       (sent_before (growing_state a).port.sent (growing_state b).port.sent (queued_bits a) (queued_bits b)
-      (length k.front) (length fill.bytes) (length fill.rest) k.whole b.few k.least k.most sum fill.few)
+      (length k.prefix) (length fill.bytes) (length fill.rest) k.whole b.few k.least k.most sum fill.few)
 
   -- a write call keeps in the vector all bytes that were sent
-  pub holds_all : {T : Type 0} (e : WriteEntry) (a b : BitWriter (Growing A) E) (r : Result T Error) → HoldsAll a
+  pub holds_all : {T : Type 0} (e : Encoder) (a b : BitWriter (Growing A) E) (r : Result T Error) → HoldsAll a
       → Writes (growing_sink o) e a r b → HoldsAll b
   holds_all e a b r h (had_failed p re k) = holds_more a b [] h k.grown
   holds_all e a b r h (was_rejected d p en re k) = holds_more a b [] h k.grown
@@ -73,7 +73,7 @@ module _ {A E : Type 0} (o : Order) where
 
 module _ {N E A : Type 0} (o : Order) where
   -- a call of the writer is the recorder's
-  pub forwarded : {T : Type 0} (e : WriteEntry) (a b : BitRecorder N E A) (r : Result T Error)
+  pub forwarded : {T : Type 0} (e : Encoder) (a b : BitRecorder N E A) (r : Result T Error)
       → Writes (growing_sink o) e a.writer r b.writer → Writes (recorder_sink o) e a r b
   forwarded e a b r h = inner (λ (recorder : BitRecorder N E A). recorder.writer) (growing_sink o) e a r b h
 
@@ -110,7 +110,7 @@ module _ {N E A : Type 0} (o : Order) where
 module _ {S : Type 0} (K : Sink S) (bytes given : List ℕ) (is : given ≡ bytes) (s t : S)
     (r : Result (Unit {0}) Error) where
   -- its first call was refused
-  pub play_stops : (es : List WriteEntry) (d : Error) → r ≡ Err d
+  pub play_stops : (es : List Encoder) (d : Error) → r ≡ Err d
       → Writes {T = Unit {0}} K (buffer K.order given) s (Err d) t → WritesAll K (buffer K.order bytes ∷ es) s r t
   play_stops es d answer h = all_err K _ es s r d t answer
       (subst (λ (bs : List ℕ). Writes {T = Unit {0}} K (buffer K.order bs) s (Err d) t) is h)

@@ -1,5 +1,4 @@
--- Types of numbers that count bits.
--- What a conversion says follows from its clause: so a lemma is imported.
+-- Types of numbers that count bits. The result of a conversion follows from its clause: so a lemma is imported.
 use Rattle.std.specs.Prelude.{◌≡◌, ℕ, ◌+◌, ◌<◌, ◌≤◌, Result, Ok, Err, OkIff, MatchResult}
 use Rattle.std.proofs.Common.{arith}
 

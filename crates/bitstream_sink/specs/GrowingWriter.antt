@@ -13,11 +13,11 @@ use Rattle.bitstream_stream.specs.declared.write.writer.BitWriter.{BitWriter}
 abbrev pub written_bytes : {A E : Type 0} → BitWriter (Growing A) E → List ℕ
 written_bytes writer = growing_bytes (writer_stream writer)
 
--- what such a writer tells of its state
+-- the known state of this writer
 abbrev pub growing_state : {A E : Type 0} → BitWriter (Growing A) E → WriterState
 growing_state = writer_state growing_stream
 
--- such a writer as a sink
+-- this writer as a sink
 abbrev pub growing_sink : {A E : Type 0} → Order → Sink (BitWriter (Growing A) E)
 growing_sink = writer_sink growing_stream
 

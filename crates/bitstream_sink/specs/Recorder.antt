@@ -1,7 +1,7 @@
--- What a recorder has recorded.
+-- The bits that a recorder has recorded.
 use Rattle.std.specs.Prelude.{◌≡◌, ℕ, Bool, List, [], ◌∷◌, ◌++◌, Some}
 use Rattle.bitstream_number.specs.Word.{Order, word, bits}
-use Rattle.bitstream_count.specs.Entry.{WriteEntry}
+use Rattle.bitstream_count.specs.Codec.{Encoder}
 use Rattle.bitstream_stream.specs.Writing.Sink.{Sink, inner_sink}
 use Rattle.bitstream_stream.specs.Writing.WriteTable.{buffer, unsigned}
 use Rattle.bitstream_stream.specs.Writing.Writer.{queued_bits, queue_number, has_failed, new_writer_state}
@@ -12,7 +12,7 @@ use Rattle.bitstream_sink.specs.declared.recorder.BitRecorder.{BitRecorder}
 abbrev pub recorded_bytes : {N E A : Type 0} → BitRecorder N E A → List ℕ
 recorded_bytes recorder = written_bytes recorder.writer
 
--- how many bits were recorded behind them
+-- the number of bits recorded after the whole bytes
 abbrev pub recorded_queued : {N E A : Type 0} → BitRecorder N E A → ℕ
 recorded_queued recorder = queued_bits recorder.writer
 
@@ -33,12 +33,12 @@ recorder_sink o = inner_sink (λ recorder. recorder.writer) (growing_sink o)
 abbrev pub IsEmptyRecorder : {N E A : Type 0} → BitRecorder N E A → Type 0
 IsEmptyRecorder recorder = growing_state recorder.writer ≡ new_writer_state (Some []) []
 
--- whether memory was refused to a recorder, which was not cleared since
+-- true if memory was refused to a recorder, which was not cleared since
 abbrev pub recorder_failed : {N E A : Type 0} → BitRecorder N E A → Bool
 recorder_failed recorder = has_failed recorder.writer
 
--- the calls that play a recorder to a sink of this order: one of its whole bytes, and one of the bits behind them as a
--- word
-abbrev pub playback_entries : {N E A : Type 0} → Order → BitRecorder N E A → List WriteEntry
-playback_entries o recorder = buffer o (recorded_bytes recorder) ∷ unsigned o 8 (recorded_queued recorder)
+-- the calls that play a recorder to a sink of this order: one of its whole bytes, and one of the bits after
+-- them as a word
+abbrev pub playback_encoders : {N E A : Type 0} → Order → BitRecorder N E A → List Encoder
+playback_encoders o recorder = buffer o (recorded_bytes recorder) ∷ unsigned o 8 (recorded_queued recorder)
     (recorded_queue recorder) ∷ []

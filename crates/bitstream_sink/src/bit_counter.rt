@@ -16,9 +16,9 @@ use std::marker::PhantomData;
 /// before it is written. It takes no memory. [`BitsWritten`](crate::written::BitsWritten) is one whose
 /// order need not be named.
 ///
-/// A call adds the length of its word, in one sum. If the sum is above the greatest number of N, the
-/// call answers `CounterOverflow` and adds nothing. Errors of a width or a value come first, as those
-/// of a writer. A word has the same length in both orders of bits.
+/// A call adds the length of its word, in one sum. If the sum is above the greatest number of N,
+/// the call returns `CounterOverflow` and adds nothing. Errors of a width or a value come first, as
+/// in a writer. A word has the same length in both orders of bits.
 ///
 /// # Examples
 ///
@@ -64,7 +64,7 @@ impl<N: Counter, E: Endianness> BitCounter<N, E> {
         self.count
     }
 
-    /// Counts a word of the given number of bits.
+    /// Counts a word of `bits` bits.
     ///
     /// # Errors
     ///

@@ -45,7 +45,7 @@ pub trait Counter: Default
         ensures holds { IsOk result ↔ (value self.old + value other ≤ greatest) }
         // If it succeeds, the number is the sum of both.
         ensures sum { OnOk result (value self.new ≡ value self.old + value other) }
-        // If not, the number stays as it was.
+        // If not, the number is unchanged.
         ensures unchanged { OnErr result (self.new ≡ self.old) };
 
     /// Returns the product with another number.

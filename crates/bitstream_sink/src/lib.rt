@@ -1,10 +1,10 @@
 //! Sinks of bits over no stream: they take each write call as a writer does, and count the bits or
-//! record them. What callers need of it stands in `bitstream_io`.
+//! record them. Callers find what they need in `bitstream_io`.
 //!
 //! - [`bit_counter`]: a counter of written bits
 //! - [`counter`]: the types of numbers that count bits
-//! - [`recorder`]: a sink that records what is written to it, and plays it to another sink; the better
-//!   of two
+//! - [`recorder`]: a sink that records the bits written to it, and plays them to another sink; the
+//!   better of two
 //! - [`written`]: a counter of written bits whose order need not be named
 //!
 //! Ported from `bitstream-io` 4.10.0 by Brian Langenberger; MIT OR Apache-2.0, see `LICENSE`.

@@ -1,4 +1,4 @@
-//! A sink that records what is written to it, so that it can be played to another sink.
+//! A sink that records the bits written to it, and plays them to another sink.
 ghost use Rattle.std.specs.Prelude.{◌≡◌, ◌≤◌, [], true, false, length, Err, IfOk, OnOk};
 ghost use Rattle.bitstream_sink.specs.GrowingWriter.{HoldsAll};
 
@@ -18,12 +18,12 @@ pub mod best;
 pub mod laws;
 
 /// Records the bits that are written to it, so that they can be played to another sink of bits, at
-/// any place in a byte. Whole bytes stand in a vector, and fewer than 8 bits beside it. Their number
-/// is told as an N, but N is no limit to what is recorded.
+/// any place in a byte. Whole bytes are in a vector. The bits after them, fewer than 8, are kept
+/// next to it. Their number is returned as an N, but N does not limit the recording.
 ///
-/// If the vector needs memory and gets none, the call answers `OutOfMemory` and the recorder has
-/// failed: it keeps its whole bytes, but each later call that writes or plays answers `Failed`, until
-/// it is cleared.
+/// If the vector needs memory and gets none, the call returns `OutOfMemory` and the recorder has
+/// failed: it keeps its whole bytes, but each later call that writes or plays returns `Failed`,
+/// until it is cleared.
 ///
 /// # Examples
 ///
@@ -50,7 +50,7 @@ impl<N, E: Endianness, A: Allocator> BitRecorder<N, E, A> {
     ghost use Rattle.bitstream_stream.specs.Writing.Sink.{WritesAll, Appended, Kept};
     ghost use Rattle.bitstream_order.specs.Streaming.Growing.{growing_bytes};
     ghost use Rattle.bitstream_sink.specs.Counter.{Counts};
-    ghost use Rattle.bitstream_sink.specs.Recorder.{IsEmptyRecorder, recorded_bits, recorder_failed, playback_entries};
+    ghost use Rattle.bitstream_sink.specs.Recorder.{IsEmptyRecorder, recorded_bits, recorder_failed, playback_encoders};
 
     /// Returns a recorder of no bits, which takes its memory from the allocator.
     pub fn new(alloc: A) -> BitRecorder<N, E, A>
@@ -59,7 +59,7 @@ impl<N, E: Endianness, A: Allocator> BitRecorder<N, E, A> {
         BitRecorder::over(Growing::new(Vec::new(alloc)))
     }
 
-    /// Returns a recorder of no bits that has memory for the given number of bytes already.
+    /// Returns a recorder of no bits that already has memory for `bytes` bytes.
     ///
     /// # Errors
     ///
@@ -91,7 +91,7 @@ impl<N, E: Endianness, A: Allocator> BitRecorder<N, E, A> {
         }
     }
 
-    /// Returns how many bits were recorded.
+    /// Returns the number of bits recorded.
     fn bits(&self) -> u128
         ensures { result ≡ ⟦<Self as BitWrite>⟧.sink.len self.now }
     {
@@ -99,13 +99,12 @@ impl<N, E: Endianness, A: Allocator> BitRecorder<N, E, A> {
         bytes as u128 * 8 + u128::from(self.writer.queued())
     }
 
-    /// Returns how many bits were recorded, which N has to hold. Of a recorder that has failed, they
-    /// are those of its whole bytes.
+    /// Returns the number of bits recorded, which N has to hold. A recorder that has failed counts
+    /// only its whole bytes.
     pub fn written(&self) -> N
     where
         N: Counter,
         requires { length (recorded_bits E.order self.now) ≤ N.greatest }
-        // The answer is the number of bits that were recorded.
         ensures bits { N.value result ≡ length (recorded_bits E.order self.now) }
         // It is the length of the recorder as a sink.
         ensures len { N.value result ≡ ⟦<Self as BitWrite>⟧.sink.len self.now }
@@ -116,8 +115,7 @@ impl<N, E: Endianness, A: Allocator> BitRecorder<N, E, A> {
         }
     }
 
-    /// Returns how many bits were recorded. Of a recorder that has failed, they are those of its whole
-    /// bytes.
+    /// Returns the number of bits recorded. A recorder that has failed counts only its whole bytes.
     ///
     /// # Errors
     ///
@@ -125,34 +123,34 @@ impl<N, E: Endianness, A: Allocator> BitRecorder<N, E, A> {
     pub fn written_checked(&self) -> Result<N, Overflowed>
     where
         N: Counter,
-        // Answers the number of bits that were recorded, or an error exactly if N does not hold it.
+        // Returns the number of bits that were recorded, or an error exactly if N does not hold it.
         ensures bits { Counts N.value N.greatest (length (recorded_bits E.order self.now)) result }
-        // The same is said of the recorder's length as a sink.
+        // The same holds for the recorder's length as a sink.
         ensures len { Counts N.value N.greatest (⟦<Self as BitWrite>⟧.sink.len self.now) result }
     {
         value_of::<N>(self.bits())
     }
 
-    /// Writes to another sink what was recorded: the whole bytes, and the bits behind them as one
-    /// word. A sink of the same order gets just the recorded bits, wherever in a byte it stands. One of
-    /// the other order gets the bits of each byte in its own order, and the number of the last bits as
-    /// a word of its own.
+    /// Writes the recorded bits to another sink: the whole bytes, and the bits after them as one
+    /// word. A sink of the same order gets exactly the recorded bits, at any place in a byte. A
+    /// sink of the other order gets the bits of each byte in its own order, and the number of the
+    /// last bits as a word of its own.
     ///
     /// # Errors
     ///
     /// `Failed` if the recorder has failed: nothing is written then. Else as
     /// [`write_bytes`](BitWrite::write_bytes) and
-    /// [`write_unsigned_var`](BitWrite::write_unsigned_var) of the sink: if the second one
-    /// answers an error, the whole bytes stand there.
+    /// [`write_unsigned_var`](BitWrite::write_unsigned_var) of the sink: if the second one returns
+    /// an error, the whole bytes are written.
     pub fn playback<W: BitWrite>(&self, target: &mut W) -> Result<(), Error>
-        // Unless the recorder has failed, the whole bytes are written, and then the bits behind
-        // them as one word, up to the first error.
+        // Unless the recorder has failed, the whole bytes are written, and then the bits after them
+        // as one word, up to the first error.
         ensures writes { recorder_failed self.now ≡ false →
-            WritesAll W.sink (playback_entries W.sink.order self.now) target.old result target.new }
-        // If it succeeds and both have one order, just the recorded bits are appended.
+            WritesAll W.sink (playback_encoders W.sink.order self.now) target.old result target.new }
+        // If it succeeds and both have one order, only the recorded bits are appended.
         ensures same_order { W.sink.order ≡ E.order → OnOk result
             (Appended W.sink target.old (recorded_bits E.order self.now) target.new) }
-        // If the recorder has failed, `Failed` is answered and nothing is appended.
+        // If the recorder has failed, `Failed` is returned and nothing is appended.
         ensures failed { recorder_failed self.now ≡ true →
             (result ≡ Err Failed) × Kept W.sink target.old target.new }
     {
@@ -163,7 +161,7 @@ impl<N, E: Endianness, A: Allocator> BitRecorder<N, E, A> {
         target.write_unsigned_var(self.writer.queued(), self.writer.queue())
     }
 
-    /// Forgets what was recorded, and a failure. The recorder keeps its memory.
+    /// Forgets the recorded bits, and a failure. The recorder keeps its memory.
     pub fn clear(&mut self)
         ensures { IsEmptyRecorder self.new }
     {

@@ -6,8 +6,8 @@ use bitstream_order::order::BigEndian;
 /// Counts the bits that are written to it, as [`BitCounter`] does: a word has the same length in both
 /// orders of bits, so none is named. The counter's own is big-endian.
 ///
-/// If the sum is above the greatest number of N, a call answers `CounterOverflow` and adds nothing. Errors
-/// of a width or a value come first, as those of a writer.
+/// If the sum is above the greatest number of N, a call returns `CounterOverflow` and adds nothing.
+/// Errors of a width or a value come first, as in a writer.
 ///
 /// # Examples
 ///

@@ -1,7 +1,7 @@
 pub mod BytesLemmas
 pub mod ConstLemmas
 pub mod EnoughLemmas
-pub mod EntryLemmas
+pub mod CodecLemmas
 pub mod GroupLemmas
 pub mod LawLemmas
 pub mod MemoryBytes

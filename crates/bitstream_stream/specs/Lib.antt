@@ -1,7 +1,7 @@
 pub mod Alignment
 pub mod Groups
 pub mod Reading
-pub mod Run
+pub mod Sequence
 pub mod Ways
 pub mod WholeBytes
 pub mod Writing

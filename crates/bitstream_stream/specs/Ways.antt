@@ -1,5 +1,5 @@
--- The streams of readers and writers, and what readers and writers become whose stream was lent.
--- A reader or writer whose queue was dropped keeps the facts of its type: so lemmas are imported.
+-- The streams of readers and writers, and readers and writers after their stream was lent. A reader or writer
+-- whose queue was dropped keeps the facts of its type: so lemmas are imported.
 use Rattle.std.specs.Prelude.{◌≡◌, ◌+◌, true, false, [], Result, Ok, Err}
 use Rattle.std.specs.Borrow.{GName}
 use Rattle.std.proofs.Common.{refl}
@@ -8,7 +8,7 @@ use Rattle.bitstream_count.specs.declared.error.Error.TheVariants.{Failed}
 use Rattle.bitstream_order.specs.Port.{Sent, SendRefused, port_stream, with_stream}
 use Rattle.bitstream_order.specs.Refusal.{Refusal}
 use Rattle.bitstream_order.specs.declared.streams.lent.Lent.{Lent}
-use Rattle.bitstream_order.specs.Moving.Gather.{seen}
+use Rattle.bitstream_order.specs.Moving.Gather.{result_map}
 use Rattle.bitstream_order.proofs.DropLemmas.{none_few, dropped_whole, dropped_back}
 use Rattle.bitstream_stream.specs.Writing.Carries.{WriterState}
 use Rattle.bitstream_stream.specs.Writing.Sink.{Sink, Writes}
@@ -34,19 +34,19 @@ byte_reader_stream reader = port_stream reader.port
 abbrev pub byte_writer_stream : {W E : Type 0} → ByteWriter W E → W
 byte_writer_stream writer = port_stream writer.port
 
--- a reader as it was, but for its stream
+-- an unchanged reader, except for its stream
 abbrev pub reader_with : {R E : Type 0} → BitReader R E → R → BitReader R E
 reader_with reader stream = record reader { port = with_stream reader.port stream }
 
--- a writer as it was, but for its stream
+-- an unchanged writer, except for its stream
 abbrev pub writer_with : {W E : Type 0} → BitWriter W E → W → BitWriter W E
 writer_with writer stream = record writer { port = with_stream writer.port stream }
 
--- a reader of bytes as it was, but for its stream
+-- an unchanged reader of bytes, except for its stream
 abbrev pub byte_reader_with : {R E : Type 0} → ByteReader R E → R → ByteReader R E
 byte_reader_with reader stream = record reader { port = with_stream reader.port stream }
 
--- a writer of bytes as it was, but for its stream
+-- an unchanged writer of bytes, except for its stream
 abbrev pub byte_writer_with : {W E : Type 0} → ByteWriter W E → W → ByteWriter W E
 byte_writer_with writer stream = record writer { port = with_stream writer.port stream }
 
@@ -90,12 +90,12 @@ pub record IsWriterWith {W E : Type 0} (old : BitWriter W E) (stream : W) (new :
   pub queued : new.queued ≡ old.queued
   pub failed : new.failed ≡ old.failed
 
--- what the stream of an aligned writer is
+-- the stream of an aligned writer
 abbrev pub IsAlignedStream : {W E : Type 0} → Sink (BitWriter W E) → BitWriter W E → W → Type 0
 IsAlignedStream {W} {E} K old stream = (aligned : BitWriter W E) × Writes {T = Unit {0}} K align old (Ok tt) aligned
     × (stream ≡ writer_stream aligned)
 
--- what an aligned writer ends as if its stream was lent
+-- an aligned writer after its stream was lent
 abbrev pub EndsAligned : {W E : Type 0} → Sink (BitWriter W E) → BitWriter W E → BitWriter W E → W → Type 0
 EndsAligned {W} {E} K old new stream = (aligned : BitWriter W E) × Writes {T = Unit {0}} K align old (Ok tt) aligned
     × IsWriterWith aligned stream new
@@ -103,10 +103,10 @@ EndsAligned {W} {E} K old new stream = (aligned : BitWriter W E) × Writes {T = 
 -- a writer that could not be aligned
 abbrev pub EndsUnaligned : {W E A : Type 0} → Sink (BitWriter W E) → BitWriter W E → Result A Error → BitWriter W E
     → Type 0
-EndsUnaligned K old result new = Writes {T = Unit {0}} K align old (seen (λ _. tt) result) new
+EndsUnaligned K old result new = Writes {T = Unit {0}} K align old (result_map (λ _. tt) result) new
 
--- What a flush does. The writer had failed; or the stream passed on what it buffers itself, and all else is as
--- it was; or the stream refused that, as it may refuse, and the writer has failed with an empty queue.
+-- A flush. The writer had failed; or the stream passed on its buffered bytes, and all else is unchanged; or the
+-- stream refused the request, as it may, and the writer has failed with an empty queue.
 pub data Flushes (may : Refusal → Type 0) (old : WriterState) (result : Result (Unit {0}) Error) (new : WriterState) :
     Type 0 where
   had_failed : old.failed ≡ true → result ≡ Err Failed → new ≡ old → Flushes may old result new

@@ -33,7 +33,6 @@ impl<'a, E: Endianness> BitReader<Slice<'a>, E> {
     pub fn over(bytes: &'a [u8]) -> SliceReader<'a, E>
         // Nothing is taken or queued yet, and the bytes left are these.
         ensures state { (memory_source E.order).state result ≡ new_reader_state (Some bytes.now) [] }
-        // These are all its bytes.
         ensures bytes { memory_bytes result ≡ bytes.now }
     {
         SliceReader::over(bytes)

@@ -4,7 +4,7 @@
 
 ghost use Rattle.std.specs.Prelude.{◌≡◌, ℕ, ◌+◌, ◌*◌, ◌^◌, ◌<◌, ◌≤◌, ◌++◌, Bool, false, List, [], length, drop, Some, None, Result, Ok};
 ghost use Rattle.bitstream_number.specs.Word.{Order, High, Low, bits as bits_of, bytes as bytes_in, count_width};
-ghost use Rattle.bitstream_count.specs.Entry.{ReadEntry, WriteEntry, chain, gives};
+ghost use Rattle.bitstream_count.specs.Codec.{Decoder, Encoder, and_then, pure};
 ghost use Rattle.bitstream_count.specs.declared.error.Error.{Error};
 ghost use Rattle.bitstream_count.specs.declared.error.Error.TheVariants.{OutOfMemory, Stream};
 ghost use Rattle.std.specs.declared.io.ErrorKind.TheVariants.{WriteZero};
@@ -15,12 +15,12 @@ ghost use Rattle.bitstream_stream.specs.Reading.Enough.{IsDoneBy};
 ghost use Rattle.bitstream_stream.specs.Reading.MemorySeek.{memory_bytes};
 ghost use Rattle.bitstream_stream.specs.Reading.MemorySource.{memory_source};
 ghost use Rattle.bitstream_stream.specs.Reading.Reads.{Reads, bits_left, sure_answer};
-ghost use Rattle.bitstream_stream.specs.Reading.ReadTable.{bit_entry, unsigned_entry, signed_entry, const_entry, count_entry, bytes_entry, skip_entry, align_entry};
+ghost use Rattle.bitstream_stream.specs.Reading.ReadTable.{bit_decoder, unsigned_decoder, signed_decoder, const_decoder, count_decoder, bytes_decoder, skip_decoder, align_decoder};
 ghost use Rattle.bitstream_stream.specs.Reading.Seek.{reader_seeker, MaySeek, TellsRest};
 ghost use Rattle.bitstream_stream.specs.Writing.Sink.{WriteRefused, WritesAll};
 ghost use Rattle.bitstream_stream.specs.WholeBytes.ByteSink.{ByteWrites};
 ghost use Rattle.bitstream_stream.specs.Writing.Room.{HasRoom, AllAccepted};
-ghost use Rattle.bitstream_stream.specs.Run.{write_run};
+ghost use Rattle.bitstream_stream.specs.Sequence.{write_sequence};
 ghost use Rattle.bitstream_stream.specs.Ways.{aligned_reader};
 ghost use Rattle.bitstream_stream.specs.Writing.WriteTable.{unsigned, buffer};
 ghost use Rattle.bitstream_stream.specs.Writing.Writer.{writer_state};
@@ -44,14 +44,14 @@ use std::alloc::Allocator;
 pub fn words_join()
     // Big-endian: two reads, the first as the high part, find what one read of both finds.
     ensures high { (size a b p : ℕ) (bits : List Bool) → a + b ≤ size →
-        (chain (unsigned_entry High size a) (λ first.
-        chain (unsigned_entry High size b) (λ second. gives (first * 2 ^ b + second)))).reads p bits
-        ≡ (unsigned_entry High size (a + b)).reads p bits }
+        (and_then (unsigned_decoder High size a) (λ first.
+        and_then (unsigned_decoder High size b) (λ second. pure (first * 2 ^ b + second)))).reads p bits
+        ≡ (unsigned_decoder High size (a + b)).reads p bits }
     // Little-endian: two reads, the first as the low part, find what one read of both finds.
     ensures low { (size a b p : ℕ) (bits : List Bool) → a + b ≤ size →
-        (chain (unsigned_entry Low size a) (λ first.
-        chain (unsigned_entry Low size b) (λ second. gives (first + second * 2 ^ a)))).reads p bits
-        ≡ (unsigned_entry Low size (a + b)).reads p bits }
+        (and_then (unsigned_decoder Low size a) (λ first.
+        and_then (unsigned_decoder Low size b) (λ second. pure (first + second * 2 ^ a)))).reads p bits
+        ≡ (unsigned_decoder Low size (a + b)).reads p bits }
 {}
 
 /// Reading or writing the bytes of a number, in the order of the bits, is reading or writing the
@@ -59,62 +59,64 @@ pub fn words_join()
 pub fn bytes_are_numbers()
     // A read of n bytes finds the bytes of the number that a read of 8 * n bits finds.
     ensures reads { (o : Order) (n p : ℕ) (bits : List Bool) →
-        (chain (unsigned_entry o (8 * n) (8 * n)) (λ v. gives (bytes_in o n v))).reads p bits
-        ≡ (bytes_entry o n).reads p bits }
+        (and_then (unsigned_decoder o (8 * n) (8 * n)) (λ v. pure (bytes_in o n v))).reads p bits
+        ≡ (bytes_decoder o n).reads p bits }
     // A write of the n bytes of a number is a write of that number at 8 * n bits.
     ensures writes { (o : Order) (n v len : ℕ) → v < 2 ^ (8 * n) →
         buffer o (bytes_in o n v) len ≡ unsigned o (8 * n) (8 * n) v len }
 {}
 
-/// Dropping a reader's queue is an alignment. A reader that has failed stays as it is.
+/// Dropping a reader's queue is an alignment. A reader that has failed is unchanged.
 pub fn dropped_queues_are_alignments<R: Source, E: Endianness>()
-    ensures { (reader : BitReader R E) → Reads ⟦<BitReader<R, E> as BitRead>⟧.source align_entry
+    ensures { (reader : BitReader R E) → Reads ⟦<BitReader<R, E> as BitRead>⟧.source align_decoder
         reader (Ok tt) (aligned_reader reader) }
 {}
 
-/// Over a stream that refuses only at a true end, a call of any reader answers what its front of
-/// the bits left says, or `EndOfInput` if they are too few.
+/// If the stream refuses only at its true end, a call of any reader returns the result of its
+/// prefix of the bits left, or `EndOfInput` if they are too few.
 pub fn ends_are_known<R: BitRead, A>()
-    ensures { (entry : ReadEntry A) (old new : R) (answer : Result A Error) (bytes : List ℕ)
+    ensures { (decoder : Decoder A) (old new : R) (answer : Result A Error) (bytes : List ℕ)
         → TrueEnds R.source.may
         → (R.source.state old).failed ≡ false → (R.source.state old).bytes ≡ Some bytes
-        → Reads R.source entry old answer new
-        → answer ≡ sure_answer (entry.reads (R.source.state old).taken
+        → Reads R.source decoder old answer new
+        → answer ≡ sure_answer (decoder.reads (R.source.state old).taken
         ((R.source.state old).queue ++ bits_of R.source.order bytes)) }
 {}
 
-/// A call that takes n bits, whatever they are, is done if so many are left, over a stream that refuses
-/// only at a true end. So whoever tests once how many bits are left knows that no read of them is refused.
+/// If the stream refuses only at its true end, a call that takes n bits, whatever they are, is done
+/// if n bits are left. So after one test of the number of bits left, it is known that no read of
+/// them is refused.
 pub fn enough_bits_are_known<R: BitRead, A>()
-    ensures { (entry : ReadEntry A) (n : ℕ) (left : List Bool) (old new : R) (answer : Result A Error)
+    ensures { (decoder : Decoder A) (n : ℕ) (left : List Bool) (old new : R) (answer : Result A Error)
         → TrueEnds R.source.may → (R.source.state old).failed ≡ false
         → bits_left R.source.order (R.source.state old) ≡ Some left → n ≤ length left
-        → IsDoneBy n entry → Reads R.source entry old answer new
+        → IsDoneBy n decoder → Reads R.source decoder old answer new
         → (value : A) × (answer ≡ Ok value) × ((R.source.state new).failed ≡ false)
         × (bits_left R.source.order (R.source.state new) ≡ Some (drop n left)) }
 {}
 
-/// Calls of words of a known length are done by so many bits, and two calls by the bits of both.
+/// Calls of words of a known length are done by that number of bits, and two calls by the sum of
+/// both lengths.
 pub fn known_lengths_are_enough<A, B>()
     // One bit.
-    ensures bit { IsDoneBy 1 bit_entry }
+    ensures bit { IsDoneBy 1 bit_decoder }
     // A number of n bits that fits its type.
-    ensures unsigned { (o : Order) (size n : ℕ) → n ≤ size → IsDoneBy n (unsigned_entry o size n) }
+    ensures unsigned { (o : Order) (size n : ℕ) → n ≤ size → IsDoneBy n (unsigned_decoder o size n) }
     // A signed one, which has a bit for its sign.
-    ensures signed { (o : Order) (size n : ℕ) → 0 < n → n ≤ size → IsDoneBy n (signed_entry o size n) }
+    ensures signed { (o : Order) (size n : ℕ) → 0 < n → n ≤ size → IsDoneBy n (signed_decoder o size n) }
     // A comparison of n bits with a number.
-    ensures constant { (o : Order) (n v : ℕ) → IsDoneBy n (const_entry o n v) }
+    ensures constant { (o : Order) (n v : ℕ) → IsDoneBy n (const_decoder o n v) }
     // A count up to a maximum.
-    ensures count { (o : Order) (max : ℕ) → IsDoneBy (count_width max) (count_entry o max) }
+    ensures count { (o : Order) (max : ℕ) → IsDoneBy (count_width max) (count_decoder o max) }
     // Bytes.
-    ensures bytes { (o : Order) (n : ℕ) → IsDoneBy (8 * n) (bytes_entry o n) }
+    ensures bytes { (o : Order) (n : ℕ) → IsDoneBy (8 * n) (bytes_decoder o n) }
     // Bits that are skipped.
-    ensures skip { (n : ℕ) → IsDoneBy n (skip_entry n) }
+    ensures skip { (n : ℕ) → IsDoneBy n (skip_decoder n) }
     // A value that is read from no bits.
-    ensures none { (value : A) → IsDoneBy 0 (gives value) }
+    ensures none { (value : A) → IsDoneBy 0 (pure value) }
     // One call, and then another.
-    ensures both { (m n : ℕ) (first : ReadEntry A) (second : A → ReadEntry B) → IsDoneBy m first
-        → ((value : A) → IsDoneBy n (second value)) → IsDoneBy (m + n) (chain first second) }
+    ensures both { (m n : ℕ) (first : Decoder A) (second : A → Decoder B) → IsDoneBy m first
+        → ((value : A) → IsDoneBy n (second value)) → IsDoneBy (m + n) (and_then first second) }
 {}
 
 /// A [`Slice`] refuses only at a true end.
@@ -125,13 +127,13 @@ pub fn slices_end<E: Endianness>()
 /// Calls of a writer whose target refuses only for want of room are all done if they are accepted and
 /// there is room for their words.
 pub fn rooms_are_known<W: Target, E: Endianness>()
-    ensures { (entries : List WriteEntry) (old new : BitWriter W E) (answer : Result (Unit {0}) Error)
+    ensures { (encoders : List Encoder) (old new : BitWriter W E) (answer : Result (Unit {0}) Error)
         → AllLackRoom ⟦<BitWriter<W, E> as BitWrite>⟧.sink.may
         → ⟦<BitWriter<W, E> as BitWrite>⟧.sink.failed old ≡ false
-        → AllAccepted entries (⟦<BitWriter<W, E> as BitWrite>⟧.sink.len old)
+        → AllAccepted encoders (⟦<BitWriter<W, E> as BitWrite>⟧.sink.len old)
         → HasRoom (writer_state W.stream old)
-        (length (write_run entries (⟦<BitWriter<W, E> as BitWrite>⟧.sink.len old)))
-        → WritesAll ⟦<BitWriter<W, E> as BitWrite>⟧.sink entries old answer new → answer ≡ Ok tt }
+        (length (write_sequence encoders (⟦<BitWriter<W, E> as BitWrite>⟧.sink.len old)))
+        → WritesAll ⟦<BitWriter<W, E> as BitWrite>⟧.sink encoders old answer new → answer ≡ Ok tt }
 {}
 
 /// A write of bytes, to a sink whose stream refuses only for want of room, is done if there is room.
@@ -161,7 +163,7 @@ pub fn vectors_lack_memory<E: Endianness, A: Allocator>()
         → error ≡ OutOfMemory }
 {}
 
-/// Wherever a [`Slice`] stands, its bytes left are those behind its place.
+/// The bytes left of a [`Slice`] are the bytes after its place.
 pub fn slices_tell_their_rest<E: Endianness>()
     ensures { TellsRest (reader_seeker ⟦<BitReader<Slice<'static>, E> as BitRead>⟧.source
         (λ slice. Some (slice_place slice)) (λ slice. Some (slice_bytes slice))
@@ -178,13 +180,13 @@ pub fn memory_ends<E: Endianness>()
     ensures { TrueEnds ⟦<SliceReader<'static, E> as BitRead>⟧.source.may }
 {}
 
-/// Wherever a reader of bytes in memory stands, its bytes left are those behind its place, and so are its
-/// bits left, if it has not failed.
+/// The bytes left of a reader of bytes in memory are the bytes after its place, and so are its bits
+/// left, if it has not failed.
 pub fn memory_tells_its_rest<E: Endianness>()
-    // The bytes left are those behind the fetched ones.
+    // The bytes left are the bytes after the fetched ones.
     ensures bytes { (reader : SliceReader E) → ((memory_source E.order).state reader).bytes
         ≡ Some (drop ((memory_source E.order).state reader).fetched (memory_bytes reader)) }
-    // Unless the reader has failed, the bits left are those behind the bits taken.
+    // Unless the reader has failed, the bits left are the bits after the bits taken.
     ensures bits { (reader : SliceReader E) → ((memory_source E.order).state reader).failed ≡ false
         → bits_left E.order ((memory_source E.order).state reader)
         ≡ Some (drop ((memory_source E.order).state reader).taken (bits_of E.order (memory_bytes reader))) }

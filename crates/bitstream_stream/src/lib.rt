@@ -1,8 +1,9 @@
-//! Readers and writers of bits and of bytes, over a stream or over bytes in memory. Values of other
-//! types go by `bitstream_value`. What callers need of it stands in `bitstream_io`.
+//! Readers and writers of bits and of bytes, over a stream or over bytes in memory.
+//! `bitstream_value` reads and writes values of other types. Callers find what they need in
+//! `bitstream_io`.
 //!
 //! - [`bytes`]: readers and writers of whole bytes
-//! - [`laws`]: laws of what is read and written, and of the ends and the room of streams
+//! - [`laws`]: laws of reads and writes, and of the ends and the room of streams
 //! - [`read`]: the calls of a reader of bits, and the readers: over a stream, and over bytes in memory
 //! - [`vbr`]: the length of a number of variable width
 //! - [`width`]: checks of numbers against a number of bits

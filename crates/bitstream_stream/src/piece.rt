@@ -3,14 +3,15 @@ ghost use Rattle.std.specs.Prelude.{◌≡◌, ◌-◌, ◌≤◌, ◌++◌, len
 
 use std::alloc::{AllocError, Allocator};
 
-/// How many bytes go at a time off a byte boundary, or are skipped or padded at a time.
+/// The number of bytes that are moved at a time off a byte boundary, or skipped or padded at a
+/// time.
 pub(crate) const PIECE: usize = 1024;
 
 /// The greatest number of bytes by which a vector grows at a time.
 pub(crate) const GROWTH: usize = 4096;
 
-/// Extends a buffer with zeros to the given length. The first growth asks for exactly the memory
-/// that it needs.
+/// Extends a buffer with zeros to `len` bytes. The first growth asks for exactly the memory that it
+/// needs.
 ///
 /// # Errors
 ///

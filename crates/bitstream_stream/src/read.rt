@@ -1,9 +1,9 @@
 //! The calls of a reader of bits.
 ghost use Rattle.std.specs.Prelude.{◌≡◌, ℕ, ◌+◌, ◌%◌, ◌^◌, ◌<◌, ◌≤◌, ◌⊎◌, ◌↔◌, ◌==◌, false, length, Ok, IsTrue};
 ghost use Rattle.bitstream_order.specs.Parts.{value_bytes};
-ghost use Rattle.bitstream_order.specs.Moving.Gather.{seen};
+ghost use Rattle.bitstream_order.specs.Moving.Gather.{result_map};
 ghost use Rattle.bitstream_stream.specs.Reading.Reads.{BitSource, Reads, ReadsConst, ReadsGrowing, failed_reader, lent_source};
-ghost use Rattle.bitstream_stream.specs.Reading.ReadTable.{bit_entry, unsigned_entry, signed_entry, const_entry, unary_entry, count_entry, align_entry, bytes_entry, skip_entry, is_full, groups_entry, vbr_entry, any_vbr_entry, signed_vbr_entry, any_signed_vbr_entry};
+ghost use Rattle.bitstream_stream.specs.Reading.ReadTable.{bit_decoder, unsigned_decoder, signed_decoder, const_decoder, unary_decoder, count_decoder, align_decoder, bytes_decoder, skip_decoder, is_full, groups_decoder, vbr_decoder, any_vbr_decoder, signed_vbr_decoder, any_signed_vbr_decoder};
 
 use crate::piece::{GROWTH, grow};
 use crate::vbr::is_redundant;
@@ -23,11 +23,11 @@ pub mod slice_reader;
 ///
 /// # Errors
 ///
-/// If the stream refuses a request, a call answers `EndOfInput`, `OutOfMemory` or `Stream` with the
+/// If the stream refuses a request, a call returns `EndOfInput`, `OutOfMemory` or `Stream` with the
 /// kind of the refusal, and the reader has failed. From then on each call that reads a value
-/// answers `Failed`, before any other check and also at a width of 0 bits. After any other error
-/// the reader goes on where it was, unless the call says otherwise. The calls below name only the
-/// errors of their own.
+/// returns `Failed`, before any other check and also at a width of 0 bits. After any other error
+/// the reader continues where it was, unless the call says otherwise. The calls below name only
+/// their own errors.
 ///
 /// # Examples
 ///
@@ -44,37 +44,37 @@ pub mod slice_reader;
 /// assert!(rt; matches!(reader.read_bit(), Err(Error::Failed)));
 /// ```
 pub trait BitRead {
-    // What the states of the reader mean.
+    // The meaning of the reader's states.
     ghost source: { BitSource Self };
 
-    /// Reads an unsigned number of the given number of bits.
+    /// Reads an unsigned number of `bits` bits.
     ///
     /// # Errors
     ///
     /// `ReadBits` if the type has fewer bits. Nothing is taken then.
     fn read_unsigned_counted<C: Count, U: UnsignedInteger>(&mut self, bits: C) -> Result<U, Error>
-        ensures reads { Reads source (unsigned_entry source.order U.BITS_SIZE (C.number bits))
-            self.old (seen U.value result) self.new };
+        ensures reads { Reads source (unsigned_decoder source.order U.BITS_SIZE (C.number bits))
+            self.old (result_map U.value result) self.new };
 
-    /// Reads a signed number, a two's complement of the given number of bits.
+    /// Reads a signed number, a two's complement of `bits` bits.
     ///
     /// # Errors
     ///
     /// `ReadBits` if the type has fewer bits. Nothing is taken then.
     fn read_signed_counted<C: SignedCount, S: SignedInteger>(&mut self, bits: C) -> Result<S, Error>
-        ensures reads { Reads source (signed_entry source.order S.BITS_SIZE (C.number bits))
-            self.old (seen S.integer result) self.new };
+        ensures reads { Reads source (signed_decoder source.order S.BITS_SIZE (C.number bits))
+            self.old (result_map S.integer result) self.new };
 
     /// Reads a value from its bytes, in the reader's byte order.
     fn read_to<V: Primitive>(&mut self) -> Result<V, Error>
-        ensures reads { Reads source (bytes_entry source.order V.BYTES) self.old
-            (seen (value_bytes source.order V.be_bytes V.le_bytes) result) self.new };
+        ensures reads { Reads source (bytes_decoder source.order V.BYTES) self.old
+            (result_map (value_bytes source.order V.be_bytes V.le_bytes) result) self.new };
 
     /// Reads a value from its bytes, in the byte order F. The bits of each byte are read in the
     /// reader's order.
     fn read_as_to<F: Endianness, V: Primitive>(&mut self) -> Result<V, Error>
-        ensures reads { Reads source (bytes_entry source.order V.BYTES) self.old
-            (seen (value_bytes F.order V.be_bytes V.le_bytes) result) self.new };
+        ensures reads { Reads source (bytes_decoder source.order V.BYTES) self.old
+            (result_map (value_bytes F.order V.be_bytes V.le_bytes) result) self.new };
 
     /// Returns whether the reader is at a byte boundary. A reader that has failed is not.
     fn byte_aligned(&self) -> bool
@@ -82,9 +82,9 @@ pub trait BitRead {
             × ((source.state self.now).taken % 8 ≡ 0)) };
 
     /// Skips the bits up to the next byte boundary. They are queued, so no request is made. A
-    /// reader that has failed stays as it is.
+    /// reader that has failed is unchanged.
     fn byte_align(&mut self)
-        ensures reads { Reads source align_entry self.old (Ok tt) self.new };
+        ensures reads { Reads source align_decoder self.old (Ok tt) self.new };
 
     /// Makes the reader fail, and drops its queue.
     fn fail(&mut self)
@@ -92,42 +92,42 @@ pub trait BitRead {
 
     /// Reads one bit, and returns whether it is 1.
     fn read_bit(&mut self) -> Result<bool, Error>
-        ensures reads { Reads source bit_entry self.old result self.new }
+        ensures reads { Reads source bit_decoder self.old result self.new }
     {
         let bit: u8 = self.read_unsigned_var(1)?;
         Ok(bit == 1)
     }
 
-    /// Reads an unsigned number of the given number of bits.
+    /// Reads an unsigned number of `bits` bits.
     ///
     /// # Errors
     ///
     /// As [`read_unsigned_counted`](BitRead::read_unsigned_counted).
     fn read_unsigned_var<U: UnsignedInteger>(&mut self, bits: u32) -> Result<U, Error>
-        ensures reads { Reads source (unsigned_entry source.order U.BITS_SIZE bits)
-            self.old (seen U.value result) self.new }
+        ensures reads { Reads source (unsigned_decoder source.order U.BITS_SIZE bits)
+            self.old (result_map U.value result) self.new }
     {
         self.read_unsigned_counted(BitCount::unknown(bits))
     }
 
-    /// Reads an unsigned number of `B::BITS` bits, at most as many as U has.
+    /// Reads an unsigned number of `B::BITS` bits, at most the width of U.
     fn read_unsigned<B: Width, U: UnsignedInteger>(&mut self) -> Result<U, Error>
         requires { B.BITS ≤ U.BITS_SIZE }
-        ensures reads { Reads source (unsigned_entry source.order U.BITS_SIZE B.BITS)
-            self.old (seen U.value result) self.new }
+        ensures reads { Reads source (unsigned_decoder source.order U.BITS_SIZE B.BITS)
+            self.old (result_map U.value result) self.new }
     {
         self.read_unsigned_var(B::BITS)
     }
 
-    /// Reads a signed number, a two's complement of the given number of bits.
+    /// Reads a signed number, a two's complement of `bits` bits.
     ///
     /// # Errors
     ///
     /// `NoSignBit` at 0 bits. Nothing is taken then. Else as
     /// [`read_signed_counted`](BitRead::read_signed_counted).
     fn read_signed_var<S: SignedInteger>(&mut self, bits: u32) -> Result<S, Error>
-        ensures reads { Reads source (signed_entry source.order S.BITS_SIZE bits)
-            self.old (seen S.integer result) self.new }
+        ensures reads { Reads source (signed_decoder source.order S.BITS_SIZE bits)
+            self.old (result_map S.integer result) self.new }
     {
         match BitCount::unknown(bits).signed_count() {
             Some(count) => self.read_signed_counted(count),
@@ -138,12 +138,12 @@ pub trait BitRead {
         }
     }
 
-    /// Reads a signed number, a two's complement of `B::BITS` bits, at most as many as S has.
+    /// Reads a signed number, a two's complement of `B::BITS` bits, at most the width of S.
     fn read_signed<B: Width, S: SignedInteger>(&mut self) -> Result<S, Error>
         requires some { 1 ≤ B.BITS }
         requires within { B.BITS ≤ S.BITS_SIZE }
-        ensures reads { Reads source (signed_entry source.order S.BITS_SIZE B.BITS)
-            self.old (seen S.integer result) self.new }
+        ensures reads { Reads source (signed_decoder source.order S.BITS_SIZE B.BITS)
+            self.old (result_map S.integer result) self.new }
     {
         self.read_signed_var(B::BITS)
     }
@@ -157,7 +157,7 @@ pub trait BitRead {
     fn read_const<B: Width, V: Width, E: From<Error> + Drop>(&mut self, err: E) -> Result<(), E>
         requires word { B.BITS ≤ 32 }
         requires value { (V.BITS < 2 ^ B.BITS) ⊎ (B.BITS ≡ 0) }
-        ensures reads { ReadsConst source E.from_gives (const_entry source.order B.BITS V.BITS) err
+        ensures reads { ReadsConst source E.from_gives (const_decoder source.order B.BITS V.BITS) err
             self.old result self.new }
     {
         let value: u32 = self.read_unsigned::<B, u32>()?;
@@ -172,7 +172,7 @@ pub trait BitRead {
     /// reader has failed.
     fn read_unary<S: Width>(&mut self) -> Result<u32, Error>
         requires { S.BITS < 2 }
-        ensures reads { Reads source (unary_entry (S.BITS == 1)) self.old result self.new }
+        ensures reads { Reads source (unary_decoder (S.BITS == 1)) self.old result self.new }
     {
         let stop = S::BITS == 1;
         let mut count = 0u32;
@@ -193,21 +193,22 @@ pub trait BitRead {
     fn read_count<C: Count>(&mut self) -> Result<C, Error>
         requires some { 0 < C.MAX }
         requires full { IsTrue (is_full 32 C.MAX) }
-        ensures reads { Reads source (count_entry source.order C.MAX)
-            self.old (seen C.number result) self.new }
+        ensures reads { Reads source (count_decoder source.order C.MAX)
+            self.old (result_map C.number result) self.new }
     {
         let number = self.read_unsigned_var(count_bits(C::MAX))?;
         match C::of(number) {
             Some(count) => Ok(count),
-            // `C::MAX` is 1 less than a power of two, so it is the greatest number of so many bits.
+            // `C::MAX` is 1 less than a power of two, so it is the greatest number of that many
+            // bits.
             None => unreachable!(),
         }
     }
 
     /// Fills a buffer with bytes. After an error the contents of the buffer are not specified.
     fn read_bytes(&mut self, buf: &mut [u8]) -> Result<(), Error>
-        ensures reads { Reads source (bytes_entry source.order (length buf.old))
-            self.old (seen (λ _. buf.new) result) self.new }
+        ensures reads { Reads source (bytes_decoder source.order (length buf.old))
+            self.old (result_map (λ _. buf.new) result) self.new }
     {
         let _: u8 = self.read_unsigned_var(0)?;
         for at in 0..buf.len() {
@@ -216,25 +217,25 @@ pub trait BitRead {
         Ok(())
     }
 
-    /// Reads the bytes of a V: `read_to_bytes::<[u8; 4]>()` gives an array of four.
+    /// Reads the bytes of a V: `read_to_bytes::<[u8; 4]>()` returns an array of four bytes.
     fn read_to_bytes<V: Primitive>(&mut self) -> Result<V::Bytes, Error>
-        ensures reads { Reads source (bytes_entry source.order V.BYTES)
-            self.old (seen V.Bytes.items result) self.new }
+        ensures reads { Reads source (bytes_decoder source.order V.BYTES)
+            self.old (result_map V.Bytes.items result) self.new }
     {
         let mut bytes = V::buffer();
         self.read_bytes(V::as_bytes_mut(&mut bytes))?;
         Ok(bytes)
     }
 
-    /// Reads the given number of bytes into a vector. At most 4096 are asked for at a time, and the
+    /// Reads `bytes` bytes into a vector. At most 4096 bytes are asked for at a time, and the
     /// vector grows as they come. So a length that the stream does not have costs little memory.
     ///
     /// # Errors
     ///
     /// `OutOfMemory` if memory for the bytes is refused. The reader has failed then.
     fn read_to_vec<A: Allocator>(&mut self, alloc: A, bytes: usize) -> Result<Vec<u8, A>, Error>
-        ensures reads { ReadsGrowing source (bytes_entry source.order bytes)
-            self.old (seen (λ v. v.items) result) self.new }
+        ensures reads { ReadsGrowing source (bytes_decoder source.order bytes)
+            self.old (result_map (λ v. v.items) result) self.new }
     {
         let mut buf = Vec::new(alloc);
         let _: u8 = self.read_unsigned_var(0)?;
@@ -251,9 +252,9 @@ pub trait BitRead {
         Ok(buf)
     }
 
-    /// Skips the given number of bits, whatever they are.
+    /// Skips `bits` bits, whatever they are.
     fn skip(&mut self, bits: u32) -> Result<(), Error>
-        ensures reads { Reads source (skip_entry bits) self.old result self.new }
+        ensures reads { Reads source (skip_decoder bits) self.old result self.new }
     {
         let _: u128 = self.read_unsigned_var(bits % 128)?;
         for _done in 0..bits / 128 {
@@ -268,13 +269,14 @@ pub trait BitRead {
     ///
     /// # Errors
     ///
-    /// Those of the two calls.
+    /// The errors of [`read_unsigned_vbr`](BitRead::read_unsigned_vbr): `RedundantGroup` only if
+    /// the read is strict.
     fn read_groups<F: Width, U: UnsignedInteger>(&mut self, strict: bool) -> Result<U, Error>
         requires some { 2 ≤ F.BITS }
         requires within { F.BITS < U.BITS_SIZE }
         ensures reads { Reads source
-            (groups_entry strict source.order F.BITS U.BITS_SIZE (2 ^ U.BITS_SIZE))
-            self.old (seen U.value result) self.new }
+            (groups_decoder strict source.order F.BITS U.BITS_SIZE (2 ^ U.BITS_SIZE))
+            self.old (result_map U.value result) self.new }
     {
         let payload = F::BITS - 1;
         let mask = (U::ONE << payload) - U::ONE;
@@ -304,26 +306,26 @@ pub trait BitRead {
     }
 
     /// Reads an unsigned number of variable width, in groups of `F::BITS` bits. The highest bit of
-    /// a group says whether another group follows. The others are digits of the number, the lowest
-    /// digits first. The format is that of LLVM's bitstreams (`vbr`).
+    /// a group says whether another group follows. The other bits are digits of the number, the
+    /// lowest digits first. The format is the `vbr` of LLVM's bitstreams.
     ///
     /// # Errors
     ///
     /// `VariableWidthOverflow` if the number does not fit in U, or a group begins past U's bits.
     /// `RedundantGroup` if there are two groups or more, and the last one is 0: so each number has
-    /// one word. The groups up to the one that shows it are taken then, and the reader goes on
-    /// behind them.
+    /// one word. The groups up to the faulty one are taken then, and the reader continues after
+    /// them.
     fn read_unsigned_vbr<F: Width, U: UnsignedInteger>(&mut self) -> Result<U, Error>
         requires some { 2 ≤ F.BITS }
         requires within { F.BITS < U.BITS_SIZE }
         ensures reads { Reads source
-            (vbr_entry source.order F.BITS U.BITS_SIZE (2 ^ U.BITS_SIZE))
-            self.old (seen U.value result) self.new }
+            (vbr_decoder source.order F.BITS U.BITS_SIZE (2 ^ U.BITS_SIZE))
+            self.old (result_map U.value result) self.new }
     {
         self.read_groups::<F, U>(true)
     }
 
-    /// Reads an unsigned number of variable width, also if its last groups are 0.
+    /// Reads an unsigned number of variable width, even if its last groups are 0.
     ///
     /// # Errors
     ///
@@ -332,8 +334,8 @@ pub trait BitRead {
         requires some { 2 ≤ F.BITS }
         requires within { F.BITS < U.BITS_SIZE }
         ensures reads { Reads source
-            (any_vbr_entry source.order F.BITS U.BITS_SIZE (2 ^ U.BITS_SIZE))
-            self.old (seen U.value result) self.new }
+            (any_vbr_decoder source.order F.BITS U.BITS_SIZE (2 ^ U.BITS_SIZE))
+            self.old (result_map U.value result) self.new }
     {
         self.read_groups::<F, U>(false)
     }
@@ -347,14 +349,14 @@ pub trait BitRead {
     fn read_signed_vbr<F: Width, S: SignedInteger>(&mut self) -> Result<S, Error>
         requires some { 2 ≤ F.BITS }
         requires within { F.BITS < S.BITS_SIZE }
-        ensures reads { Reads source (signed_vbr_entry source.order F.BITS S.BITS_SIZE)
-            self.old (seen S.integer result) self.new }
+        ensures reads { Reads source (signed_vbr_decoder source.order F.BITS S.BITS_SIZE)
+            self.old (result_map S.integer result) self.new }
     {
         let place = self.read_unsigned_vbr::<F, S::Unsigned>()?;
         Ok(unzigzag(place))
     }
 
-    /// Reads a signed number of variable width, also if its last groups are 0.
+    /// Reads a signed number of variable width, even if its last groups are 0.
     ///
     /// # Errors
     ///
@@ -362,8 +364,8 @@ pub trait BitRead {
     fn read_signed_vbr_any<F: Width, S: SignedInteger>(&mut self) -> Result<S, Error>
         requires some { 2 ≤ F.BITS }
         requires within { F.BITS < S.BITS_SIZE }
-        ensures reads { Reads source (any_signed_vbr_entry source.order F.BITS S.BITS_SIZE)
-            self.old (seen S.integer result) self.new }
+        ensures reads { Reads source (any_signed_vbr_decoder source.order F.BITS S.BITS_SIZE)
+            self.old (result_map S.integer result) self.new }
     {
         let place = self.read_unsigned_vbr_any::<F, S::Unsigned>()?;
         Ok(unzigzag(place))
@@ -371,9 +373,9 @@ pub trait BitRead {
 
     /// Returns the reader by reference, for a function that takes a reader by value.
     fn by_ref(&mut self) -> &mut Self
-        // It reaches this reader, as it is.
+        // It reaches this reader, unchanged.
         ensures value { result.now ≡ self.old }
-        // It is this very reference, so what is done by it is done to this reader.
+        // It is this very reference, so its calls change this reader.
         ensures same_reference { result.ghost_name ≡ self.entry.ghost_name }
     {
         self

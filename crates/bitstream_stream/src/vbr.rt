@@ -18,7 +18,7 @@ pub fn vbr_bits<F: Width, U: UnsignedInteger>(value: U) -> u32
     let payload = F::BITS - 1;
     let mut bits = F::BITS;
     let mut rest = value;
-    // Two groups a turn.
+    // Two groups an iteration.
     while rest.shr_default(2 * payload) != U::ZERO {
         bits += 2 * F::BITS;
         rest = rest.shr_default(2 * payload);
@@ -37,11 +37,11 @@ pub fn vbr_bits<F: Width, U: UnsignedInteger>(value: U) -> u32
 pub(crate) fn split_group<F: Width, U: UnsignedInteger>(value: U) -> Option<(U, U)>
     requires some { 2 ≤ F.BITS }
     requires within { F.BITS < U.BITS_SIZE }
-    // If two parts are answered, the number's groups are the first part and then those of the
-    // second, which is less than the number.
+    // If two parts are returned, the number's groups are the first part and then the groups of the
+    // second part, which is less than the number.
     ensures first { IfSome result (λ parts.
         IsFirstGroup F.BITS (U.value value) (U.value parts.0) (U.value parts.1)) }
-    // If `None` is answered, the number has one group, which is its word at `F::BITS` bits.
+    // If `None` is returned, the number has one group, which is its word at `F::BITS` bits.
     ensures last { result ≡ None → IsLastGroup F.BITS (U.value value) }
 {
     let payload = F::BITS - 1;
@@ -56,7 +56,7 @@ pub(crate) fn split_group<F: Width, U: UnsignedInteger>(value: U) -> Option<(U, 
 }
 
 /// Returns the number of bits above which gathered groups are sent. Groups of whole bytes are sent
-/// one by one, which leaves the queue as it is.
+/// one by one, which leaves the queue unchanged.
 #[inline(always)]
 pub(crate) fn most_gathered<F: Width, U: UnsignedInteger>() -> u32
     requires { F.BITS < U.BITS_SIZE }
@@ -69,8 +69,8 @@ pub(crate) fn most_gathered<F: Width, U: UnsignedInteger>() -> u32
     }
 }
 
-/// Returns whether a strict read rejects a number's last group: it is 0, and other groups stand
-/// before it, which gave the number's lowest `shift` digits.
+/// Returns true if a strict read rejects a number's last group: it is 0, and it follows groups with
+/// the number's lowest `shift` digits.
 #[inline(always)]
 pub(crate) fn is_redundant<U: UnsignedInteger>(strict: bool, shift: u32, last: U) -> bool
     ensures { result ≡ rejects strict shift (U.value last) }

@@ -15,11 +15,11 @@ pub mod writer;
 ///
 /// # Errors
 ///
-/// If the stream refuses a request, a call answers `OutOfMemory` or `Stream` with the kind of the
+/// If the stream refuses a request, a call returns `OutOfMemory` or `Stream` with the kind of the
 /// refusal, and the sink has failed: its queued bits are lost. From then on each call that writes
-/// answers `Failed`, before any other check and also at a width of 0 bits. A sink with a limit
-/// answers `CounterOverflow` if the bits would pass it. After this and any other error nothing is
-/// written, and the sink is as it was. The calls below name only the errors of their own.
+/// returns `Failed`, before any other check and also at a width of 0 bits. A sink with a limit
+/// returns `CounterOverflow` if the bits would pass it. After this and any other error nothing is
+/// written, and the sink is unchanged. The calls below name only their own errors.
 ///
 /// # Examples
 ///
@@ -40,13 +40,13 @@ pub trait BitWrite {
     ghost use Rattle.bitstream_number.specs.Word.{word};
     ghost use Rattle.bitstream_order.specs.Parts.{value_bytes};
     ghost use Rattle.bitstream_stream.specs.Writing.Sink.{Sink, Writes, IsWithin};
-    ghost use Rattle.bitstream_stream.specs.Writing.WriteTable.{unsigned, signed, plain, unary_word, bit as one_bit, count as count_entry, align, buffer, zeros, vbr, signed_vbr};
+    ghost use Rattle.bitstream_stream.specs.Writing.WriteTable.{unsigned, signed, plain, unary_word, bit as one_bit, count as count_decoder, align, buffer, zeros, vbr, signed_vbr};
 
-    // What the states of the sink mean.
+    // The meaning of the sink's states.
     ghost sink: { Sink Self };
 
-    /// Writes an unsigned number in the given number of bits. In 0 bits any number is accepted, and
-    /// nothing is written.
+    /// Writes an unsigned number in `bits` bits. In 0 bits any number is accepted, and nothing is
+    /// written.
     ///
     /// # Errors
     ///
@@ -61,7 +61,7 @@ pub trait BitWrite {
             (unsigned sink.order U.BITS_SIZE (C.number count) (U.value value))
             self.old result self.new };
 
-    /// Writes a signed number as a two's complement of the given number of bits.
+    /// Writes a signed number as a two's complement of `bits` bits.
     ///
     /// # Errors
     ///
@@ -99,8 +99,8 @@ pub trait BitWrite {
     fn has_room(&self, bits: u128) -> bool
         ensures room { IsTrue result ↔ IsWithin sink.limit (sink.len self.now + bits) };
 
-    /// Writes an unsigned number in the given number of bits. In 0 bits any number is accepted, and
-    /// nothing is written.
+    /// Writes an unsigned number in `bits` bits. In 0 bits any number is accepted, and nothing is
+    /// written.
     ///
     /// # Errors
     ///
@@ -112,7 +112,7 @@ pub trait BitWrite {
         self.write_unsigned_counted(BitCount::unknown(bits), value)
     }
 
-    /// Writes an unsigned number in `B::BITS` bits, at most as many as U has.
+    /// Writes an unsigned number in `B::BITS` bits, at most the width of U.
     ///
     /// # Errors
     ///
@@ -125,7 +125,7 @@ pub trait BitWrite {
         self.write_unsigned_var(B::BITS, value)
     }
 
-    /// Writes a signed number as a two's complement of the given number of bits.
+    /// Writes a signed number as a two's complement of `bits` bits.
     ///
     /// # Errors
     ///
@@ -143,7 +143,7 @@ pub trait BitWrite {
         }
     }
 
-    /// Writes a signed number as a two's complement of `B::BITS` bits, at most as many as S has.
+    /// Writes a signed number as a two's complement of `B::BITS` bits, at most the width of S.
     ///
     /// # Errors
     ///
@@ -188,7 +188,7 @@ pub trait BitWrite {
     /// Writes a count of bits, in as few bits as hold `C::MAX`.
     fn write_count<C: Count>(&mut self, count: C) -> Result<(), Error>
         requires { 0 < C.MAX }
-        ensures writes { Writes sink (count_entry sink.order C.MAX (C.number count))
+        ensures writes { Writes sink (count_decoder sink.order C.MAX (C.number count))
             self.old result self.new }
     {
         self.write_unsigned_var(count_bits(C::MAX), count.bits())
@@ -229,7 +229,7 @@ pub trait BitWrite {
         Ok(())
     }
 
-    /// Writes the given number of zeros.
+    /// Writes `bits` bits of 0.
     fn pad(&mut self, bits: u32) -> Result<(), Error>
         ensures writes { Writes sink (zeros bits) self.old result self.new }
     {
@@ -245,8 +245,8 @@ pub trait BitWrite {
     }
 
     /// Writes an unsigned number of variable width, in as few groups of `F::BITS` bits as hold it.
-    /// The highest bit of a group says whether another group follows. The others are digits of the
-    /// number, the lowest digits first. The format is that of LLVM's bitstreams (`vbr`).
+    /// The highest bit of a group says whether another group follows. The other bits are digits of
+    /// the number, the lowest digits first. The format is the `vbr` of LLVM's bitstreams.
     fn write_unsigned_vbr<F: Width, U: UnsignedInteger>(&mut self, value: U) -> Result<(), Error>
         requires some { 2 ≤ F.BITS }
         requires within { F.BITS < U.BITS_SIZE }
@@ -280,9 +280,9 @@ pub trait BitWrite {
     fn by_ref(&mut self) -> &mut Self
     where
         Self: Sized,
-        // It is this very reference, so what is done by it is done to this sink.
+        // It is this very reference, so its calls change this sink.
         ensures same_reference { result.ghost_name ≡ self.entry.ghost_name }
-        // It reaches this sink, as it is.
+        // It reaches this sink, unchanged.
         ensures same_value { result.now ≡ self.old }
     {
         self

@@ -3,43 +3,43 @@
 use Rattle.std.proofs.Common.{◌≡◌, ℕ, suc, ◌+◌, ◌*◌, ◌^◌, ◌<◌, List, [], ◌∷◌, ◌++◌, length, Result, Ok, refl, sym, ap, ◌∙◌, subst, append_assoc, append-nil, length-append, arith}
 use Rattle.std.specs.List.{All, AllByRecursion, flat_map}
 use Rattle.std.proofs.lemmas.List.Elements.{recursion_from_All}
-use Rattle.bitstream_count.specs.Entry.{Takes}
+use Rattle.bitstream_count.specs.Codec.{Done}
 use Rattle.bitstream_number.specs.Word.{Order, High, Low, bits, number}
 use Rattle.bitstream_number.proofs.ByteLemmas.{length-bytes}
-use Rattle.bitstream_stream.specs.WholeBytes.ByteReads.{ByteReadEntry, given_bytes}
-use Rattle.bitstream_stream.proofs.Reading.EntryLemmas.{word_front-some as byte_front-some}
+use Rattle.bitstream_stream.specs.WholeBytes.ByteReads.{ByteDecoder, given_bytes}
+use Rattle.bitstream_stream.proofs.Reading.CodecLemmas.{word_prefix-some as byte_prefix-some}
 use Rattle.bitstream_value.specs.ByteGrows.{byte_part_then, byte_parts}
 use Rattle.bitstream_value.specs.ByteSteps.{number_bytes}
-use Rattle.bitstream_value.specs.ByteTypes.{byte_chain, byte_gives, byte_stores}
-use Rattle.bitstream_value.proofs.ByteSteps.{chain-ok, bytes_in, number-bytes}
+use Rattle.bitstream_value.specs.ByteTypes.{byte_and_then, byte_pure, byte_stores}
+use Rattle.bitstream_value.proofs.ByteSteps.{and_then-ok, bytes_in, number-bytes}
 use Rattle.bitstream_value.proofs.ByteGrowsLemmas.{byte_parts-suc}
 
 -- these bytes are taken, whatever follows, and this is answered
-abbrev pub BytesBack : {A : Type 0} → ByteReadEntry A → List ℕ → A → Type 0
-BytesBack e taken a = (more : List ℕ) → e.reads (taken ++ more) ≡ Takes (length taken) (Ok a)
+abbrev pub BytesBack : {A : Type 0} → ByteDecoder A → List ℕ → A → Type 0
+BytesBack e taken a = (more : List ℕ) → e.reads (taken ++ more) ≡ Done (length taken) (Ok a)
 
 -- n bytes
 pub given-back : (n : ℕ) (x : List ℕ) → length x ≡ n → BytesBack (given_bytes n) x x
 unfolding given_bytes
-given-back n x len = λ more. byte_front-some n (λ w. Ok w) x more len ∙ ap (λ k. Takes k (Ok x)) (sym len)
+given-back n x len = λ more. byte_prefix-some n (λ w. Ok w) x more len ∙ ap (λ k. Done k (Ok x)) (sym len)
 
 -- no read at all
-pub nothing-back : {A : Type 0} (a : A) → BytesBack (byte_gives a) [] a
+pub nothing-back : {A : Type 0} (a : A) → BytesBack (byte_pure a) [] a
 nothing-back a = λ more. refl
 
 -- one read and then another
-pub chain-back : {A B : Type 0} (e : ByteReadEntry A) (f : A → ByteReadEntry B) (u v : List ℕ) (a : A) (b : B)
-    → BytesBack e u a → BytesBack (f a) v b → BytesBack (byte_chain e f) (u ++ v) b
-chain-back e f u v a b first second = λ more.
+pub and_then-back : {A B : Type 0} (e : ByteDecoder A) (f : A → ByteDecoder B) (u v : List ℕ) (a : A) (b : B)
+    → BytesBack e u a → BytesBack (f a) v b → BytesBack (byte_and_then e f) (u ++ v) b
+and_then-back e f u v a b first second = λ more.
     rw (append_assoc u v more, length-append u v)
-    (chain-ok e f u (v ++ more) a (Takes (length v) (Ok b)) (first (v ++ more)) (second more))
+    (and_then-ok e f u (v ++ more) a (Done (length v) (Ok b)) (first (v ++ more)) (second more))
 
 -- a read whose answer goes into another
-pub made-back : {A B : Type 0} (e : ByteReadEntry A) (f : A → B) (u : List ℕ) (a : A) → BytesBack e u a
-    → BytesBack (byte_chain e (λ x. byte_gives (f x))) u (f a)
+pub made-back : {A B : Type 0} (e : ByteDecoder A) (f : A → B) (u : List ℕ) (a : A) → BytesBack e u a
+    → BytesBack (byte_and_then e (λ x. byte_pure (f x))) u (f a)
 made-back e f u a first =
-    subst (λ w. BytesBack (byte_chain e (λ x. byte_gives (f x))) w (f a)) (append-nil u)
-    (chain-back e (λ x. byte_gives (f x)) u [] a (f a) first (nothing-back (f a)))
+    subst (λ w. BytesBack (byte_and_then e (λ x. byte_pure (f x))) w (f a)) (append-nil u)
+    (and_then-back e (λ x. byte_pure (f x)) u [] a (f a) first (nothing-back (f a)))
 
 length-bytes_in : (o : Order) (n v : ℕ) → length (bytes_in o n v) ≡ n
 length-bytes_in High n v = length-bytes High n v
@@ -55,21 +55,21 @@ number-back o n v fits =
     (given-back n (bytes_in o n v) (length-bytes_in o n v)))
 
 -- a part with errors of its own, which answers none, and what stands behind it
-pub byte_part-back : {A B E : Type 0} (e : ByteReadEntry (Result A E)) (f : A → ByteReadEntry (Result B E))
+pub byte_part-back : {A B E : Type 0} (e : ByteDecoder (Result A E)) (f : A → ByteDecoder (Result B E))
     (u v : List ℕ) (a : A) (b : Result B E) → BytesBack e u (Ok a) → BytesBack (f a) v b
-    → BytesBack (byte_chain e (byte_part_then f)) (u ++ v) b
-byte_part-back e f u v a b first second = chain-back e (byte_part_then f) u v (Ok a) b first second
+    → BytesBack (byte_and_then e (byte_part_then f)) (u ++ v) b
+byte_part-back e f u v a b first second = and_then-back e (byte_part_then f) u v (Ok a) b first second
 
-module _ {A E : Type 0} (e : ByteReadEntry (Result A E)) (writes : A → List ℕ) where
+module _ {A E : Type 0} (e : ByteDecoder (Result A E)) (writes : A → List ℕ) where
   part-behind : (n : ℕ) (w u : List ℕ) (xs : List A) (x : A) → BytesBack (byte_parts e n) w (Ok xs)
       → BytesBack e u (Ok x) → BytesBack (byte_parts e (suc n)) (w ++ u) (Ok (xs ++ x ∷ []))
   part-behind n w u xs x h k =
       let last = byte_part-back e (λ y. byte_stores (Ok (xs ++ y ∷ []))) u [] x (Ok (xs ++ x ∷ [])) k
       (λ more. refl) in
-      let behind = subst (λ l. BytesBack (byte_chain e (byte_part_then (λ y. byte_stores (Ok (xs ++ y ∷ []))))) l
+      let behind = subst (λ l. BytesBack (byte_and_then e (byte_part_then (λ y. byte_stores (Ok (xs ++ y ∷ []))))) l
       (Ok (xs ++ x ∷ []))) (append-nil u) last in
       rw (byte_parts-suc e n)
-      (byte_part-back (byte_parts e n) (λ ys. byte_chain e (byte_part_then (λ y. byte_stores (Ok (ys ++ y ∷ [])))))
+      (byte_part-back (byte_parts e n) (λ ys. byte_and_then e (byte_part_then (λ y. byte_stores (Ok (ys ++ y ∷ [])))))
       w u xs (Ok (xs ++ x ∷ [])) h behind)
 
   parts-behind : (n : ℕ) (w : List ℕ) (xs ys : List A) → BytesBack (byte_parts e n) w (Ok xs)

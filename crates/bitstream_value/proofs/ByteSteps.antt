@@ -8,61 +8,61 @@ use Rattle.std.specs.Prelude.{if◌then◌else◌}
 use Rattle.std.specs.Result.{IsErrAnd, result_from_control_flow}
 use Rattle.std.specs.declared.ops.ControlFlow.{ControlFlow}
 use Rattle.bitstream_count.specs.declared.error.Error.{Error}
-use Rattle.bitstream_count.specs.Entry.{Front, TooFew, Takes, longer}
+use Rattle.bitstream_count.specs.Codec.{Prefix, Incomplete, Done, advance}
 use Rattle.bitstream_number.specs.Word.{Order, High, Low, bits, bytes, number}
 use Rattle.bitstream_number.proofs.WordLemmas.{bits-bytes, number-word}
-use Rattle.bitstream_order.specs.Moving.Gather.{seen}
+use Rattle.bitstream_order.specs.Moving.Gather.{result_map}
 use Rattle.bitstream_order.specs.Parts.{value_bytes}
-use Rattle.bitstream_stream.specs.WholeBytes.ByteReads.{ByteSource, ByteReadEntry, BytesTaken, ByteReadOutcome, ByteReads, was_done, was_refused, memory_refused, given_bytes}
+use Rattle.bitstream_stream.specs.WholeBytes.ByteReads.{ByteSource, ByteDecoder, BytesTaken, ByteReadOutcome, ByteReads, was_done, was_refused, memory_refused, given_bytes}
 use Rattle.bitstream_stream.proofs.WholeBytes.ByteReadsLemmas.{bytes_none, bytes_more, bytes_taken, bytes_took}
 use Rattle.bitstream_stream.proofs.Reading.ReadsLemmas.{Consumes-known}
 use Rattle.bitstream_value.specs.ByteSteps.{number_bytes}
-use Rattle.bitstream_value.specs.ByteTypes.{byte_chain, byte_gives, ByteReadsOwn}
+use Rattle.bitstream_value.specs.ByteTypes.{byte_and_then, byte_pure, ByteReadsOwn}
 
--- ---- fronts of two reads
+-- ---- prefixes of two reads
 
-module _ {A B : Type 0} (e : ByteReadEntry A) (f : A → ByteReadEntry B) where
-  pub chain-ok : (u v : List ℕ) (a : A) (x : Front B) → e.reads (u ++ v) ≡ Takes (length u) (Ok a)
-      → (f a).reads v ≡ x → (byte_chain e f).reads (u ++ v) ≡ longer (length u) x
-  unfolding byte_chain
-  chain-ok u v a x first second = rw first (ap (longer (length u)) (ap (f a).reads (drop-append_seam u v) ∙ second))
+module _ {A B : Type 0} (e : ByteDecoder A) (f : A → ByteDecoder B) where
+  pub and_then-ok : (u v : List ℕ) (a : A) (x : Prefix B) → e.reads (u ++ v) ≡ Done (length u) (Ok a)
+      → (f a).reads v ≡ x → (byte_and_then e f).reads (u ++ v) ≡ advance (length u) x
+  unfolding byte_and_then
+  and_then-ok u v a x first second = rw first (ap (advance (length u)) (ap (f a).reads (drop-append_seam u v) ∙ second))
 
-  chain-err : (w : List ℕ) (n : ℕ) (x : Error) → e.reads w ≡ Takes n (Err x)
-      → (byte_chain e f).reads w ≡ Takes n (Err x)
-  unfolding byte_chain
-  chain-err w n x h = rw h refl
+  and_then-err : (w : List ℕ) (n : ℕ) (x : Error) → e.reads w ≡ Done n (Err x)
+      → (byte_and_then e f).reads w ≡ Done n (Err x)
+  unfolding byte_and_then
+  and_then-err w n x h = rw h refl
 
-  pub chain-none : (w : List ℕ) → e.reads w ≡ TooFew → (byte_chain e f).reads w ≡ TooFew
-  unfolding byte_chain
-  chain-none w h = rw h refl
+  pub and_then-none : (w : List ℕ) → e.reads w ≡ Incomplete → (byte_and_then e f).reads w ≡ Incomplete
+  unfolding byte_and_then
+  and_then-none w h = rw h refl
 
 -- a beginning of two lists is one of the first, or the first and a beginning of the second
-cut : (u v front : List ℕ) (b : ℕ) (back : List ℕ) → u ++ v ≡ front ++ b ∷ back
-    → ((more : List ℕ) × (u ≡ front ++ b ∷ more)) ⊎ ((more : List ℕ) × (front ≡ u ++ more) × (v ≡ more ++ b ∷ back))
-cut [] v front b back e = inr (front, refl, e)
+cut : (u v prefix : List ℕ) (b : ℕ) (back : List ℕ) → u ++ v ≡ prefix ++ b ∷ back
+    → ((more : List ℕ) × (u ≡ prefix ++ b ∷ more)) ⊎ ((more : List ℕ) × (prefix ≡ u ++ more) × (v ≡ more ++ b ∷ back))
+cut [] v prefix b back e = inr (prefix, refl, e)
 cut (c ∷ u) v [] b back e = let head : c ≡ b = cc in inl (u, ap (λ d. d ∷ u) head)
-cut (c ∷ u) v (d ∷ front) b back e =
+cut (c ∷ u) v (d ∷ prefix) b back e =
     let head : c ≡ d = cc in
-    let tail : u ++ v ≡ front ++ b ∷ back = cc in
-    elim (cut u v front b back tail) [
+    let tail : u ++ v ≡ prefix ++ b ∷ back = cc in
+    elim (cut u v prefix b back tail) [
       | inl p ↦ inl (p.0, ap (λ x. x ∷ u) head ∙ ap (λ l. d ∷ l) p.1)
-      | inr p ↦ inr (p.0, ap (λ x. x ∷ front) (sym head) ∙ ap (λ l. c ∷ l) p.1, p.2)
+      | inr p ↦ inr (p.0, ap (λ x. x ∷ prefix) (sym head) ∙ ap (λ l. c ∷ l) p.1, p.2)
     ]
 
-pub none_needed : (front : List ℕ) (b : ℕ) (back : List ℕ) → [] ≡ front ++ b ∷ back → ⊥
+pub none_needed : (prefix : List ℕ) (b : ℕ) (back : List ℕ) → [] ≡ prefix ++ b ∷ back → ⊥
 none_needed [] b back e = cc
-none_needed (c ∷ front) b back e = cc
+none_needed (c ∷ prefix) b back e = cc
 
 -- a beginning of the bytes of two reads, one behind the other, is too short for both
-module _ {A B : Type 0} (e : ByteReadEntry A) (f : A → ByteReadEntry B) where
-  pub chain-needs : (u v : List ℕ) (a : A) → ((more : List ℕ) → e.reads (u ++ more) ≡ Takes (length u) (Ok a))
-      → ((front : List ℕ) (b : ℕ) (back : List ℕ) → u ≡ front ++ b ∷ back → e.reads front ≡ TooFew)
-      → ((front : List ℕ) (b : ℕ) (back : List ℕ) → v ≡ front ++ b ∷ back → (f a).reads front ≡ TooFew)
-      → (front : List ℕ) (b : ℕ) (back : List ℕ) → u ++ v ≡ front ++ b ∷ back → (byte_chain e f).reads front ≡ TooFew
-  chain-needs u v a decides first second front b back is = elim (cut u v front b back is) [
-    | inl p ↦ chain-none e f front (first front b p.0 p.1)
-    | inr p ↦ subst (λ w. (byte_chain e f).reads w ≡ TooFew) (sym p.1)
-        (chain-ok e f u p.0 a TooFew (decides p.0) (second p.0 b back p.2))
+module _ {A B : Type 0} (e : ByteDecoder A) (f : A → ByteDecoder B) where
+  pub and_then-needs : (u v : List ℕ) (a : A) → ((more : List ℕ) → e.reads (u ++ more) ≡ Done (length u) (Ok a))
+      → ((prefix : List ℕ) (b : ℕ) (back : List ℕ) → u ≡ prefix ++ b ∷ back → e.reads prefix ≡ Incomplete)
+      → ((prefix : List ℕ) (b : ℕ) (back : List ℕ) → v ≡ prefix ++ b ∷ back → (f a).reads prefix ≡ Incomplete)
+      → (prefix : List ℕ) (b : ℕ) (back : List ℕ) → u ++ v ≡ prefix ++ b ∷ back → (byte_and_then e f).reads prefix ≡ Incomplete
+  and_then-needs u v a decides first second prefix b back is = elim (cut u v prefix b back is) [
+    | inl p ↦ and_then-none e f prefix (first prefix b p.0 p.1)
+    | inr p ↦ subst (λ w. (byte_and_then e f).reads w ≡ Incomplete) (sym p.1)
+        (and_then-ok e f u p.0 a Incomplete (decides p.0) (second p.0 b back p.2))
   ]
 
 -- ---- reads one after another
@@ -74,20 +74,20 @@ both_taken K x y s t u h k =
     let second = bytes_taken {K = K} {grows = false} (length y) y t u refl k in
     (bytes_took (length x + length y) (x ++ y) s u (bytes_more (length x) (length y) x y s t u first second)).0
 
-module _ {R A B : Type 0} {K : ByteSource R} {grows : Bool} (e : ByteReadEntry A) (f : A → ByteReadEntry B) where
-  pub chain_reads : {a : A} {r : Result B Error} {s t z : R} → ByteReadOutcome K grows e s (Ok a) t
-      → ByteReadOutcome K grows (f a) t r z → ByteReadOutcome K grows (byte_chain e f) s r z
-  chain_reads {a = a} {r = r} {s = s} {t = t} {z = z} (was_done h) (was_done k) =
+module _ {R A B : Type 0} {K : ByteSource R} {grows : Bool} (e : ByteDecoder A) (f : A → ByteDecoder B) where
+  pub and_then_reads : {a : A} {r : Result B Error} {s t z : R} → ByteReadOutcome K grows e s (Ok a) t
+      → ByteReadOutcome K grows (f a) t r z → ByteReadOutcome K grows (byte_and_then e f) s r z
+  and_then_reads {a = a} {r = r} {s = s} {t = t} {z = z} (was_done h) (was_done k) =
       let u = h.bytes in
       let v = k.bytes in
       was_done (record {
         bytes = u ++ v;
         decides = λ more. rw (append_assoc u v more, length-append u v)
-            (chain-ok e f u (v ++ more) a (Takes (length v) r) (h.decides (v ++ more)) (k.decides more));
-        needs = chain-needs e f u v a h.decides h.needs k.needs;
+            (and_then-ok e f u (v ++ more) a (Done (length v) r) (h.decides (v ++ more)) (k.decides more));
+        needs = and_then-needs e f u v a h.decides h.needs k.needs;
         took = both_taken K u v s t z h.took k.took;
       })
-  chain_reads {a = a} {s = s} {t = t} (was_done h) (was_refused k) =
+  and_then_reads {a = a} {s = s} {t = t} (was_done h) (was_refused k) =
       let u = h.bytes in
       let took = h.took in
       was_refused (record {
@@ -98,33 +98,33 @@ module _ {R A B : Type 0} {K : ByteSource R} {grows : Bool} (e : ByteReadEntry A
         loses = Consumes-trans (K.state s).bytes (K.state t).bytes k.refusal.before u k.gone took.loses k.loses;
         after = k.after;
         taken = omega (arith, took.taken, k.taken, length-append u k.gone);
-        few = chain-ok e f u k.gone a TooFew (h.decides k.gone) k.few;
+        few = and_then-ok e f u k.gone a Incomplete (h.decides k.gone) k.few;
         ended = λ end xs known.
             let left = Consumes-known (K.state s).bytes (K.state t).bytes u xs took.loses known in
-            subst (λ w. (byte_chain e f).reads w ≡ TooFew) (sym left.2)
-            (chain-ok e f u left.0 a TooFew (h.decides left.0) (k.ended end left.0 left.1));
+            subst (λ w. (byte_and_then e f).reads w ≡ Incomplete) (sym left.2)
+            (and_then-ok e f u left.0 a Incomplete (h.decides left.0) (k.ended end left.0 left.1));
         refusals = k.refusals ∙ ap (λ l. k.refusal ∷ l) took.refusals;
         references = k.references ∙ took.references;
       })
-  chain_reads {a = a} {s = s} {t = t} {z = z} (was_done h) (memory_refused g k) =
+  and_then_reads {a = a} {s = s} {t = t} {z = z} (was_done h) (memory_refused g k) =
       memory_refused g (record {
         answer = k.answer;
         bytes = h.bytes ++ k.bytes;
-        few = chain-ok e f h.bytes k.bytes a TooFew (h.decides k.bytes) k.few;
+        few = and_then-ok e f h.bytes k.bytes a Incomplete (h.decides k.bytes) k.few;
         took = both_taken K h.bytes k.bytes s t z h.took k.took;
       })
-  chain_reads (was_refused h) k = let p = h.answer in cc
-  chain_reads (memory_refused g h) k = let p = h.answer in cc
+  and_then_reads (was_refused h) k = let p = h.answer in cc
+  and_then_reads (memory_refused g h) k = let p = h.answer in cc
 
-  pub chain_stops : {x : Error} {s t : R} → ByteReadOutcome K grows e s (Err x) t
-      → ByteReadOutcome K grows (byte_chain e f) s (Err x) t
-  chain_stops {x = x} (was_done h) = was_done (record {
+  pub and_then_stops : {x : Error} {s t : R} → ByteReadOutcome K grows e s (Err x) t
+      → ByteReadOutcome K grows (byte_and_then e f) s (Err x) t
+  and_then_stops {x = x} (was_done h) = was_done (record {
     bytes = h.bytes;
-    decides = λ more. chain-err e f (h.bytes ++ more) (length h.bytes) x (h.decides more);
-    needs = λ front b back is. chain-none e f front (h.needs front b back is);
+    decides = λ more. and_then-err e f (h.bytes ++ more) (length h.bytes) x (h.decides more);
+    needs = λ prefix b back is. and_then-none e f prefix (h.needs prefix b back is);
     took = h.took;
   })
-  chain_stops {x = x} (was_refused h) = was_refused (record {
+  and_then_stops {x = x} (was_refused h) = was_refused (record {
     refusal = h.refusal;
     allowed = h.allowed;
     answer = let p = h.answer in cc;
@@ -132,25 +132,25 @@ module _ {R A B : Type 0} {K : ByteSource R} {grows : Bool} (e : ByteReadEntry A
     loses = h.loses;
     after = h.after;
     taken = h.taken;
-    few = chain-none e f h.gone h.few;
-    ended = λ end xs known. chain-none e f xs (h.ended end xs known);
+    few = and_then-none e f h.gone h.few;
+    ended = λ end xs known. and_then-none e f xs (h.ended end xs known);
     refusals = h.refusals;
     references = h.references;
   })
-  chain_stops {x = x} (memory_refused g h) = memory_refused g (record {
+  and_then_stops {x = x} (memory_refused g h) = memory_refused g (record {
     answer = let p = h.answer in cc;
     bytes = h.bytes;
-    few = chain-none e f h.bytes h.few;
+    few = and_then-none e f h.bytes h.few;
     took = h.took;
   })
 
 -- no read at all
 pub nothing_read : {R A : Type 0} {K : ByteSource R} {grows : Bool} (a : A) (s : R)
-    → ByteReadOutcome K grows (byte_gives a) s (Ok a) s
+    → ByteReadOutcome K grows (byte_pure a) s (Ok a) s
 nothing_read {K = K} a s = was_done (record {
   bytes = [];
   decides = λ more. refl;
-  needs = λ front b back is. absurd (none_needed front b back is);
+  needs = λ prefix b back is. absurd (none_needed prefix b back is);
   took = (bytes_took 0 [] s s (bytes_none {K = K} {grows = false} s)).0;
 })
 
@@ -171,60 +171,60 @@ module _ {R : Type 0} {K : ByteSource R} (o : Order) (n : ℕ) {s t : R} where
   unfolding number_bytes
   number_read {v = v} h fits =
       subst (λ x. ByteReads K (number_bytes o n) s (Ok x) t) (number-bytes o n v fits)
-      (chain_reads (given_bytes n) _ h (nothing_read _ t))
+      (and_then_reads (given_bytes n) _ h (nothing_read _ t))
 
   pub number_stops : {x : Error} → ByteReads K (given_bytes n) s (Err x) t → ByteReads K (number_bytes o n) s (Err x) t
   unfolding number_bytes
-  number_stops h = chain_stops (given_bytes n) _ h
+  number_stops h = and_then_stops (given_bytes n) _ h
 
 -- ---- reads of a function with errors of its own
 
-module _ {R A B E : Type 0} {K : ByteSource R} {becomes : Error → E → Type 0} {e : ByteReadEntry A} (f : A
-    → ByteReadEntry (Result B E)) {r : Result B E} {s t : R} where
+module _ {R A B E : Type 0} {K : ByteSource R} {becomes : Error → E → Type 0} {e : ByteDecoder A} (f : A
+    → ByteDecoder (Result B E)) {r : Result B E} {s t : R} where
   own_goes : {z : R} {a : A} → ByteReads K e s (Ok a) t → ByteReadsOwn K becomes (f a) t r z
-      → ByteReadsOwn K becomes (byte_chain e f) s r z
-  own_goes h k = record { plain = k.plain; called = chain_reads e f h k.called; answer = k.answer }
+      → ByteReadsOwn K becomes (byte_and_then e f) s r z
+  own_goes h k = record { plain = k.plain; called = and_then_reads e f h k.called; answer = k.answer }
 
   own_stops : {x : Error} → ByteReads K e s (Err x) t → IsErrAnd r (becomes x)
-      → ByteReadsOwn K becomes (byte_chain e f) s r t
-  own_stops {x = x} h k = record { plain = Err x; called = chain_stops e f h; answer = k }
+      → ByteReadsOwn K becomes (byte_and_then e f) s r t
+  own_stops {x = x} h k = record { plain = Err x; called = and_then_stops e f h; answer = k }
 
   -- a read whose answer a `?` looked at, and what follows it, or the end
   module _ {answer : Result A Error} {flow : ControlFlow _ A} where
     pub then_bytes : {z : R} {a : A} → ByteReads K e s answer t → answer ≡ result_from_control_flow flow → flow
-        ≡ Continue a → ByteReadsOwn K becomes (f a) t r z → ByteReadsOwn K becomes (byte_chain e f) s r z
+        ≡ Continue a → ByteReadsOwn K becomes (f a) t r z → ByteReadsOwn K becomes (byte_and_then e f) s r z
     then_bytes h p q k = own_goes (subst (λ y. ByteReads K e s y t) (p ∙ ap result_from_control_flow q) h) k
 
     pub end_bytes : {x : _} → ByteReads K e s answer t → answer ≡ result_from_control_flow flow → flow ≡ Break x
-        → IsErrAnd r (becomes x.0) → ByteReadsOwn K becomes (byte_chain e f) s r t
+        → IsErrAnd r (becomes x.0) → ByteReadsOwn K becomes (byte_and_then e f) s r t
     end_bytes h p q k = own_stops (subst (λ y. ByteReads K e s y t) (p ∙ ap result_from_control_flow q) h) k
 
 -- a read of a number
 module _ {R B E : Type 0} {K : ByteSource R} {becomes : Error → E → Type 0} (o : Order) (n : ℕ) (f : ℕ
-    → ByteReadEntry (Result B E)) {r : Result B E} {s t : R} {answer : Result ℕ Error} {flow : ControlFlow _ ℕ} where
-  pub then_number : {z : R} {v : ℕ} → ByteReads K (given_bytes n) s (seen (bytes_in o n) answer) t
+    → ByteDecoder (Result B E)) {r : Result B E} {s t : R} {answer : Result ℕ Error} {flow : ControlFlow _ ℕ} where
+  pub then_number : {z : R} {v : ℕ} → ByteReads K (given_bytes n) s (result_map (bytes_in o n) answer) t
       → answer ≡ result_from_control_flow flow → flow ≡ Continue v → v < 2 ^ (8 * n)
-      → ByteReadsOwn K becomes (f v) t r z → ByteReadsOwn K becomes (byte_chain (number_bytes o n) f) s r z
+      → ByteReadsOwn K becomes (f v) t r z → ByteReadsOwn K becomes (byte_and_then (number_bytes o n) f) s r z
   then_number h p q fits k =
-      let read = subst (λ y. ByteReads K (given_bytes n) s (seen (bytes_in o n) y) t)
+      let read = subst (λ y. ByteReads K (given_bytes n) s (result_map (bytes_in o n) y) t)
       (p ∙ ap result_from_control_flow q) h in
       own_goes f (number_read o n read fits) k
 
-  pub end_number : {x : _} → ByteReads K (given_bytes n) s (seen (bytes_in o n) answer) t
+  pub end_number : {x : _} → ByteReads K (given_bytes n) s (result_map (bytes_in o n) answer) t
       → answer ≡ result_from_control_flow flow → flow ≡ Break x → IsErrAnd r (becomes x.0)
-      → ByteReadsOwn K becomes (byte_chain (number_bytes o n) f) s r t
+      → ByteReadsOwn K becomes (byte_and_then (number_bytes o n) f) s r t
   end_number h p q k =
-      let read = subst (λ y. ByteReads K (given_bytes n) s (seen (bytes_in o n) y) t)
+      let read = subst (λ y. ByteReads K (given_bytes n) s (result_map (bytes_in o n) y) t)
       (p ∙ ap result_from_control_flow q) h in
       own_stops f (number_stops o n read) k
 
 -- the answer behind all reads: a value, or an error of the type's own
 pub bytes_end : {R A E : Type 0} {K : ByteSource R} {becomes : Error → E → Type 0} (r : Result A E) (s : R)
-    → ByteReadsOwn K becomes (byte_gives r) s r s
+    → ByteReadsOwn K becomes (byte_pure r) s r s
 bytes_end r s = record { plain = Ok r; called = nothing_read r s; answer = refl }
 
 -- what is read if a condition holds, and if not
-module _ {R A E : Type 0} {K : ByteSource R} {becomes : Error → E → Type 0} (x y : ByteReadEntry (Result A E))
+module _ {R A E : Type 0} {K : ByteSource R} {becomes : Error → E → Type 0} (x y : ByteDecoder (Result A E))
     {r : Result A E} {s t : R} where
   pub if_bytes : (b : Bool) → b ≡ true → ByteReadsOwn K becomes x s r t
       → ByteReadsOwn K becomes (if b then x else y) s r t

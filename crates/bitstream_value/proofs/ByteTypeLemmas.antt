@@ -5,7 +5,7 @@ use Rattle.std.specs.declared.ops.ControlFlow.{ControlFlow}
 use Rattle.bitstream_number.specs.Word.{Order, High}
 use Rattle.bitstream_count.specs.declared.error.Error.{Error}
 use Rattle.bitstream_count.specs.declared.error.Error.TheVariants.{CounterOverflow}
-use Rattle.bitstream_count.specs.Entry.{result_then}
+use Rattle.bitstream_count.specs.Codec.{result_then}
 use Rattle.bitstream_order.specs.Refusal.{Refusal}
 use Rattle.bitstream_stream.specs.Writing.Sink.{IsPastLimit, IsWithin}
 use Rattle.bitstream_stream.specs.WholeBytes.ByteSink.{ByteSink, ByteWrites, past_limit, was_refused, was_done}

@@ -4,8 +4,8 @@ use Rattle.std.proofs.Common.{◌≡◌, ℕ, ◌+◌, ◌^◌, ◌<◌, ◌≤�
 use Rattle.std.proofs.lemmas.Int.{ints}
 use Rattle.bitstream_count.specs.declared.error.Error.{Error}
 use Rattle.bitstream_number.specs.Word.{Order, FitsSignedBits}
-use Rattle.bitstream_order.specs.Moving.Gather.{seen}
-use Rattle.bitstream_stream.specs.Reading.ReadTable.{unsigned_entry, signed_entry}
+use Rattle.bitstream_order.specs.Moving.Gather.{result_map}
+use Rattle.bitstream_stream.specs.Reading.ReadTable.{unsigned_decoder, signed_decoder}
 use Rattle.bitstream_stream.specs.Reading.Reads.{BitSource, Reads}
 use Rattle.bitstream_stream.proofs.Reading.SignedLemmas.{unsigned-below}
 use Rattle.bitstream_value.specs.NonZero.{number_or_zero}
@@ -18,12 +18,12 @@ in_signed_range n (negsuc k) fits = (omega (arith, ints), omega (arith, ints))
 
 module _ {R : Type 0} {K : BitSource R} {A : Type 0} (o : Order) (size n : ℕ) where
   pub unsigned-in_range : (view : A → ℕ) (r : Result A Error) {s t : R}
-      → Reads K (unsigned_entry o size n) s (seen view r) t → IfOk r (λ v. view v < 2 ^ n)
+      → Reads K (unsigned_decoder o size n) s (result_map view r) t → IfOk r (λ v. view v < 2 ^ n)
   unsigned-in_range view (Ok v) h = unsigned-below o size n (view v) h
   unsigned-in_range view (Err x) h = tt
 
   pub signed-in_range : (view : A → ℤ) (r : Result A Error) {s t : R}
-      → Reads K (signed_entry o size n) s (seen view r) t → IfOk r (λ v. InSignedRange n (view v))
+      → Reads K (signed_decoder o size n) s (result_map view r) t → IfOk r (λ v. InSignedRange n (view v))
   signed-in_range view (Ok v) h = in_signed_range n (view v) (signed-holds o size n h).1
   signed-in_range view (Err x) h = tt
 

@@ -1,4 +1,4 @@
--- How many bits lists of write calls take.
+-- The number of bits that lists of write calls take.
 use Rattle.std.proofs.Common.{◌≡◌, ℕ, ◌+◌, ◌%◌, ◌<◌, ◌≤◌, Bool, true, false, List, [], ◌∷◌, length, Some, Result, Ok, Err, refl, sym, ap, ◌∙◌, subst, inl, inr, arith}
 use Rattle.std.specs.Prelude.{nat_lt, if◌then◌else◌}
 use Rattle.std.proofs.lemmas.Bool.{cases_lt}
@@ -7,10 +7,10 @@ use Rattle.std.specs.Result.{IsErrAnd}
 use Rattle.bitstream_number.specs.Word.{Order, High}
 use Rattle.bitstream_count.specs.declared.error.Error.{Error}
 use Rattle.bitstream_count.specs.declared.error.Error.TheVariants.{CounterOverflow}
-use Rattle.bitstream_count.specs.Entry.{WriteEntry, result_then}
+use Rattle.bitstream_count.specs.Codec.{Encoder, result_then}
 use Rattle.bitstream_order.specs.Refusal.{Refusal}
 use Rattle.bitstream_stream.specs.Writing.Sink.{Sink, Writes, WritesAll, IsPastLimit, IsWithin, had_failed, was_rejected, past_limit, was_refused, was_done}
-use Rattle.bitstream_value.specs.Lengths.{counted_bits, run_length, HasOneLength, in_place, number_of, CountsBits, IsNumberWithin}
+use Rattle.bitstream_value.specs.Lengths.{counted_bits, sequence_length, HasOneLength, in_place, number_of, CountsBits, IsNumberWithin}
 use Rattle.bitstream_value.specs.Own.{OwnAnswer, WritesOwn}
 
 pub if-true : {A : Type 0} (b : Bool) (x y : A) → b ≡ true → (if b then x else y) ≡ x
@@ -29,7 +29,7 @@ within m n h = grind (arith, nat_tests)
 
 -- ---- a counter that holds `most` at most, at its next call
 
-module _ (most : ℕ) (e : WriteEntry) (es : List WriteEntry) (n : ℕ) where
+module _ (most : ℕ) (e : Encoder) (es : List Encoder) (n : ℕ) where
   abbrev next : List Bool → Result ℕ Error
   next w = if nat_lt most (n + length w) then Err CounterOverflow else counted_bits most es (n + length w)
 
@@ -50,7 +50,7 @@ module _ (most : ℕ) (e : WriteEntry) (es : List WriteEntry) (n : ℕ) where
 module _ {S : Type 0} (K : Sink S) (most : ℕ) (limit : K.limit ≡ Some most) (sound : (s : S) → K.failed s
     ≡ false) (never : (x : Refusal) → K.may x → ⊥) where
   -- one call that answered an error
-  one_error : (e : WriteEntry) (es : List WriteEntry) (s : S) (x : Error) (t : S)
+  one_error : (e : Encoder) (es : List Encoder) (s : S) (x : Error) (t : S)
       → Writes {T = Unit {0}} K e s (Err x) t → counted_bits most (e ∷ es) (K.len s) ≡ Err x
   one_error e es s x t (had_failed f is k) = let fine = sound s in cc
   one_error e es s x t (was_rejected y f en is k) = let same : y ≡ x = cc in rejected most e es (K.len s) y en
@@ -61,7 +61,7 @@ module _ {S : Type 0} (K : Sink S) (most : ℕ) (limit : K.limit ≡ Some most) 
   one_error e es s x t (was_done w v f en le is k) = cc
 
   -- one that answered `Ok`
-  one_done : (e : WriteEntry) (es : List WriteEntry) (s t : S) → Writes {T = Unit {0}} K e s (Ok tt) t
+  one_done : (e : Encoder) (es : List Encoder) (s t : S) → Writes {T = Unit {0}} K e s (Ok tt) t
       → counted_bits most (e ∷ es) (K.len s) ≡ counted_bits most es (K.len t)
   one_done e es s t (had_failed f is k) = cc
   one_done e es s t (was_rejected y f en is k) = cc
@@ -72,7 +72,7 @@ module _ {S : Type 0} (K : Sink S) (most : ℕ) (limit : K.limit ≡ Some most) 
       ∙ ap (counted_bits most es) (sym (K.appends_len s t w k.grown))
 
   -- all of them
-  pub all_counted : (es : List WriteEntry) (s : S) (r : Result (Unit {0}) Error) (t : S) → WritesAll K es s r t
+  pub all_counted : (es : List Encoder) (s : S) (r : Result (Unit {0}) Error) (t : S) → WritesAll K es s r t
       → counted_bits most es (K.len s) ≡ result_then r (λ _. Ok (K.len t))
   unfolding WritesAll
   all_counted [] s r t p = rw (p.0, p.1) refl
@@ -82,7 +82,7 @@ module _ {S : Type 0} (K : Sink S) (most : ℕ) (limit : K.limit ≡ Some most) 
 
 -- ---- what is answered for a count of the bits of calls
 
-counted_by : {C E : Type 0} (value : C → ℕ) (most : ℕ) (becomes : Error → E → Type 0) (es : List WriteEntry)
+counted_by : {C E : Type 0} (value : C → ℕ) (most : ℕ) (becomes : Error → E → Type 0) (es : List Encoder)
     (answer : Result (Unit {0}) E) (x : Result ℕ Error) (r : Result C E)
     → counted_bits most es 0 ≡ x → OwnAnswer becomes (in_place answer) x (number_of value r)
     → CountsBits value most becomes es answer r
@@ -90,7 +90,7 @@ counted_by value most becomes es answer x r is h = subst
     (λ y. OwnAnswer becomes (in_place answer) y (number_of value r)) (sym is) h
 
 module _ {S C E : Type 0} (K : Sink S) (most : ℕ) (value : C → ℕ) (becomes : Error → E → Type 0)
-    (es : List WriteEntry) (answer : Result (Unit {0}) E) (s t : S) where
+    (es : List Encoder) (answer : Result (Unit {0}) E) (s t : S) where
   stopped_by : (error : E) (plain : Result (Unit {0}) Error) → counted_bits most es 0
       ≡ result_then plain (λ _. Ok (K.len t)) → OwnAnswer becomes (λ _. answer) plain (Err error)
       → CountsBits value most becomes es answer (Err error)
@@ -130,9 +130,9 @@ module _ {S C E : Type 0} (K : Sink S) (most : ℕ) (value : C → ℕ) (becomes
 abbrev at_most : ℕ → ℕ → Result ℕ Error
 at_most most n = if nat_lt most n then Err CounterOverflow else Ok n
 
-behind_word : (most : ℕ) (es : List WriteEntry) (len n : ℕ) (w : List Bool) (x : Result ℕ Error)
-    → run_length es (len + length w) ≡ x → result_then x (λ more. Ok (length w + more)) ≡ Ok n
-    → ((m : ℕ) → run_length es (len + length w) ≡ Ok m → len + length w ≤ most → counted_bits most es (len + length w)
+behind_word : (most : ℕ) (es : List Encoder) (len n : ℕ) (w : List Bool) (x : Result ℕ Error)
+    → sequence_length es (len + length w) ≡ x → result_then x (λ more. Ok (length w + more)) ≡ Ok n
+    → ((m : ℕ) → sequence_length es (len + length w) ≡ Ok m → len + length w ≤ most → counted_bits most es (len + length w)
     ≡ at_most most (len + length w + m))
     → (if nat_lt most (len + length w) then Err CounterOverflow else counted_bits most es (len + length w))
     ≡ at_most most (len + n)
@@ -146,18 +146,18 @@ behind_word most es len n w (Ok m) run is others =
     ]
 behind_word most es len n w (Err x) run is others = cc
 
-behind_call : (most : ℕ) (es : List WriteEntry) (len n : ℕ) (x : Result (List Bool) Error)
-    → result_then x (λ word. result_then (run_length es (len + length word)) (λ more. Ok (length word + more))) ≡ Ok n
-    → ((place m : ℕ) → run_length es place ≡ Ok m → place ≤ most → counted_bits most es place
+behind_call : (most : ℕ) (es : List Encoder) (len n : ℕ) (x : Result (List Bool) Error)
+    → result_then x (λ word. result_then (sequence_length es (len + length word)) (λ more. Ok (length word + more))) ≡ Ok n
+    → ((place m : ℕ) → sequence_length es place ≡ Ok m → place ≤ most → counted_bits most es place
     ≡ at_most most (place + m))
     → result_then x (λ word. if nat_lt most (len + length word) then Err CounterOverflow else counted_bits most es
     (len + length word)) ≡ at_most most (len + n)
-behind_call most es len n (Ok w) is others = behind_word most es len n w (run_length es (len + length w)) refl is
+behind_call most es len n (Ok w) is others = behind_word most es len n w (sequence_length es (len + length w)) refl is
     (λ m. others (len + length w) m)
 behind_call most es len n (Err x) is others = cc
 
 -- calls that are all accepted are counted as their length
-counted_length : (most : ℕ) (es : List WriteEntry) (len n : ℕ) → run_length es len ≡ Ok n → len ≤ most
+counted_length : (most : ℕ) (es : List Encoder) (len n : ℕ) → sequence_length es len ≡ Ok n → len ≤ most
     → counted_bits most es len ≡ at_most most (len + n)
 counted_length most [] len n is le = let none : n ≡ 0 = cc in ap Ok (omega (arith, none))
     ∙ sym (if-false _ _ _ (within most (len + n) (omega (arith, none, le))))
@@ -166,7 +166,7 @@ counted_length most (e ∷ es) len n is le = behind_call most es len n (e len) i
 
 -- calls that were done grow a sink by their length
 module _ {S : Type 0} (K : Sink S) where
-  wrote_word : (e : WriteEntry) (s t : S) → Writes {T = Unit {0}} K e s (Ok tt) t → (w : List Bool)
+  wrote_word : (e : Encoder) (s t : S) → Writes {T = Unit {0}} K e s (Ok tt) t → (w : List Bool)
       × (e (K.len s) ≡ Ok w) × (K.len t ≡ K.len s + length w)
   wrote_word e s t (had_failed f is k) = cc
   wrote_word e s t (was_rejected y f en is k) = cc
@@ -174,8 +174,8 @@ module _ {S : Type 0} (K : Sink S) where
   wrote_word e s t (was_refused w y f en le is k) = cc
   wrote_word e s t (was_done w v f en le is k) = (w, en, K.appends_len s t w k.grown)
 
-  pub grown_by : (es : List WriteEntry) (s t : S) → WritesAll K es s (Ok tt) t → (n : ℕ)
-      × (run_length es (K.len s) ≡ Ok n) × (K.len t ≡ K.len s + n)
+  pub grown_by : (es : List Encoder) (s t : S) → WritesAll K es s (Ok tt) t → (n : ℕ)
+      × (sequence_length es (K.len s) ≡ Ok n) × (K.len t ≡ K.len s + n)
   unfolding WritesAll
   grown_by [] s t p = (0, refl, ap K.len p.1 ∙ omega arith)
   grown_by (e ∷ es) s t (inl p) = let z = p.0 in cc
@@ -183,9 +183,9 @@ module _ {S : Type 0} (K : Sink S) where
       let first = wrote_word e s p.0 p.1 in
       let others = grown_by es p.0 t p.2 in
       let w = first.0 in
-      let run : run_length es (K.len s + length w) ≡ Ok others.0 = ap (run_length es) (sym first.2) ∙ others.1 in (
+      let run : sequence_length es (K.len s + length w) ≡ Ok others.0 = ap (sequence_length es) (sym first.2) ∙ others.1 in (
         length w + others.0,
-        ap (λ (x : Result (List Bool) Error). result_then x (λ word. result_then (run_length es (K.len s + length word))
+        ap (λ (x : Result (List Bool) Error). result_then x (λ word. result_then (sequence_length es (K.len s + length word))
             (λ more. Ok (length word + more)))) first.1
             ∙ ap (λ (x : Result ℕ Error). result_then x (λ more. Ok (length w + more))) run,
         omega (arith, first.2, others.2),
@@ -193,7 +193,7 @@ module _ {S : Type 0} (K : Sink S) where
 
   -- behind calls that were done, the same calls answered an `Ok`
   accepted_answer : {E : Type 0} (becomes : Error → E → Type 0) (answer : Result (Unit {0}) E)
-      (es : List WriteEntry) (s t : S) (plain : Result (Unit {0}) Error) → WritesAll K es s plain t
+      (es : List Encoder) (s t : S) (plain : Result (Unit {0}) Error) → WritesAll K es s plain t
       → OwnAnswer becomes (λ _. answer) plain (Ok tt)
       → WritesAll K es s (Ok tt) t × (Ok tt ≡ answer)
   accepted_answer becomes answer es s t (Ok v) all own = (all, own)
@@ -220,19 +220,19 @@ told value most n becomes r h = elim (cases_lt most n) [
 
 -- a value was written from an aligned place on, and its bits counted
 pub counted_as_appended : {S C E : Type 0} (K : Sink S) (value : C → ℕ) (most : ℕ) (becomes : Error → E
-    → Type 0) (entries : Order → List WriteEntry) (answer : Result (Unit {0}) E) (old new : S) (bits : Result C E)
+    → Type 0) (encoders : Order → List Encoder) (answer : Result (Unit {0}) E) (old new : S) (bits : Result C E)
     (n : ℕ)
-    → HasOneLength entries → K.len old % 8 ≡ 0 → WritesOwn K becomes (entries K.order) answer old (Ok tt) new
-    → CountsBits value most becomes (entries High) answer bits → K.len new ≡ K.len old + n
+    → HasOneLength encoders → K.len old % 8 ≡ 0 → WritesOwn K becomes (encoders K.order) answer old (Ok tt) new
+    → CountsBits value most becomes (encoders High) answer bits → K.len new ≡ K.len old + n
     → IsNumberWithin value most becomes n bits
-counted_as_appended K value most becomes entries answer old new bits n one aligned written counted far =
-    let all = accepted_answer K becomes answer (entries K.order) old new written.plain written.called written.answer in
-    let grown = grown_by K (entries K.order) old new all.0 in
+counted_as_appended K value most becomes encoders answer old new bits n one aligned written counted far =
+    let all = accepted_answer K becomes answer (encoders K.order) old new written.plain written.called written.answer in
+    let grown = grown_by K (encoders K.order) old new all.0 in
     let same : n ≡ grown.0 = omega (arith, far, grown.2) in
-    let run : run_length (entries High) 0 ≡ Ok n = one High K.order 0 (K.len old) (sym aligned) ∙ grown.1
+    let run : sequence_length (encoders High) 0 ≡ Ok n = one High K.order 0 (K.len old) (sym aligned) ∙ grown.1
     ∙ ap Ok (sym same) in
-    let is : counted_bits most (entries High) 0 ≡ at_most most n =
-    counted_length most (entries High) 0 n run (omega arith) ∙ ap (at_most most) (omega arith) in
+    let is : counted_bits most (encoders High) 0 ≡ at_most most n =
+    counted_length most (encoders High) 0 n run (omega arith) ∙ ap (at_most most) (omega arith) in
     let own = subst (λ x. OwnAnswer becomes (in_place answer) x (number_of value bits)) is counted in
     told value most n becomes bits (subst (λ a. OwnAnswer becomes (in_place a) (at_most most n) (number_of value bits))
     (sym all.1) own)

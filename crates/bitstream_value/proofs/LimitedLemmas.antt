@@ -7,15 +7,15 @@ use Rattle.std.proofs.lemmas.List.{map-append}
 use mathlib.Core.Bool.{beq}
 use Rattle.bitstream_count.specs.Unary.{unary}
 use Rattle.bitstream_count.specs.declared.error.Error.{Error}
-use Rattle.bitstream_stream.specs.Reading.ReadTable.{bit_entry}
+use Rattle.bitstream_stream.specs.Reading.ReadTable.{bit_decoder}
 use Rattle.bitstream_stream.specs.Reading.Reads.{BitSource, Reads}
 use Rattle.bitstream_stream.specs.Writing.Sink.{Sink, Writes, WritesAll}
 use Rattle.bitstream_stream.specs.Writing.WriteTable.{bit}
-use Rattle.bitstream_stream.proofs.Reading.ReadsLemmas.{Reads-chain-ok, Reads-gives, exit}
+use Rattle.bitstream_stream.proofs.Reading.ReadsLemmas.{Reads-and_then-ok, Reads-pure, exit}
 use Rattle.bitstream_stream.proofs.Writing.WriteParts.{all_none, all_one, all_err, all_more, all_append, all_stop}
 use Rattle.bitstream_value.specs.LimitedUnary.{limited_unary, limited_tree}
-use Rattle.bitstream_value.specs.Tree.{leaf, node, IsPath, path_entry, bit_by_bit}
-use Rattle.bitstream_value.proofs.TreeLemmas.{path_entry-leaf, path_entry-node}
+use Rattle.bitstream_value.specs.Tree.{leaf, node, IsPath, path_decoder, bit_by_bit}
+use Rattle.bitstream_value.proofs.TreeLemmas.{path_decoder-leaf, path_decoder-node}
 
 -- ---- the tree
 
@@ -128,66 +128,66 @@ left most k less = omega arith
 
 module _ {N : Type 0} {K : BitSource N} where
   -- one digit that is not the stop digit, and what follows it
-  digit-more : (stop : Bool) (k m : ℕ) (r : Result (Option ℕ) Error) {s u z : N} → Reads K bit_entry s (Ok (not stop)) u
-      → Reads K (path_entry (limited_tree stop (k + 1) m)) u r z
-      → Reads K (path_entry (limited_tree stop k (suc m))) s r z
-  digit-more true k m r h l = rw (tree-true, path_entry-node)
-      (Reads-chain-ok bit_entry (λ c. if c then path_entry (leaf (Some k)) else path_entry
+  digit-more : (stop : Bool) (k m : ℕ) (r : Result (Option ℕ) Error) {s u z : N} → Reads K bit_decoder s (Ok (not stop)) u
+      → Reads K (path_decoder (limited_tree stop (k + 1) m)) u r z
+      → Reads K (path_decoder (limited_tree stop k (suc m))) s r z
+  digit-more true k m r h l = rw (tree-true, path_decoder-node)
+      (Reads-and_then-ok bit_decoder (λ c. if c then path_decoder (leaf (Some k)) else path_decoder
       (limited_tree true (k + 1) m)) h l)
-  digit-more false k m r h l = rw (tree-false, path_entry-node)
-      (Reads-chain-ok bit_entry (λ c. if c then path_entry (limited_tree false (k + 1) m) else path_entry
+  digit-more false k m r h l = rw (tree-false, path_decoder-node)
+      (Reads-and_then-ok bit_decoder (λ c. if c then path_decoder (limited_tree false (k + 1) m) else path_decoder
       (leaf (Some k))) h l)
 
-  digit-stop : (stop : Bool) (k m : ℕ) {s u : N} → Reads K bit_entry s (Ok stop) u
-      → Reads K (path_entry (limited_tree stop k (suc m))) s (Ok (Some k)) u
-  digit-stop true k m {u = u} h = rw (tree-true, path_entry-node)
-      (Reads-chain-ok bit_entry (λ c. if c then path_entry (leaf (Some k)) else path_entry
-      (limited_tree true (k + 1) m)) h (rw path_entry-leaf (Reads-gives (Some k) u)))
-  digit-stop false k m {u = u} h = rw (tree-false, path_entry-node)
-      (Reads-chain-ok bit_entry (λ c. if c then path_entry (limited_tree false (k + 1) m) else path_entry
-      (leaf (Some k))) h (rw path_entry-leaf (Reads-gives (Some k) u)))
+  digit-stop : (stop : Bool) (k m : ℕ) {s u : N} → Reads K bit_decoder s (Ok stop) u
+      → Reads K (path_decoder (limited_tree stop k (suc m))) s (Ok (Some k)) u
+  digit-stop true k m {u = u} h = rw (tree-true, path_decoder-node)
+      (Reads-and_then-ok bit_decoder (λ c. if c then path_decoder (leaf (Some k)) else path_decoder
+      (limited_tree true (k + 1) m)) h (rw path_decoder-leaf (Reads-pure (Some k) u)))
+  digit-stop false k m {u = u} h = rw (tree-false, path_decoder-node)
+      (Reads-and_then-ok bit_decoder (λ c. if c then path_decoder (limited_tree false (k + 1) m) else path_decoder
+      (leaf (Some k))) h (rw path_decoder-leaf (Reads-pure (Some k) u)))
 
   digit-refused : (stop : Bool) (k m : ℕ) {x : Error} (r : Result (Option ℕ) Error) {s u : N} → IsErrAnd r (λ y. y ≡ x)
-      → Reads K bit_entry s (Err x) u → Reads K (path_entry (limited_tree stop k (suc m))) s r u
-  digit-refused true k m r e h = rw (tree-true, path_entry-node)
-      (exit (λ c. if c then path_entry (leaf (Some k)) else path_entry (limited_tree true (k + 1) m)) r e h)
-  digit-refused false k m r e h = rw (tree-false, path_entry-node)
-      (exit (λ c. if c then path_entry (limited_tree false (k + 1) m) else path_entry (leaf (Some k))) r e h)
+      → Reads K bit_decoder s (Err x) u → Reads K (path_decoder (limited_tree stop k (suc m))) s r u
+  digit-refused true k m r e h = rw (tree-true, path_decoder-node)
+      (exit (λ c. if c then path_decoder (leaf (Some k)) else path_decoder (limited_tree true (k + 1) m)) r e h)
+  digit-refused false k m r e h = rw (tree-false, path_decoder-node)
+      (exit (λ c. if c then path_decoder (limited_tree false (k + 1) m) else path_decoder (leaf (Some k))) r e h)
 
 -- k digits were read, and what is read from there on is the answer
 pub record Counting {N : Type 0} (K : BitSource N) (stop : Bool) (most : ℕ) (from : N) (k : ℕ) (to : N) : Type 0 where
-  pub on : (r : Result (Option ℕ) Error) (z : N) → Reads K (path_entry (limited_tree stop k (most - k))) to r z
-      → Reads K (path_entry (limited_tree stop 0 most)) from r z
+  pub on : (r : Result (Option ℕ) Error) (z : N) → Reads K (path_decoder (limited_tree stop k (most - k))) to r z
+      → Reads K (path_decoder (limited_tree stop 0 most)) from r z
 
 module _ {N : Type 0} {K : BitSource N} {stop : Bool} {most : ℕ} {from : N} where
   pub Counting-start : Counting K stop most from 0 from
   Counting-start = record { on = λ r z h. let all : most - 0 ≡ most = omega arith in rw all at h }
 
   pub Counting-more : {k : ℕ} {to m : N} → Counting K stop most from k to → k < most
-      → Reads K bit_entry to (Ok (not stop)) m → Counting K stop most from (k + 1) m
+      → Reads K bit_decoder to (Ok (not stop)) m → Counting K stop most from (k + 1) m
   Counting-more {k = k} {to = to} h less d = record {
-    on = λ r z l. h.on r z (subst (λ i. Reads K (path_entry (limited_tree stop k i)) to r z) (sym (left most k less))
+    on = λ r z l. h.on r z (subst (λ i. Reads K (path_decoder (limited_tree stop k i)) to r z) (sym (left most k less))
         (digit-more stop k (most - (k + 1)) r d l));
   }
 
-  pub Counting-stop : {k : ℕ} {to m : N} → Counting K stop most from k to → k < most → Reads K bit_entry to (Ok stop) m
-      → Reads K (path_entry (limited_tree stop 0 most)) from (Ok (Some k)) m
+  pub Counting-stop : {k : ℕ} {to m : N} → Counting K stop most from k to → k < most → Reads K bit_decoder to (Ok stop) m
+      → Reads K (path_decoder (limited_tree stop 0 most)) from (Ok (Some k)) m
   Counting-stop {k = k} {to = to} {m = m} h less d =
-      h.on (Ok (Some k)) m (subst (λ i. Reads K (path_entry (limited_tree stop k i)) to (Ok (Some k)) m)
+      h.on (Ok (Some k)) m (subst (λ i. Reads K (path_decoder (limited_tree stop k i)) to (Ok (Some k)) m)
       (sym (left most k less)) (digit-stop stop k (most - (k + 1)) d))
 
   pub Counting-refused : {k : ℕ} {to m : N} {x : Error} (r : Result (Option ℕ) Error) → Counting K stop most from k to
-      → k < most → IsErrAnd r (λ y. y ≡ x) → Reads K bit_entry to (Err x) m
-      → Reads K (path_entry (limited_tree stop 0 most)) from r m
+      → k < most → IsErrAnd r (λ y. y ≡ x) → Reads K bit_decoder to (Err x) m
+      → Reads K (path_decoder (limited_tree stop 0 most)) from r m
   Counting-refused {k = k} {to = to} {m = m} r h less e d =
-      h.on r m (subst (λ i. Reads K (path_entry (limited_tree stop k i)) to r m) (sym (left most k less))
+      h.on r m (subst (λ i. Reads K (path_decoder (limited_tree stop k i)) to r m) (sym (left most k less))
       (digit-refused stop k (most - (k + 1)) r e d))
 
   pub Counting-end : {k : ℕ} {to : N} → Counting K stop most from k to → k ≡ most
-      → Reads K (path_entry (limited_tree stop 0 most)) from (Ok None) to
+      → Reads K (path_decoder (limited_tree stop 0 most)) from (Ok None) to
   Counting-end {k = k} {to = to} h all =
       let none : most - k ≡ 0 = omega arith in
-      h.on (Ok None) to (rw (none, tree-end, path_entry-leaf) (Reads-gives None to))
+      h.on (Ok None) to (rw (none, tree-end, path_decoder-leaf) (Reads-pure None to))
 
 -- ---- writing
 

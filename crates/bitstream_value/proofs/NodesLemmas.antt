@@ -9,7 +9,7 @@ use Rattle.std.proofs.Math.Seq.{take-length}
 use Rattle.std.proofs.lemmas.Option.{cond_some, slice_get-map, slice_get_read, slice_get_within}
 use Rattle.bitstream_value.specs.Tree.{Tree, leaf, node, first_path, symbol_word}
 use Rattle.bitstream_value.specs.HuffmanTree.{value_of, nodes_of, tree_of}
-use Rattle.bitstream_value.specs.Nodes.{both, nodes_tree, tree_behind, tree_between, moved, FitsMoved, Joined, HasSymbol, IsFirstPlace, FindsFirst}
+use Rattle.bitstream_value.specs.Nodes.{both, nodes_tree, tree_behind, tree_between, shift_node, FitsShifted, Joined, HasSymbol, IsFirstPlace, FindsFirst}
 use Rattle.bitstream_value.specs.declared.huffman.tree.HuffmanTree.{HuffmanTree}
 use Rattle.bitstream_value.specs.declared.huffman.tree.Node.{Node}
 use Rattle.bitstream_value.specs.declared.huffman.tree.Node.TheVariants.{Leaf, Branch}
@@ -192,15 +192,15 @@ nodes_of-some code = Stands-some (nodes_of code) (tree_of code) 0 (length (nodes
 -- ---- the nodes of two trees in one list
 
 -- the first k of the nodes that are put behind others
-pub length-moved : {S : Type 0} (xs ys zs : List (Node S)) (n k : ℕ) → zs ≡ xs ++ map (moved n) (take k ys)
+pub length-moved : {S : Type 0} (xs ys zs : List (Node S)) (n k : ℕ) → zs ≡ xs ++ map (shift_node n) (take k ys)
     → k ≤ length ys → length zs ≡ length xs + k
 length-moved xs ys zs n k e le =
-    ap length e ∙ length-append xs (map (moved n) (take k ys))
-    ∙ ap (λ i. length xs + i) (length-map (take k ys) (moved n) ∙ length-take-le k ys le)
+    ap length e ∙ length-append xs (map (shift_node n) (take k ys))
+    ∙ ap (λ i. length xs + i) (length-map (take k ys) (shift_node n) ∙ length-take-le k ys le)
 
-pub moved-all : {S : Type 0} (xs ys zs : List (Node S)) (n k : ℕ) → zs ≡ xs ++ map (moved n) (take k ys) → k ≡ length ys
-    → zs ≡ xs ++ map (moved n) ys
-moved-all xs ys zs n k e all = e ∙ ap (λ us. xs ++ map (moved n) us) (ap (λ i. take i ys) all ∙ take-length ys)
+pub moved-all : {S : Type 0} (xs ys zs : List (Node S)) (n k : ℕ) → zs ≡ xs ++ map (shift_node n) (take k ys) → k ≡ length ys
+    → zs ≡ xs ++ map (shift_node n) ys
+moved-all xs ys zs n k e all = e ∙ ap (λ us. xs ++ map (shift_node n) us) (ap (λ i. take i ys) all ∙ take-length ys)
 
 Stands-kept : {S : Type 0} (xs ys : List (Node S)) (t : Tree S) (low end : ℕ) → Stands xs t low end
     → Stands (xs ++ ys) t low end
@@ -219,12 +219,12 @@ Stands-kept xs ys (node a b) low end h =
     }
 
 get-moved : {S : Type 0} (xs ys : List (Node S)) (k n : ℕ) (x : Node S) → k + length xs ≡ n → slice_get ys k ≡ Some x
-    → slice_get (xs ++ map (moved (length xs)) ys) n ≡ Some (moved (length xs) x)
-get-moved xs ys k n x place e = get-right xs (map (moved (length xs)) ys) k n place
-    ∙ slice_get-map (moved (length xs)) ys k ∙ ap (option_map (moved (length xs))) e
+    → slice_get (xs ++ map (shift_node (length xs)) ys) n ≡ Some (shift_node (length xs) x)
+get-moved xs ys k n x place e = get-right xs (map (shift_node (length xs)) ys) k n place
+    ∙ slice_get-map (shift_node (length xs)) ys k ∙ ap (option_map (shift_node (length xs))) e
 
 Stands-moved : {S : Type 0} (xs ys : List (Node S)) (t : Tree S) (low end : ℕ) → Stands ys t low end
-    → Stands (xs ++ map (moved (length xs)) ys) t (low + length xs) (end + length xs)
+    → Stands (xs ++ map (shift_node (length xs)) ys) t (low + length xs) (end + length xs)
 Stands-moved xs ys (leaf x) low end h = (
   let e = h.0 in omega arith,
   get-moved xs ys low (low + length xs) (Leaf x) refl h.1,
@@ -233,7 +233,7 @@ Stands-moved xs ys (node a b) low end h =
     let z = h.zero_root in
     let o = h.one_root in
     let n = length xs in
-    let zs = xs ++ map (moved (length xs)) ys in
+    let zs = xs ++ map (shift_node (length xs)) ys in
     let some : 0 < end = omega (arith, Stands-some ys (node a b) low end h) in
     record {
       zero_root = z + n;
@@ -269,11 +269,11 @@ get-end : {A : Type 0} (xs : List A) (x : A) → slice_get (xs ++ x ∷ []) (len
 get-end xs x = get-right xs (x ∷ []) 0 (length xs) (omega arith)
 
 nodes_of-end : {S : Type 0} (xs ys : List (Node S)) (z o : ℕ)
-    → slice_get ((xs ++ map (moved (length xs)) ys) ++ Branch z o ∷ []) (length xs + length ys) ≡ Some (Branch z o)
+    → slice_get ((xs ++ map (shift_node (length xs)) ys) ++ Branch z o ∷ []) (length xs + length ys) ≡ Some (Branch z o)
 nodes_of-end xs ys z o =
-    let zs = xs ++ map (moved (length xs)) ys in
-    let size : length zs ≡ length xs + length ys = length-append xs (map (moved (length xs)) ys)
-    ∙ ap (λ n. length xs + n) (length-map ys (moved (length xs))) in
+    let zs = xs ++ map (shift_node (length xs)) ys in
+    let size : length zs ≡ length xs + length ys = length-append xs (map (shift_node (length xs)) ys)
+    ∙ ap (λ n. length xs + n) (length-map ys (shift_node (length xs))) in
     subst (λ n. slice_get (zs ++ Branch z o ∷ []) n ≡ Some (Branch z o)) size (get-end zs (Branch z o))
 
 -- the nodes of two trees, one behind the other, with a branch behind both
@@ -283,20 +283,20 @@ pub record Joins {S : Type 0} (xs ys : List (Node S)) (t u : Tree S) : Type 0 wh
 
 module _ {S : Type 0} (xs ys : List (Node S)) (t u : Tree S) (h : Joins xs ys t u) (z o : ℕ) where
   whole : List (Node S)
-  whole = (xs ++ map (moved (length xs)) ys) ++ Branch z o ∷ []
+  whole = (xs ++ map (shift_node (length xs)) ys) ++ Branch z o ∷ []
 
   first_side : (end : ℕ) → length xs ≡ end → Stands whole t 0 end
   unfolding whole
   first_side end e =
       Stands-at whole t 0 (length xs) 0 end refl e
-      (Stands-kept (xs ++ map (moved (length xs)) ys) (Branch z o ∷ []) t 0 (length xs)
-      (Stands-kept xs (map (moved (length xs)) ys) t 0 (length xs) h.first))
+      (Stands-kept (xs ++ map (shift_node (length xs)) ys) (Branch z o ∷ []) t 0 (length xs)
+      (Stands-kept xs (map (shift_node (length xs)) ys) t 0 (length xs) h.first))
 
   second_side : (low end : ℕ) → length xs ≡ low → length ys + length xs ≡ end → Stands whole u low end
   unfolding whole
   second_side low end p q =
       Stands-at whole u (0 + length xs) (length ys + length xs) low end (omega arith) q
-      (Stands-kept (xs ++ map (moved (length xs)) ys) (Branch z o ∷ []) u (0 + length xs) (length ys + length xs)
+      (Stands-kept (xs ++ map (shift_node (length xs)) ys) (Branch z o ∷ []) u (0 + length xs) (length ys + length xs)
       (Stands-moved xs ys u 0 (length ys) h.second))
 
   root-at : (end : ℕ) → end ≡ length xs + length ys + 1 → slice_get whole (end - 1) ≡ Some (Branch z o)
@@ -306,7 +306,7 @@ module _ {S : Type 0} (xs ys : List (Node S)) (t u : Tree S) (h : Joins xs ys t 
       rw place (nodes_of-end xs ys z o)
 
   pub zero-first : z + 1 ≡ length xs → o + 1 ≡ length xs + length ys
-      → Stands ((xs ++ map (moved (length xs)) ys) ++ Branch z o ∷ []) (node t u) 0 (length xs + length ys + 1)
+      → Stands ((xs ++ map (shift_node (length xs)) ys) ++ Branch z o ∷ []) (node t u) 0 (length xs + length ys + 1)
   unfolding whole
   zero-first p q =
       let some = Stands-some ys u 0 (length ys) h.second in
@@ -323,7 +323,7 @@ module _ {S : Type 0} (xs ys : List (Node S)) (t u : Tree S) (h : Joins xs ys t 
       }
 
   pub one-first : o + 1 ≡ length xs → z + 1 ≡ length xs + length ys
-      → Stands ((xs ++ map (moved (length xs)) ys) ++ Branch z o ∷ []) (node u t) 0 (length xs + length ys + 1)
+      → Stands ((xs ++ map (shift_node (length xs)) ys) ++ Branch z o ∷ []) (node u t) 0 (length xs + length ys + 1)
   unfolding whole
   one-first p q = record {
     zero_root = z;
@@ -347,18 +347,18 @@ module _ {S A : Type 0} (first second : HuffmanTree S A) (nodes : List (Node S))
       ≡ length (nodes_of first) + length (nodes_of second) + 1
   size-with ys x e =
       ap length e ∙ length-append nodes (x ∷ []) ∙ ap (λ zs. length zs + 1) h.nodes_are
-      ∙ ap (λ i. i + 1) (length-append (nodes_of first) (map (moved (length (nodes_of first))) (nodes_of second))
-      ∙ ap (λ i. length (nodes_of first) + i) (length-map (nodes_of second) (moved (length (nodes_of first)))))
+      ∙ ap (λ i. i + 1) (length-append (nodes_of first) (map (shift_node (length (nodes_of first))) (nodes_of second))
+      ∙ ap (λ i. length (nodes_of first) + i) (length-map (nodes_of second) (shift_node (length (nodes_of first)))))
 
   whole-is : (ys : List (Node S)) (x : Node S) → ys ≡ nodes ++ x ∷ [] → ys
-      ≡ (nodes_of first ++ map (moved (length (nodes_of first))) (nodes_of second)) ++ x ∷ []
+      ≡ (nodes_of first ++ map (shift_node (length (nodes_of first))) (nodes_of second)) ++ x ∷ []
   whole-is ys x e = e ∙ ap (λ zs. zs ++ x ∷ []) h.nodes_are
 
   -- the first nodes_of is that of the side of 0
   pub joined-zero : (ys : List (Node S)) → ys ≡ nodes ++ Branch m n ∷ []
       → Stands ys (node (tree_of first) (tree_of second)) 0 (length ys)
   joined-zero ys e =
-      let whole = (nodes_of first ++ map (moved (length (nodes_of first))) (nodes_of second)) ++ Branch m n ∷ [] in
+      let whole = (nodes_of first ++ map (shift_node (length (nodes_of first))) (nodes_of second)) ++ Branch m n ∷ [] in
       subst (λ (zs : List (Node S)). Stands zs (node (tree_of first) (tree_of second)) 0 (length ys))
       (sym (whole-is ys (Branch m n) e))
       (subst (λ i. Stands whole (node (tree_of first) (tree_of second)) 0 i) (sym (size-with ys (Branch m n) e))
@@ -369,7 +369,7 @@ module _ {S A : Type 0} (first second : HuffmanTree S A) (nodes : List (Node S))
   pub joined-one : (ys : List (Node S)) → ys ≡ nodes ++ Branch n m ∷ []
       → Stands ys (node (tree_of second) (tree_of first)) 0 (length ys)
   joined-one ys e =
-      let whole = (nodes_of first ++ map (moved (length (nodes_of first))) (nodes_of second)) ++ Branch n m ∷ [] in
+      let whole = (nodes_of first ++ map (shift_node (length (nodes_of first))) (nodes_of second)) ++ Branch n m ∷ [] in
       subst (λ (zs : List (Node S)). Stands zs (node (tree_of second) (tree_of first)) 0 (length ys))
       (sym (whole-is ys (Branch n m) e))
       (subst (λ i. Stands whole (node (tree_of second) (tree_of first)) 0 i) (sym (size-with ys (Branch n m) e))
@@ -417,7 +417,7 @@ places-below nodes (node a b) low end k z o h after below e =
 
 -- so its places are numbers of 64 bits where those of all nodes are, also further on
 pub fits-moved : {S A : Type 0} (code : HuffmanTree S A) (n k : ℕ) (x : Node S) → x ≡ get_or (nodes_of code) k x
-    → k < length (nodes_of code) → n + k < 2 ^ 64 → FitsMoved n x
+    → k < length (nodes_of code) → n + k < 2 ^ 64 → FitsShifted n x
 fits-moved code n k (Leaf x) is below small = tt
 fits-moved code n k (Branch z o) is below small =
     let there = slice_get_read (nodes_of code) (length (nodes_of code)) k (Branch z o) refl below is in

@@ -7,15 +7,15 @@ use Rattle.std.proofs.lemmas.Bool.{lt-ltb, le-ltb}
 use Rattle.std.proofs.lemmas.Nat.{pow-add}
 use Rattle.bitstream_count.specs.declared.error.Error.{Error}
 use Rattle.bitstream_count.specs.declared.error.Error.TheVariants.{NonZeroWidth, VariableWidthOverflow}
-use Rattle.bitstream_count.specs.Entry.{refuses, gives}
+use Rattle.bitstream_count.specs.Codec.{fail, pure}
 use Rattle.bitstream_number.specs.Word.{Order}
-use Rattle.bitstream_stream.specs.Reading.ReadTable.{unsigned_entry, vbr_entry}
+use Rattle.bitstream_stream.specs.Reading.ReadTable.{unsigned_decoder, vbr_decoder}
 use Rattle.bitstream_stream.specs.Reading.Reads.{BitSource, Reads}
 use Rattle.bitstream_stream.specs.Writing.Sink.{Sink, WritesAll, Writes}
 use Rattle.bitstream_stream.specs.Writing.WriteTable.{unsigned}
-use Rattle.bitstream_stream.proofs.Reading.ReadsLemmas.{Reads-chain-ok, Reads-chain-err, Reads-gives, exit}
+use Rattle.bitstream_stream.proofs.Reading.ReadsLemmas.{Reads-and_then-ok, Reads-and_then-err, Reads-pure, exit}
 use Rattle.bitstream_stream.proofs.Reading.VbrReads.{limit-stops, limit-holds, limit-passed}
-use Rattle.bitstream_value.specs.NonZero.{non_zero_entry, non_zero, non_zero_vbr_entry, if_any, option_entry, option_vbr_entry}
+use Rattle.bitstream_value.specs.NonZero.{non_zero_decoder, non_zero, non_zero_vbr_decoder, if_any, option_decoder, option_vbr_decoder}
 
 module _ {A : Type 0} (after : ℕ → A) where
   -- the value of a number, or none of 0
@@ -29,72 +29,72 @@ module _ {A : Type 0} (after : ℕ → A) where
 
 module _ {A : Type 0} (after : ℕ → A) {R : Type 0} {K : BitSource R} where
   pub non_zero-stops : (o : Order) (size n : ℕ) {x : Error} {r : Result A Error} {s t : R} → n < size
-      → IsErrAnd r (λ y. y ≡ x) → Reads K (unsigned_entry o size n) s (Err x) t
-      → Reads K (non_zero_entry after o size n) s r t
-  unfolding non_zero_entry
-  non_zero-stops o size n {r = r} less h k = rw (lt-ltb n size less) (exit (λ v. gives (after v)) r h k)
+      → IsErrAnd r (λ y. y ≡ x) → Reads K (unsigned_decoder o size n) s (Err x) t
+      → Reads K (non_zero_decoder after o size n) s r t
+  unfolding non_zero_decoder
+  non_zero-stops o size n {r = r} less h k = rw (lt-ltb n size less) (exit (λ v. pure (after v)) r h k)
 
   pub non_zero-was_done : (o : Order) (size n v : ℕ) (a : A) {s t : R} → n < size → after v ≡ a
-      → Reads K (unsigned_entry o size n) s (Ok v) t → Reads K (non_zero_entry after o size n) s (Ok a) t
-  unfolding non_zero_entry
+      → Reads K (unsigned_decoder o size n) s (Ok v) t → Reads K (non_zero_decoder after o size n) s (Ok a) t
+  unfolding non_zero_decoder
   non_zero-was_done o size n v a {s = s} {t = t} less is h =
-      rw (lt-ltb n size less, ← is) (Reads-chain-ok _ (λ k. gives (after k)) h (Reads-gives (after v) t))
+      rw (lt-ltb n size less, ← is) (Reads-and_then-ok _ (λ k. pure (after k)) h (Reads-pure (after v) t))
 
   pub non_zero-refused : (o : Order) (size n : ℕ) {r : Result A Error} {s t : R} → size ≤ n
-      → Reads K (refuses NonZeroWidth) s r t → Reads K (non_zero_entry after o size n) s r t
-  unfolding non_zero_entry
+      → Reads K (fail NonZeroWidth) s r t → Reads K (non_zero_decoder after o size n) s r t
+  unfolding non_zero_decoder
   non_zero-refused o size n wide h = rw (le-ltb n size wide) h
 
   pub option-stops : (o : Order) (size n : ℕ) {x : Error} {r : Result (Option A) Error} {s t : R}
-      → IsErrAnd r (λ y. y ≡ x) → Reads K (unsigned_entry o size n) s (Err x) t
-      → Reads K (option_entry after o size n) s r t
-  unfolding option_entry
-  option-stops o size n {r = r} h k = exit (λ v. gives (if_any after v)) r h k
+      → IsErrAnd r (λ y. y ≡ x) → Reads K (unsigned_decoder o size n) s (Err x) t
+      → Reads K (option_decoder after o size n) s r t
+  unfolding option_decoder
+  option-stops o size n {r = r} h k = exit (λ v. pure (if_any after v)) r h k
 
   pub option-was_done : (o : Order) (size n v : ℕ) (x : Option A) {s t : R} → if_any after v ≡ x
-      → Reads K (unsigned_entry o size n) s (Ok v) t → Reads K (option_entry after o size n) s (Ok x) t
-  unfolding option_entry
+      → Reads K (unsigned_decoder o size n) s (Ok v) t → Reads K (option_decoder after o size n) s (Ok x) t
+  unfolding option_decoder
   option-was_done o size n v x {s = s} {t = t} is h = rw (← is)
-      (Reads-chain-ok _ (λ k. gives (if_any after k)) h (Reads-gives (if_any after v) t))
+      (Reads-and_then-ok _ (λ k. pure (if_any after k)) h (Reads-pure (if_any after v) t))
 
   -- ---- in groups
 
   pub non_zero_vbr-stops : (o : Order) (field size : ℕ) {x : Error} {r : Result A Error} {s t : R}
-      → IsErrAnd r (λ y. y ≡ x) → Reads K (vbr_entry o field size (2 ^ size)) s (Err x) t
-      → Reads K (non_zero_vbr_entry after o field size) s r t
-  unfolding non_zero_vbr_entry
+      → IsErrAnd r (λ y. y ≡ x) → Reads K (vbr_decoder o field size (2 ^ size)) s (Err x) t
+      → Reads K (non_zero_vbr_decoder after o field size) s r t
+  unfolding non_zero_vbr_decoder
   non_zero_vbr-stops o field size {x = x} {r = r} h k =
-      exit (λ v. gives (after v)) r h (limit-stops true o field size (2 ^ size - 1) (2 ^ size) (omega arith) x k)
+      exit (λ v. pure (after v)) r h (limit-stops true o field size (2 ^ size - 1) (2 ^ size) (omega arith) x k)
 
   pub non_zero_vbr-was_done : (o : Order) (field size v : ℕ) (a : A) {s t : R} → v + 1 < 2 ^ size → after v ≡ a
-      → Reads K (vbr_entry o field size (2 ^ size)) s (Ok v) t
-      → Reads K (non_zero_vbr_entry after o field size) s (Ok a) t
-  unfolding non_zero_vbr_entry
+      → Reads K (vbr_decoder o field size (2 ^ size)) s (Ok v) t
+      → Reads K (non_zero_vbr_decoder after o field size) s (Ok a) t
+  unfolding non_zero_vbr_decoder
   non_zero_vbr-was_done o field size v a {s = s} {t = t} less is h =
-      rw (← is) (Reads-chain-ok _ (λ k. gives (after k))
+      rw (← is) (Reads-and_then-ok _ (λ k. pure (after k))
       (limit-holds true o field size (2 ^ size - 1) (2 ^ size) (omega arith) v (omega arith) h)
-      (Reads-gives (after v) t))
+      (Reads-pure (after v) t))
 
   -- the greatest number has none after it
   pub non_zero_vbr-overflows : (o : Order) (field size v : ℕ) {s t : R} → v ≡ 2 ^ size - 1
-      → Reads K (vbr_entry o field size (2 ^ size)) s (Ok v) t
-      → Reads K (non_zero_vbr_entry after o field size) s (Err VariableWidthOverflow) t
-  unfolding non_zero_vbr_entry
-  non_zero_vbr-overflows o field size v is h = Reads-chain-err _ (λ k. gives (after k))
+      → Reads K (vbr_decoder o field size (2 ^ size)) s (Ok v) t
+      → Reads K (non_zero_vbr_decoder after o field size) s (Err VariableWidthOverflow) t
+  unfolding non_zero_vbr_decoder
+  non_zero_vbr-overflows o field size v is h = Reads-and_then-err _ (λ k. pure (after k))
       (limit-passed true o field size (2 ^ size - 1) (2 ^ size) (omega arith) v (omega arith) h)
 
   pub option_vbr-stops : (o : Order) (field size : ℕ) {x : Error} {r : Result (Option A) Error} {s t : R}
-      → IsErrAnd r (λ y. y ≡ x) → Reads K (vbr_entry o field size (2 ^ size)) s (Err x) t
-      → Reads K (option_vbr_entry after o field size) s r t
-  unfolding option_vbr_entry
-  option_vbr-stops o field size {r = r} h k = exit (λ v. gives (if_any after v)) r h k
+      → IsErrAnd r (λ y. y ≡ x) → Reads K (vbr_decoder o field size (2 ^ size)) s (Err x) t
+      → Reads K (option_vbr_decoder after o field size) s r t
+  unfolding option_vbr_decoder
+  option_vbr-stops o field size {r = r} h k = exit (λ v. pure (if_any after v)) r h k
 
   pub option_vbr-was_done : (o : Order) (field size v : ℕ) (x : Option A) {s t : R} → if_any after v ≡ x
-      → Reads K (vbr_entry o field size (2 ^ size)) s (Ok v) t
-      → Reads K (option_vbr_entry after o field size) s (Ok x) t
-  unfolding option_vbr_entry
+      → Reads K (vbr_decoder o field size (2 ^ size)) s (Ok v) t
+      → Reads K (option_vbr_decoder after o field size) s (Ok x) t
+  unfolding option_vbr_decoder
   option_vbr-was_done o field size v x {s = s} {t = t} is h =
-      rw (← is) (Reads-chain-ok _ (λ k. gives (if_any after k)) h (Reads-gives (if_any after v) t))
+      rw (← is) (Reads-and_then-ok _ (λ k. pure (if_any after k)) h (Reads-pure (if_any after v) t))
 
 -- a number of fewer bits than the type has is not its greatest
 pub next_fits : (n size v : ℕ) → n < size → v < 2 ^ n → v + 1 < 2 ^ size

@@ -8,12 +8,12 @@ use Rattle.std.specs.Int.{Width}
 use Rattle.std.specs.Result.{IsErrAnd, result_from_control_flow}
 use Rattle.std.specs.declared.ops.ControlFlow.{ControlFlow}
 use Rattle.bitstream_count.specs.declared.error.Error.{Error}
-use Rattle.bitstream_count.specs.Entry.{ReadEntry, WriteEntry, chain, gives}
+use Rattle.bitstream_count.specs.Codec.{Decoder, Encoder, and_then, pure}
 use Rattle.bitstream_number.specs.Word.{Order}
 use Rattle.bitstream_stream.specs.Reading.Reads.{BitSource, Reads}
-use Rattle.bitstream_stream.specs.Reading.ReadTable.{signed_entry}
+use Rattle.bitstream_stream.specs.Reading.ReadTable.{signed_decoder}
 use Rattle.bitstream_stream.specs.Writing.Sink.{Sink, Writes, WritesAll}
-use Rattle.bitstream_stream.proofs.Reading.ReadsLemmas.{Reads-chain-ok, Reads-chain-err, Reads-gives}
+use Rattle.bitstream_stream.proofs.Reading.ReadsLemmas.{Reads-and_then-ok, Reads-and_then-err, Reads-pure}
 use Rattle.bitstream_stream.proofs.Writing.WriteParts.{all_none, all_err, all_more, one_of_all}
 use Rattle.bitstream_value.specs.Own.{OwnAnswer, ReadsOwn, WritesOwn, part_then}
 use Rattle.bitstream_stream.specs.Writing.WriteTable.{signed}
@@ -24,89 +24,89 @@ use Rattle.bitstream_value.proofs.WriteSteps.{signed_call, signed_value}
 -- ---- reads
 
 -- a read whose answer a `?` looked at, and what follows it, or the end
-module _ {R A B E : Type 0} {K : BitSource R} {becomes : Error → E → Type 0} {e : ReadEntry A} (f : A
-    → ReadEntry (Result B E)) {r : Result B E} {s t : R} {answer : Result A Error} {flow : ControlFlow _ A} where
+module _ {R A B E : Type 0} {K : BitSource R} {becomes : Error → E → Type 0} {e : Decoder A} (f : A
+    → Decoder (Result B E)) {r : Result B E} {s t : R} {answer : Result A Error} {flow : ControlFlow _ A} where
   pub then_own_read : {z : R} {a : A} → Reads K e s answer t → answer ≡ result_from_control_flow flow → flow
-      ≡ Continue a → ReadsOwn K becomes (f a) t r z → ReadsOwn K becomes (chain e f) s r z
+      ≡ Continue a → ReadsOwn K becomes (f a) t r z → ReadsOwn K becomes (and_then e f) s r z
   then_own_read h p q k = record {
     plain = k.plain;
     called =
-        Reads-chain-ok e f (subst (λ x. Reads K e s x t) (p ∙ ap result_from_control_flow q) h) k.called;
+        Reads-and_then-ok e f (subst (λ x. Reads K e s x t) (p ∙ ap result_from_control_flow q) h) k.called;
     answer =
         k.answer;
   }
 
   pub end_own_read : {x : _} → Reads K e s answer t → answer ≡ result_from_control_flow flow → flow ≡ Break x
-      → IsErrAnd r (becomes x.0) → ReadsOwn K becomes (chain e f) s r t
+      → IsErrAnd r (becomes x.0) → ReadsOwn K becomes (and_then e f) s r t
   end_own_read {x = x} h p q k = record {
     plain = Err x.0;
     called =
-        Reads-chain-err e f (subst (λ y. Reads K e s y t) (p ∙ ap result_from_control_flow q) h);
+        Reads-and_then-err e f (subst (λ y. Reads K e s y t) (p ∙ ap result_from_control_flow q) h);
     answer = k;
   }
 
 -- a number of a signed type, which stands behind the read as what its bits say
 module _ {R B E : Type 0} {K : BitSource R} {becomes : Error → E → Type 0} (o : Order) (size n : ℕ) (f : ℤ
-    → ReadEntry (Result B E)) {r : Result B E} {s t z : R} {x : ℤ} where
-  pub then_own_signed : {answer : Result ℤ Error} {flow : ControlFlow _ ℤ} → Reads K (signed_entry o size n) s answer t
+    → Decoder (Result B E)) {r : Result B E} {s t z : R} {x : ℤ} where
+  pub then_own_signed : {answer : Result ℤ Error} {flow : ControlFlow _ ℤ} → Reads K (signed_decoder o size n) s answer t
       → answer ≡ result_from_control_flow flow → flow ≡ Continue x → SFits (width_of size) x
       → ReadsOwn K becomes (f (to_z (width_of size) (of_z (width_of size) x))) t r z
-      → ReadsOwn K becomes (chain (signed_entry o size n) f) s r z
+      → ReadsOwn K becomes (and_then (signed_decoder o size n) f) s r z
   then_own_signed h p q fits k = then_own_read f h p q (subst (λ y. ReadsOwn K becomes (f y) t r z) (to_z-of_z _ x fits)
       k)
 
 -- a part that has the same errors of its own
-pub part_stops : {R A B E : Type 0} {K : BitSource R} {becomes : Error → E → Type 0} {e : ReadEntry (Result A E)} (f : A
-    → ReadEntry (Result B E)) {r : Result B E} {s t : R} (error : E) (plain : Result (Result A E) Error)
+pub part_stops : {R A B E : Type 0} {K : BitSource R} {becomes : Error → E → Type 0} {e : Decoder (Result A E)} (f : A
+    → Decoder (Result B E)) {r : Result B E} {s t : R} (error : E) (plain : Result (Result A E) Error)
     → r ≡ Err error → Reads K e s plain t → OwnAnswer becomes (λ x. x) plain (Err error)
-    → ReadsOwn K becomes (chain e (part_then f)) s r t
+    → ReadsOwn K becomes (and_then e (part_then f)) s r t
 part_stops {K = K} {e = e} f {s = s} {t = t} error (Ok x) is h own =
     record {
       plain = Ok (Err error);
-      called = Reads-chain-ok e (part_then f)
-          (subst (λ y. Reads K e s (Ok y) t) (sym own) h) (Reads-gives (Err error) t);
+      called = Reads-and_then-ok e (part_then f)
+          (subst (λ y. Reads K e s (Ok y) t) (sym own) h) (Reads-pure (Err error) t);
       answer = is;
     }
 part_stops {becomes = becomes} {e = e} f error (Err x) is h own =
     record {
       plain = Err x;
-      called = Reads-chain-err e (part_then f) h;
+      called = Reads-and_then-err e (part_then f) h;
       answer =
           subst (λ y. IsErrAnd y (becomes x)) (sym is) own;
     }
 
-part_goes : {R A B E : Type 0} {K : BitSource R} {becomes : Error → E → Type 0} {e : ReadEntry (Result A E)} (f : A
-    → ReadEntry (Result B E)) {r : Result B E} {s t z : R} (a : A) (plain : Result (Result A E) Error)
+part_goes : {R A B E : Type 0} {K : BitSource R} {becomes : Error → E → Type 0} {e : Decoder (Result A E)} (f : A
+    → Decoder (Result B E)) {r : Result B E} {s t z : R} (a : A) (plain : Result (Result A E) Error)
     → Reads K e s plain t → OwnAnswer becomes (λ x. x) plain (Ok a) → ReadsOwn K becomes (f a) t r z
-    → ReadsOwn K becomes (chain e (part_then f)) s r z
+    → ReadsOwn K becomes (and_then e (part_then f)) s r z
 part_goes {K = K} {e = e} f {s = s} {t = t} a (Ok x) h own k =
     record {
       plain = k.plain;
-      called = Reads-chain-ok e (part_then f) (subst (λ y. Reads K e s (Ok y) t) (sym own) h)
+      called = Reads-and_then-ok e (part_then f) (subst (λ y. Reads K e s (Ok y) t) (sym own) h)
           k.called;
       answer = k.answer;
     }
 part_goes f a (Err x) h own k = absurd own
 
-module _ {R A B E : Type 0} {K : BitSource R} {becomes : Error → E → Type 0} {e : ReadEntry (Result A E)} (f : A
-    → ReadEntry (Result B E)) {r : Result B E} {s t : R} {answer : Result A E} {flow : ControlFlow _ A} where
+module _ {R A B E : Type 0} {K : BitSource R} {becomes : Error → E → Type 0} {e : Decoder (Result A E)} (f : A
+    → Decoder (Result B E)) {r : Result B E} {s t : R} {answer : Result A E} {flow : ControlFlow _ A} where
   pub then_part : {z : R} {a : A} → ReadsOwn K becomes e s answer t → answer ≡ result_from_control_flow flow → flow
-      ≡ Continue a → ReadsOwn K becomes (f a) t r z → ReadsOwn K becomes (chain e (part_then f)) s r z
+      ≡ Continue a → ReadsOwn K becomes (f a) t r z → ReadsOwn K becomes (and_then e (part_then f)) s r z
   then_part {a = a} h p q k = let there = subst (λ x. ReadsOwn K becomes e s x t) (p ∙ ap result_from_control_flow q) h
       in part_goes f a there.plain there.called there.answer k
 
   pub end_part : {x : _} → ReadsOwn K becomes e s answer t → answer ≡ result_from_control_flow flow → flow ≡ Break x
-      → IsErrAnd r (λ y. y ≡ x.0) → ReadsOwn K becomes (chain e (part_then f)) s r t
+      → IsErrAnd r (λ y. y ≡ x.0) → ReadsOwn K becomes (and_then e (part_then f)) s r t
   end_part {x = x} h p q k = let there = subst (λ y. ReadsOwn K becomes e s y t) (p ∙ ap result_from_control_flow q) h
       in part_stops f x.0 there.plain (is_error r x.0 k) there.called there.answer
 
 -- the answer behind all reads: a value, or an error of the type's own
 pub own_end : {R A E : Type 0} {K : BitSource R} {becomes : Error → E → Type 0} (r : Result A E) (s : R)
-    → ReadsOwn K becomes (gives r) s r s
-own_end r s = record { plain = Ok r; called = Reads-gives r s; answer = refl }
+    → ReadsOwn K becomes (pure r) s r s
+own_end r s = record { plain = Ok r; called = Reads-pure r s; answer = refl }
 
 -- what is read if a condition holds, and if not
-module _ {R A E : Type 0} {K : BitSource R} {becomes : Error → E → Type 0} (x y : ReadEntry (Result A E))
+module _ {R A E : Type 0} {K : BitSource R} {becomes : Error → E → Type 0} (x y : Decoder (Result A E))
     {r : Result A E} {s t : R} where
   pub if_own : (b : Bool) → b ≡ true → ReadsOwn K becomes x s r t → ReadsOwn K becomes (if b then x else y) s r t
   if_own true is h = h
@@ -130,7 +130,7 @@ pub ruleset few_own_reads = (
 
 -- ---- writes
 
-module _ {S E : Type 0} (K : Sink S) (becomes : Error → E → Type 0) (e : WriteEntry) (es : List WriteEntry)
+module _ {S E : Type 0} (K : Sink S) (becomes : Error → E → Type 0) (e : Encoder) (es : List Encoder)
     (own : Result (Unit {0}) E) (r : Result (Unit {0}) E) (s t : S) (answer : Result (Unit {0}) Error)
     (flow : ControlFlow _ (Unit {0})) where
   pub then_own_call : (z : S) → Writes K e s answer t → answer ≡ result_from_control_flow flow → flow ≡ Continue tt
@@ -163,7 +163,7 @@ module _ {S E : Type 0} (K : Sink S) (becomes : Error → E → Type 0) (e : Wri
 
 -- a number of a signed type, which a call has as what its bits say
 module _ {S E : Type 0} (K : Sink S) (becomes : Error → E → Type 0) (o : Order) (size n : ℕ) (w : Width) (x : ℤ)
-    (es : List WriteEntry) (own : Result (Unit {0}) E) (r : Result (Unit {0}) E) (s t : S)
+    (es : List Encoder) (own : Result (Unit {0}) E) (r : Result (Unit {0}) E) (s t : S)
     (answer : Result (Unit {0}) Error) (flow : ControlFlow _ (Unit {0})) where
   pub then_own_signed_call : (z : S) → Writes K (signed o size n (to_z w (of_z w x))) s answer t → SFits w x → answer
       ≡ result_from_control_flow flow → flow ≡ Continue tt → WritesOwn K becomes es own t r z

@@ -7,52 +7,52 @@ use Rattle.std.proofs.lemmas.List.{drop-append-le, drop-take, take-take, map-app
 use Rattle.bitstream_order.specs.Reference.{Reference}
 use Rattle.bitstream_count.specs.declared.error.Error.{Error}
 use Rattle.bitstream_count.specs.declared.error.Error.TheVariants.{EndOfInput}
-use Rattle.bitstream_count.specs.Entry.{ReadEntry, Front, TooFew, Takes, word_front, front_then, longer, chain, gives}
+use Rattle.bitstream_count.specs.Codec.{Decoder, Prefix, Incomplete, Done, word_prefix, prefix_then, advance, and_then, pure}
 use Rattle.bitstream_number.specs.Word.{Order, number, bits}
 use Rattle.bitstream_number.proofs.WordLemmas.{length-bits}
 use Rattle.bitstream_order.specs.Refusal.{TrueEnds}
-use Rattle.bitstream_stream.specs.Reading.ReadTable.{first_bit, unsigned_entry}
+use Rattle.bitstream_stream.specs.Reading.ReadTable.{first_bit, unsigned_decoder}
 use Rattle.bitstream_stream.specs.Reading.Reader.{new_reader_state}
 use Rattle.bitstream_stream.specs.Reading.Reads.{BitSource, Reads}
-use Rattle.bitstream_stream.proofs.Reading.EntryLemmas.{chain_takes, map_takes}
+use Rattle.bitstream_stream.proofs.Reading.CodecLemmas.{and_then_takes, map_takes}
 use Rattle.bitstream_stream.proofs.Reading.SliceLemmas.{new_answer}
 use Rattle.bitstream_stream.proofs.Reading.TableLemmas.{unsigned-takes}
-use Rattle.bitstream_value.specs.Array.{items_entry, words}
-use Rattle.bitstream_value.specs.NonZero.{non_zero_entry, if_any, option_entry}
-use Rattle.bitstream_value.specs.Boolean.{truth_entry}
+use Rattle.bitstream_value.specs.Array.{items_decoder, words}
+use Rattle.bitstream_value.specs.NonZero.{non_zero_decoder, if_any, option_decoder}
+use Rattle.bitstream_value.specs.Boolean.{truth_decoder}
 
 -- a call that takes a word of n bits, and answers g of it
-pub record IsWord {A : Type 0} (e : ReadEntry A) (n : ℕ) (g : List Bool → Result A Error) : Type 0 where
-  pub reads : (p : ℕ) (b : List Bool) → e.reads p b ≡ word_front n g b
+pub record IsWord {A : Type 0} (e : Decoder A) (n : ℕ) (g : List Bool → Result A Error) : Type 0 where
+  pub reads : (p : ℕ) (b : List Bool) → e.reads p b ≡ word_prefix n g b
 
 -- ---- which calls do
 
-pub unsigned-word : (o : Order) (size n : ℕ) → n ≤ size → IsWord (unsigned_entry o size n) n (λ w. Ok (number o w))
+pub unsigned-word : (o : Order) (size n : ℕ) → n ≤ size → IsWord (unsigned_decoder o size n) n (λ w. Ok (number o w))
 unsigned-word o size n le = rw (unsigned-takes o size n le) (record { reads = λ p b. refl })
 
-pub truth-word : IsWord (truth_entry 1) 1 (λ w. Ok (first_bit w))
-unfolding truth_entry
+pub truth-word : IsWord (truth_decoder 1) 1 (λ w. Ok (first_bit w))
+unfolding truth_decoder
 truth-word = record { reads = λ p b. refl }
 
 -- a word whose number is then changed
-pub mapped-word : {A B : Type 0} (e : ReadEntry A) (n : ℕ) (g : List Bool → A) (f : A → B) → IsWord e n (λ w. Ok (g w))
-    → IsWord (chain e (λ a. gives (f a))) n (λ w. Ok (f (g w)))
-unfolding chain
+pub mapped-word : {A B : Type 0} (e : Decoder A) (n : ℕ) (g : List Bool → A) (f : A → B) → IsWord e n (λ w. Ok (g w))
+    → IsWord (and_then e (λ a. pure (f a))) n (λ w. Ok (f (g w)))
+unfolding and_then
 mapped-word e n g f h = record {
   reads = λ p b. rw (h.reads p b)
       ((map_takes n g f (λ w. Ok (f (g w))) (λ w _. refl)).reads p b);
 }
 
 pub non_zero-word : {A : Type 0} (after : ℕ → A) (o : Order) (size n : ℕ) → n < size
-    → IsWord (non_zero_entry after o size n) n (λ w. Ok (after (number o w)))
-unfolding non_zero_entry
+    → IsWord (non_zero_decoder after o size n) n (λ w. Ok (after (number o w)))
+unfolding non_zero_decoder
 non_zero-word after o size n less = rw (lt-ltb n size less)
-    (mapped-word (unsigned_entry o size n) n (number o) after (unsigned-word o size n (omega arith)))
+    (mapped-word (unsigned_decoder o size n) n (number o) after (unsigned-word o size n (omega arith)))
 
 pub option-word : {A : Type 0} (after : ℕ → A) (o : Order) (size n : ℕ) → n ≤ size
-    → IsWord (option_entry after o size n) n (λ w. Ok (if_any after (number o w)))
-unfolding option_entry
-option-word after o size n le = mapped-word (unsigned_entry o size n) n (number o) (if_any after)
+    → IsWord (option_decoder after o size n) n (λ w. Ok (if_any after (number o w)))
+unfolding option_decoder
+option-word after o size n le = mapped-word (unsigned_decoder o size n) n (number o) (if_any after)
     (unsigned-word o size n le)
 
 -- ---- items
@@ -79,36 +79,36 @@ words-take n (suc k) b =
     ∙ drop-take n (k * n) b in
     rw (first, rest) (ap (λ l. take n b ∷ l) (words-take n k (drop n b)))
 
-front-same : {A B : Type 0} (x : Front A) (f h : ℕ → A → Front B) → ((n : ℕ) (a : A) → f n a ≡ h n a) → front_then x f
-    ≡ front_then x h
-front-same TooFew f h same = refl
-front-same (Takes n (Ok a)) f h same = ap (longer n) (same n a)
-front-same (Takes n (Err d)) f h same = refl
+prefix-same : {A B : Type 0} (x : Prefix A) (f h : ℕ → A → Prefix B) → ((n : ℕ) (a : A) → f n a ≡ h n a) → prefix_then x f
+    ≡ prefix_then x h
+prefix-same Incomplete f h same = refl
+prefix-same (Done n (Ok a)) f h same = ap (advance n) (same n a)
+prefix-same (Done n (Err d)) f h same = refl
 
 -- k items, each of which is a word, are one word
-pub items-word : {A : Type 0} {e : ReadEntry A} {n : ℕ} {g : List Bool → A} → IsWord e n (λ w. Ok (g w)) → (k : ℕ)
-    → IsWord (items_entry e k) (k * n) (λ w. Ok (map g (words n k w)))
-unfolding items_entry chain
+pub items-word : {A : Type 0} {e : Decoder A} {n : ℕ} {g : List Bool → A} → IsWord e n (λ w. Ok (g w)) → (k : ℕ)
+    → IsWord (items_decoder e k) (k * n) (λ w. Ok (map g (words n k w)))
+unfolding items_decoder and_then
 items-word {n = n} h zero = record {
   reads = λ p b. let none : zero * n ≡ 0 = omega arith in
       rw (none, le-leb 0 (length b) (omega arith)) refl;
 }
 items-word {e = e} {n = n} {g = g} h (suc k) = record {
   reads = λ p b.
-      let item : (m : ℕ) (items : _) → (chain e (λ x. gives (items ++ x ∷ []))).reads (p + m) (drop m b)
-      ≡ word_front n (λ w. Ok (items ++ g w ∷ [])) (drop m b) =
+      let item : (m : ℕ) (items : _) → (and_then e (λ x. pure (items ++ x ∷ []))).reads (p + m) (drop m b)
+      ≡ word_prefix n (λ w. Ok (items ++ g w ∷ [])) (drop m b) =
       λ m items. (mapped-word e n g (λ x. items ++ x ∷ []) h).reads (p + m) (drop m b) in
-      let both = chain_takes (k * n) n (λ w. map g (words n k w)) (λ items w. Ok (items ++ g w ∷ []))
+      let both = and_then_takes (k * n) n (λ w. map g (words n k w)) (λ items w. Ok (items ++ g w ∷ []))
       (λ w. Ok (map g (words n (suc k) w)))
       (λ u v lu lv. ap Ok (ap (map g) (words-more n k u v lu lv) ∙ map-append g (words n k u) (v ∷ []))) in
       let size : suc k * n ≡ k * n + n = omega arith in
       rw ((items-word h k).reads p b, size)
-      (front-same (word_front (k * n) (λ w. Ok (map g (words n k w))) b) _ _ item ∙ both.reads p b);
+      (prefix-same (word_prefix (k * n) (λ w. Ok (map g (words n k w))) b) _ _ item ∙ both.reads p b);
 }
 
 -- ---- what a new reader answers, over a stream that refuses at true ends alone
 
-module _ {R A : Type 0} {K : BitSource R} {e : ReadEntry A} {n : ℕ} {g : List Bool → Result A Error}
+module _ {R A : Type 0} {K : BitSource R} {e : Decoder A} {n : ℕ} {g : List Bool → Result A Error}
     {r : Result A Error} {s t : R} {xs : List ℕ} {references : List Reference} where
   -- the bits are there
   pub word_there : IsWord e n g → TrueEnds K.may → K.state s ≡ new_reader_state (Some xs) references
@@ -131,9 +131,9 @@ module _ {R A : Type 0} {K : BitSource R} {e : ReadEntry A} {n : ℕ} {g : List 
       ) refl
 
 -- the items are there
-pub items_there : {R A : Type 0} {K : BitSource R} {e : ReadEntry A} {n : ℕ} {g : List Bool → A}
+pub items_there : {R A : Type 0} {K : BitSource R} {e : Decoder A} {n : ℕ} {g : List Bool → A}
     {r : Result (List A) Error} {s t : R} {xs : List ℕ} {references : List Reference}
     → IsWord e n (λ w. Ok (g w)) → (k : ℕ) → TrueEnds K.may → K.state s ≡ new_reader_state (Some xs) references
-    → Reads K (items_entry e k) s r t → k * n ≤ 8 * length xs → r ≡ Ok (map g (words n k (bits K.order xs)))
+    → Reads K (items_decoder e k) s r t → k * n ≤ 8 * length xs → r ≡ Ok (map g (words n k (bits K.order xs)))
 items_there {K = K} {n = n} {g = g} {xs = xs} word k ends new h enough =
     word_there (items-word word k) ends new h enough ∙ ap (λ l. Ok (map g l)) (words-take n k (bits K.order xs))

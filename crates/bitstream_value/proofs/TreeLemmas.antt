@@ -4,11 +4,11 @@ use Rattle.std.specs.Prelude.{if◌then◌else◌, IsSome, ◌↔◌}
 use Rattle.std.specs.Option.{option_map}
 use Rattle.std.proofs.lemmas.Bool.{le-leb}
 use Rattle.bitstream_count.specs.declared.error.Error.{Error}
-use Rattle.bitstream_count.specs.Entry.{Front, TooFew, Takes, longer, chain, gives}
-use Rattle.bitstream_stream.specs.Reading.ReadTable.{bit_entry}
-use Rattle.bitstream_stream.proofs.Reading.EntryLemmas.{chain-ok, chain-none}
-use Rattle.bitstream_value.specs.Tree.{Tree, leaf, node, IsPath, path_entry, IsBefore, IsFirstPath, or_else, first_path, symbol_word}
-use Rattle.bitstream_stream.proofs.Reading.UnaryReads.{bit_front}
+use Rattle.bitstream_count.specs.Codec.{Prefix, Incomplete, Done, advance, and_then, pure}
+use Rattle.bitstream_stream.specs.Reading.ReadTable.{bit_decoder}
+use Rattle.bitstream_stream.proofs.Reading.CodecLemmas.{and_then-ok, and_then-none}
+use Rattle.bitstream_value.specs.Tree.{Tree, leaf, node, IsPath, path_decoder, IsBefore, IsFirstPath, or_else, first_path, symbol_word}
+use Rattle.bitstream_stream.proofs.Reading.UnaryReads.{bit_prefix}
 
 abbrev none : Option (List Bool)
 none = None
@@ -33,31 +33,31 @@ paths_apart (node l r) (true ∷ u) (false ∷ v) x y a b p q e = absurd cc
 
 -- ---- reading
 
-pub path_entry-leaf : {S : Type 0} (x : S) → path_entry (leaf x) ≡ gives x
-unfolding path_entry
-path_entry-leaf x = refl
+pub path_decoder-leaf : {S : Type 0} (x : S) → path_decoder (leaf x) ≡ pure x
+unfolding path_decoder
+path_decoder-leaf x = refl
 
-pub path_entry-node : {S : Type 0} (a b : Tree S) → path_entry (node a b)
-    ≡ chain bit_entry (λ c. if c then path_entry b else path_entry a)
-unfolding path_entry
-path_entry-node a b = refl
+pub path_decoder-node : {S : Type 0} (a b : Tree S) → path_decoder (node a b)
+    ≡ and_then bit_decoder (λ c. if c then path_decoder b else path_decoder a)
+unfolding path_decoder
+path_decoder-node a b = refl
 
 -- a read of a branch, behind its bit
 path-step : {S : Type 0} (a b : Tree S) (p : ℕ) (c : Bool) (bits : List Bool)
-    → (path_entry (node a b)).reads p (c ∷ bits) ≡ longer 1
-    ((if c then path_entry b else path_entry a).reads (p + 1) bits)
-path-step a b p c bits = rw path_entry-node (chain-ok bit_entry (λ d. if d then path_entry b else path_entry a) p
-    (c ∷ bits) 1 c (bit_front p c bits))
+    → (path_decoder (node a b)).reads p (c ∷ bits) ≡ advance 1
+    ((if c then path_decoder b else path_decoder a).reads (p + 1) bits)
+path-step a b p c bits = rw path_decoder-node (and_then-ok bit_decoder (λ d. if d then path_decoder b else path_decoder a) p
+    (c ∷ bits) 1 c (bit_prefix p c bits))
 
 pub path-reads : {S : Type 0} (t : Tree S) (w : List Bool) (s : S) (p : ℕ) (rest : List Bool) → IsPath t w s
-    → (path_entry t).reads p (w ++ rest) ≡ Takes (length w) (Ok s)
-path-reads (leaf x) [] s p rest h = rw path_entry-leaf (ap (λ y. Takes 0 (Ok y)) h)
+    → (path_decoder t).reads p (w ++ rest) ≡ Done (length w) (Ok s)
+path-reads (leaf x) [] s p rest h = rw path_decoder-leaf (ap (λ y. Done 0 (Ok y)) h)
 path-reads (leaf x) (c ∷ w) s p rest h = absurd h
 path-reads (node a b) [] s p rest h = absurd h
 path-reads (node a b) (false ∷ w) s p rest h = rw (path-step a b p false (w ++ rest), path-reads a w s (p + 1) rest h)
-    (ap (λ n. Takes n (Ok s)) (omega arith))
+    (ap (λ n. Done n (Ok s)) (omega arith))
 path-reads (node a b) (true ∷ w) s p rest h = rw (path-step a b p true (w ++ rest), path-reads b w s (p + 1) rest h)
-    (ap (λ n. Takes n (Ok s)) (omega arith))
+    (ap (λ n. Done n (Ok s)) (omega arith))
 
 -- the bits that a read takes are the path to the leaf whose symbol it answers
 pub record TakesPath {S : Type 0} (t : Tree S) (bits : List Bool) (n : ℕ) (r : Result S Error) : Type 0 where
@@ -71,14 +71,14 @@ in_side : {S : Type 0} (a b : Tree S) (c : Bool) (w : List Bool) (s : S) → IsP
 in_side a b false w s h = h
 in_side a b true w s h = h
 
-behind : {S : Type 0} (a b : Tree S) (c : Bool) (bits : List Bool) (n : ℕ) (r : Result S Error) (f : Front S)
-    → ((m : ℕ) → f ≡ Takes m r → TakesPath (if c then b else a) bits m r)
-    → longer 1 f ≡ Takes n r → TakesPath (node a b) (c ∷ bits) n r
-behind a b c bits n r TooFew h e = absurd cc
-behind a b c bits n r (Takes m x) h e =
+behind : {S : Type 0} (a b : Tree S) (c : Bool) (bits : List Bool) (n : ℕ) (r : Result S Error) (f : Prefix S)
+    → ((m : ℕ) → f ≡ Done m r → TakesPath (if c then b else a) bits m r)
+    → advance 1 f ≡ Done n r → TakesPath (node a b) (c ∷ bits) n r
+behind a b c bits n r Incomplete h e = absurd cc
+behind a b c bits n r (Done m x) h e =
     let same : x ≡ r = cc in
     let size : 1 + m ≡ n = cc in
-    let k = h m (ap (Takes m) same) in
+    let k = h m (ap (Done m) same) in
     let more : suc m ≡ n = omega (arith, size) in
     record {
       symbol = k.symbol;
@@ -89,9 +89,9 @@ behind a b c bits n r (Takes m x) h e =
     }
 
 pub path-taken : {S : Type 0} (t : Tree S) (p : ℕ) (bits : List Bool) (n : ℕ) (r : Result S Error)
-    → (path_entry t).reads p bits ≡ Takes n r → TakesPath t bits n r
+    → (path_decoder t).reads p bits ≡ Done n r → TakesPath t bits n r
 path-taken (leaf x) p bits n r e =
-    let h = rw path_entry-leaf at e in
+    let h = rw path_decoder-leaf at e in
     let none : 0 ≡ n = cc in
     let answer : Ok x ≡ r = cc in
     record {
@@ -101,13 +101,13 @@ path-taken (leaf x) p bits n r e =
       there = omega arith;
     }
 path-taken (node a b) p [] n r e =
-    let h = rw path_entry-node at e in
-    let none : (chain bit_entry (λ c. if c then path_entry b else path_entry a)).reads p [] ≡ TooFew =
-    chain-none bit_entry (λ c. if c then path_entry b else path_entry a) p [] refl in
+    let h = rw path_decoder-node at e in
+    let none : (and_then bit_decoder (λ c. if c then path_decoder b else path_decoder a)).reads p [] ≡ Incomplete =
+    and_then-none bit_decoder (λ c. if c then path_decoder b else path_decoder a) p [] refl in
     absurd (cc (h, none))
-path-taken (node a b) p (false ∷ bits) n r e = behind a b false bits n r ((path_entry a).reads (p + 1) bits)
+path-taken (node a b) p (false ∷ bits) n r e = behind a b false bits n r ((path_decoder a).reads (p + 1) bits)
     (λ m. path-taken a (p + 1) bits m r) (sym (path-step a b p false bits) ∙ e)
-path-taken (node a b) p (true ∷ bits) n r e = behind a b true bits n r ((path_entry b).reads (p + 1) bits)
+path-taken (node a b) p (true ∷ bits) n r e = behind a b true bits n r ((path_decoder b).reads (p + 1) bits)
     (λ m. path-taken b (p + 1) bits m r) (sym (path-step a b p true bits) ∙ e)
 
 -- ---- the first path
@@ -218,6 +218,6 @@ module _ {S : Type 0} (same : S → S → Bool) (s : S) where
 
   -- and the word is read as that leaf's symbol
   pub word_back : (t : Tree S) (w : List Bool) → first_path same t s ≡ Some w → (x : S) × (same x s ≡ true)
-      × ((p : ℕ) (more : List Bool) → (path_entry t).reads p (w ++ more) ≡ Takes (length w) (Ok x))
+      × ((p : ℕ) (more : List Bool) → (path_decoder t).reads p (w ++ more) ≡ Done (length w) (Ok x))
   word_back t w e = let k = (first_path_is_first same s t w e).leads in
       (k.0, k.2, λ p more. path-reads t w k.0 p more k.1)

@@ -5,18 +5,18 @@ use Rattle.std.specs.Result.{IsErrAnd}
 use Rattle.std.proofs.lemmas.Bool.{cases_lt}
 use Rattle.std.proofs.lemmas.Option.{slice_get_read}
 use Rattle.bitstream_count.specs.declared.error.Error.{Error}
-use Rattle.bitstream_stream.specs.Reading.ReadTable.{bit_entry}
+use Rattle.bitstream_stream.specs.Reading.ReadTable.{bit_decoder}
 use Rattle.bitstream_stream.specs.Reading.Reads.{BitSource, Reads}
 use Rattle.bitstream_stream.specs.Writing.Sink.{Sink, Writes, WritesAll}
 use Rattle.bitstream_stream.specs.Writing.WriteTable.{bit}
-use Rattle.bitstream_stream.proofs.Reading.ReadsLemmas.{Reads-chain-ok, Reads-gives, exit}
+use Rattle.bitstream_stream.proofs.Reading.ReadsLemmas.{Reads-and_then-ok, Reads-pure, exit}
 use Rattle.bitstream_stream.proofs.Writing.WriteParts.{all_none, all_err, all_more}
 use Rattle.bitstream_value.specs.Nodes.{HasSymbol, IsFirstPlace, FindsFirst}
-use Rattle.bitstream_value.specs.Tree.{Tree, node, path_entry, symbol_word, bit_by_bit}
+use Rattle.bitstream_value.specs.Tree.{Tree, node, path_decoder, symbol_word, bit_by_bit}
 use Rattle.bitstream_value.specs.declared.huffman.tree.Node.{Node}
 use Rattle.bitstream_value.specs.declared.huffman.tree.Node.TheVariants.{Leaf, Branch}
 use Rattle.bitstream_value.proofs.NodesLemmas.{Stands, Seeks, Down, down, leaf-is, branch-parts, Stands-within, word-leaf}
-use Rattle.bitstream_value.proofs.TreeLemmas.{path_entry-leaf, path_entry-node}
+use Rattle.bitstream_value.proofs.TreeLemmas.{path_decoder-leaf, path_decoder-node}
 
 -- a node that was read
 pub node-at : {S : Type 0} (nodes : List (Node S)) (k : ℕ) (x y : Node S) → k < length nodes → x ≡ get_or nodes k x → x
@@ -57,16 +57,16 @@ pub record Reading {N S : Type 0} (K : BitSource N) (nodes : List (Node S)) (t :
   pub below : Tree S
   pub low : ℕ
   pub stands : Stands nodes below low (root + 1)
-  pub on : (r : Result S Error) (z : N) → Reads K (path_entry below) to r z → Reads K (path_entry t) from r z
+  pub on : (r : Result S Error) (z : N) → Reads K (path_decoder below) to r z → Reads K (path_decoder t) from r z
 
 -- one bit on
 on-bit : {N S : Type 0} {K : BitSource N} {from to m : N} (t u a b : Tree S) (c : Bool) → u ≡ node a b
-    → ((r : Result S Error) (z : N) → Reads K (path_entry u) to r z → Reads K (path_entry t) from r z)
-    → Reads K bit_entry to (Ok c) m
-    → (r : Result S Error) (z : N) → Reads K (if c then path_entry b else path_entry a) m r z
-    → Reads K (path_entry t) from r z
-on-bit t u a b c is on h r z k = on r z (rw (is, path_entry-node)
-    (Reads-chain-ok bit_entry (λ d. if d then path_entry b else path_entry a) h k))
+    → ((r : Result S Error) (z : N) → Reads K (path_decoder u) to r z → Reads K (path_decoder t) from r z)
+    → Reads K bit_decoder to (Ok c) m
+    → (r : Result S Error) (z : N) → Reads K (if c then path_decoder b else path_decoder a) m r z
+    → Reads K (path_decoder t) from r z
+on-bit t u a b c is on h r z k = on r z (rw (is, path_decoder-node)
+    (Reads-and_then-ok bit_decoder (λ d. if d then path_decoder b else path_decoder a) h k))
 
 module _ {N S : Type 0} {K : BitSource N} {nodes : List (Node S)} {t : Tree S} {from : N} where
   pub Reading-start : (root : ℕ) → root + 1 ≡ length nodes → Stands nodes t 0 (length nodes)
@@ -86,7 +86,7 @@ module _ {N S : Type 0} {K : BitSource N} {nodes : List (Node S)} {t : Tree S} {
       ]
 
   pub Reading-zero : {root : ℕ} {to m : N} (z o : ℕ) → Reading K nodes t from root to → slice_get nodes root
-      ≡ Some (Branch z o) → Reads K bit_entry to (Ok false) m → Reading K nodes t from z m
+      ≡ Some (Branch z o) → Reads K bit_decoder to (Ok false) m → Reading K nodes t from z m
   Reading-zero {root = root} z o h e k =
       let p = branch-parts nodes h.below h.low root z o h.stands e in
       elim p.sides [
@@ -107,7 +107,7 @@ module _ {N S : Type 0} {K : BitSource N} {nodes : List (Node S)} {t : Tree S} {
       ]
 
   pub Reading-one : {root : ℕ} {to m : N} (z o : ℕ) → Reading K nodes t from root to → slice_get nodes root
-      ≡ Some (Branch z o) → Reads K bit_entry to (Ok true) m → Reading K nodes t from o m
+      ≡ Some (Branch z o) → Reads K bit_decoder to (Ok true) m → Reading K nodes t from o m
   Reading-one {root = root} z o h e k =
       let p = branch-parts nodes h.below h.low root z o h.stands e in
       elim p.sides [
@@ -129,18 +129,18 @@ module _ {N S : Type 0} {K : BitSource N} {nodes : List (Node S)} {t : Tree S} {
 
   -- a leaf
   pub Reading-done : {root : ℕ} {to : N} (x : S) → Reading K nodes t from root to → slice_get nodes root ≡ Some (Leaf x)
-      → Reads K (path_entry t) from (Ok x) to
+      → Reads K (path_decoder t) from (Ok x) to
   Reading-done {root = root} {to = to} x h e =
       let is = leaf-is nodes h.below h.low root x h.stands e in
-      h.on (Ok x) to (rw (is, path_entry-leaf) (Reads-gives x to))
+      h.on (Ok x) to (rw (is, path_decoder-leaf) (Reads-pure x to))
 
   -- a bit that is refused
   pub Reading-stop : {root : ℕ} {to m : N} (z o : ℕ) {x : Error} (r : Result S Error) → Reading K nodes t from root to
-      → slice_get nodes root ≡ Some (Branch z o) → IsErrAnd r (λ y. y ≡ x) → Reads K bit_entry to (Err x) m
-      → Reads K (path_entry t) from r m
+      → slice_get nodes root ≡ Some (Branch z o) → IsErrAnd r (λ y. y ≡ x) → Reads K bit_decoder to (Err x) m
+      → Reads K (path_decoder t) from r m
   Reading-stop {root = root} {m = m} z o r h e is k =
       let p = branch-parts nodes h.below h.low root z o h.stands e in
-      h.on r m (rw (p.is, path_entry-node) (exit (λ d. if d then path_entry p.one_side else path_entry p.zero_side) r is
+      h.on r m (rw (p.is, path_decoder-node) (exit (λ d. if d then path_decoder p.one_side else path_decoder p.zero_side) r is
       k))
 
 -- ---- writing

@@ -190,10 +190,10 @@ module _ {S : Type 0} (same : S → S → Bool) (law : IsEquivalence same) (t : 
     pub finds-short : found_word same made s ≡ Some w
     finds-short = found_by (found_word same made s) refl
 
-all-front : {A : Type 0} (P : A → Type 0) (xs ys : List A) → All P (xs ++ ys) → All P xs
-all-front P [] ys all = All-nil P
-all-front P (x ∷ xs) ys all =
-    All-cons P x xs (All-head P x (xs ++ ys) all) (all-front P xs ys (All-tail P x (xs ++ ys) all))
+all-prefix : {A : Type 0} (P : A → Type 0) (xs ys : List A) → All P (xs ++ ys) → All P xs
+all-prefix P [] ys all = All-nil P
+all-prefix P (x ∷ xs) ys all =
+    All-cons P x xs (All-head P x (xs ++ ys) all) (all-prefix P xs ys (All-tail P x (xs ++ ys) all))
 
 all-back : {A : Type 0} (P : A → Type 0) (xs ys : List A) → All P (xs ++ ys) → All P ys
 all-back P [] ys all = all
@@ -243,9 +243,9 @@ module _ {S : Type 0} (same : S → S → Bool) (t : Tree S) (nodes : List (Node
         → more ≡ made ++ it ∷ [] → HasShort same t nodes (k + 1) more
     short-pushed more it x is symbol grown = λ j z less at few lacks.
         let all = subst (λ (xs : List (SymbolWord S)). LacksWord same xs z) grown lacks in
-        let front = all-front (λ (it : SymbolWord S). same it.symbol z ≡ false) made (it ∷ []) all in
+        let prefix = all-prefix (λ (it : SymbolWord S). same it.symbol z ≡ false) made (it ∷ []) all in
         elim (cases_lt j k) [
-          | inl before ↦ short j z before at few front
+          | inl before ↦ short j z before at few prefix
           | inr last ↦
               let place : j ≡ k = omega (arith, less, last) in
               let there : slice_get nodes k ≡ Some (Leaf z) = ap (λ (i : ℕ). slice_get nodes i) (sym place) ∙ at in

@@ -10,11 +10,11 @@ use Rattle.std.specs.Result.{IsErrAnd, result_from_control_flow}
 use Rattle.std.specs.declared.ops.ControlFlow.{ControlFlow}
 use Rattle.std.specs.declared.io.ErrorKind.{ErrorKind}
 use Rattle.bitstream_count.specs.declared.error.Error.{Error}
-use Rattle.bitstream_count.specs.Entry.{WriteEntry}
+use Rattle.bitstream_count.specs.Codec.{Encoder}
 use Rattle.bitstream_number.specs.Word.{Order, bits}
 use Rattle.bitstream_stream.specs.declared.write.writer.BitWriter.{BitWriter}
 use Rattle.bitstream_stream.specs.Writing.Carries.{WriterState}
-use Rattle.bitstream_stream.specs.Run.{accepted, write_run}
+use Rattle.bitstream_stream.specs.Sequence.{accepted_bits, write_sequence}
 use Rattle.bitstream_stream.specs.Writing.Sink.{Sink, Writes, WritesAll, Appended, had_failed, was_rejected, past_limit, was_refused, was_done}
 use Rattle.bitstream_stream.specs.Writing.Writer.{writer_state, new_writer_state, writer_sink, AddsBits}
 use Rattle.bitstream_stream.proofs.Writing.WriteParts.{all_append, all_none, all_err, all_more, all_one, one_of_all}
@@ -27,7 +27,7 @@ pub use Rattle.bitstream_stream.proofs.Reading.ReadsLemmas.{first_name}
 
 -- ---- what a function did that wrote
 
-module _ {S : Type 0} (K : Sink S) (e : WriteEntry) (es : List WriteEntry) (r : Result (Unit {0}) Error) where
+module _ {S : Type 0} (K : Sink S) (e : Encoder) (es : List Encoder) (r : Result (Unit {0}) Error) where
   -- a call that answered `Ok`, and what follows it
   pub next_call : (s t z : S) → Writes {T = Unit {0}} K e s (Ok tt) t → WritesAll K es t r z
       → WritesAll K (e ∷ es) s r z
@@ -88,7 +88,7 @@ module _ {S : Type 0} (K : Sink S) (o : Order) (size n : ℕ) (w : Width) (x : �
       → WritesAll K (signed o size n x ∷ []) s r t
   signed_value h fits = subst (λ z. WritesAll K (signed o size n z ∷ []) s r t) (to_z-of_z w x fits) h
 
-module _ {S : Type 0} (K : Sink S) (o : Order) (size n : ℕ) (x : ℤ) (es : List WriteEntry)
+module _ {S : Type 0} (K : Sink S) (o : Order) (size n : ℕ) (x : ℤ) (es : List Encoder)
     (r : Result (Unit {0}) Error) (w : Width) (s t : S) where
   pub next_signed_call : (z : S) → Writes {T = Unit {0}} K (signed o size n (to_z w (of_z w x))) s (Ok tt) t → SFits w x
       → WritesAll K es t r z → WritesAll K (signed o size n x ∷ es) s r z
@@ -172,34 +172,34 @@ pub ruleset few_writes = (
 -- ---- the words that were written
 
 -- a call that answered `Ok` appended its word
-wrote : {S : Type 0} (K : Sink S) (e : WriteEntry) (s t : S) → Writes {T = Unit {0}} K e s (Ok tt) t
-    → Appended K s (accepted (e (K.len s))) t
+wrote : {S : Type 0} (K : Sink S) (e : Encoder) (s t : S) → Writes {T = Unit {0}} K e s (Ok tt) t
+    → Appended K s (accepted_bits (e (K.len s))) t
 wrote K e s t (had_failed p q k) = cc
 wrote K e s t (was_rejected error p q v k) = cc
 wrote K e s t (past_limit y p q b v k) = cc
 wrote K e s t (was_refused y error p q b v k) = cc
-wrote K e s t (was_done y v p q b d k) = subst (λ w. Appended K s w t) (sym (ap accepted q)) k
+wrote K e s t (was_done y v p q b d k) = subst (λ w. Appended K s w t) (sym (ap accepted_bits q)) k
 
--- calls that answered `Ok` appended their write run
-pub run_appended : {S : Type 0} (K : Sink S) (es : List WriteEntry) (s t : S) → K.failed s ≡ false
-    → WritesAll K es s (Ok tt) t → Appended K s (write_run es (K.len s)) t
+-- calls that answered `Ok` appended their write sequence
+pub sequence_appended : {S : Type 0} (K : Sink S) (es : List Encoder) (s t : S) → K.failed s ≡ false
+    → WritesAll K es s (Ok tt) t → Appended K s (write_sequence es (K.len s)) t
 unfolding WritesAll
-run_appended K [] s t sound p = subst (λ z. Appended K s [] z) (sym p.1) (record {
+sequence_appended K [] s t sound p = subst (λ z. Appended K s [] z) (sym p.1) (record {
   grown = K.appends_nil s;
   sound =
       sound;
   refusals = refl;
   references = refl;
 })
-run_appended K (e ∷ es) s t sound (inl p) = let z = p.0 in cc
-run_appended K (e ∷ es) s t sound (inr p) =
+sequence_appended K (e ∷ es) s t sound (inl p) = let z = p.0 in cc
+sequence_appended K (e ∷ es) s t sound (inr p) =
     let a = wrote K e s p.0 p.1 in
-    let w = accepted (e (K.len s)) in
+    let w = accepted_bits (e (K.len s)) in
     let far : K.len p.0 ≡ K.len s + length w = K.appends_len s p.0 w a.grown in
-    let b = run_appended K es p.0 t a.sound p.2 in
+    let b = sequence_appended K es p.0 t a.sound p.2 in
     record {
-      grown = K.appends_trans s p.0 t w (write_run es (K.len s + length w)) a.grown
-          (subst (λ n. K.appends p.0 (write_run es n) t) far b.grown);
+      grown = K.appends_trans s p.0 t w (write_sequence es (K.len s + length w)) a.grown
+          (subst (λ n. K.appends p.0 (write_sequence es n) t) far b.grown);
       sound = b.sound;
       refusals = b.refusals ∙ a.refusals;
       references = b.references ∙ a.references;
@@ -224,28 +224,28 @@ aligned K s t h =
     rw (far, length-replicate (to_boundary (K.len s)) false) (padded (K.len s))
 
 module _ {W E : Type 0} (held : W → Option (List ℕ)) (refuses : W → ℕ → ErrorKind → W → Type 0) (references : W
-    → List Reference) (o : Order) (es : List WriteEntry) (known : Option (List ℕ)) (names : List Reference)
+    → List Reference) (o : Order) (es : List Encoder) (known : Option (List ℕ)) (names : List Reference)
     (a m b : BitWriter W E) where
   packed : writer_state (output_told held references refuses) a ≡ new_writer_state known names
       → WritesAll (writer_sink (output_told held references refuses) o) es a (Ok tt) m
       → Writes {T = Unit {0}} (writer_sink (output_told held references refuses) o) align m (Ok tt) b
-      → Appended (writer_sink (output_told held references refuses) o) a (write_run (es ++ align ∷ []) 0) b
+      → Appended (writer_sink (output_told held references refuses) o) a (write_sequence (es ++ align ∷ []) 0) b
   packed fresh h k =
       let K = writer_sink (output_told held references refuses) o in
       let start : K.len a ≡ 0 = ap (λ (s : WriterState). 8 * s.port.sent + s.queued) fresh in
       let all = all_append K es (align ∷ []) a m (Ok tt) b h (all_one K align m (Ok tt) b k) in
-      subst (λ n. Appended K a (write_run (es ++ align ∷ []) n) b) start
-      (run_appended K (es ++ align ∷ []) a b (ap (λ (s : WriterState). s.failed) fresh) all)
+      subst (λ n. Appended K a (write_sequence (es ++ align ∷ []) n) b) start
+      (sequence_appended K (es ++ align ∷ []) a b (ap (λ (s : WriterState). s.failed) fresh) all)
 
-  -- the bits of the bytes that were added are the write run
+  -- the bits of the bytes that were added are the write sequence
   pub bytes_added : writer_state (output_told held references refuses) a ≡ new_writer_state known names
       → WritesAll (writer_sink (output_told held references refuses) o) es a (Ok tt) m
       → Writes {T = Unit {0}} (writer_sink (output_told held references refuses) o) align m (Ok tt) b
-      → AddsBits o known (write_run (es ++ align ∷ []) 0) (held b.port.stream)
+      → AddsBits o known (write_sequence (es ++ align ∷ []) 0) (held b.port.stream)
   bytes_added fresh h k =
-      subst (λ z. AddsBits o z (write_run (es ++ align ∷ []) 0) (held b.port.stream))
+      subst (λ z. AddsBits o z (write_sequence (es ++ align ∷ []) 0) (held b.port.stream))
       (ap (λ (s : WriterState). s.port.bytes) fresh)
-      (adds_bits (output_told held references refuses) o a b (write_run (es ++ align ∷ []) 0) (packed fresh h k).grown
+      (adds_bits (output_told held references refuses) o a b (write_sequence (es ++ align ∷ []) 0) (packed fresh h k).grown
       (ap (λ (s : WriterState). s.queued) fresh) (aligned (writer_sink (output_told held references refuses) o) m b k))
 
   -- and the stream is reached as it was
@@ -268,15 +268,15 @@ pub record Packed (held : Option (List ℕ)) (reached : List Reference) (o : Ord
   pub reached_as : reached ≡ names
 
 pub packed_stream : {W E : Type 0} (held : W → Option (List ℕ)) {refuses : W → ℕ → ErrorKind → W
-    → Type 0} (references : W → List Reference) {o : Order} (es : List WriteEntry) {known : Option (List ℕ)}
+    → Type 0} (references : W → List Reference) {o : Order} (es : List Encoder) {known : Option (List ℕ)}
     {names : List Reference} (a : BitWriter W E) {m b : BitWriter W E}
     → known ≡ Some [] → writer_state (output_told held references refuses) a ≡ new_writer_state known names
     → WritesAll (writer_sink (output_told held references refuses) o) es a (Ok tt) m
     → Writes {T = Unit {0}} (writer_sink (output_told held references refuses) o) align m (Ok tt) b
-    → Packed (held b.port.stream) (references b.port.stream) o (write_run (es ++ align ∷ []) 0) names
+    → Packed (held b.port.stream) (references b.port.stream) o (write_sequence (es ++ align ∷ []) 0) names
 packed_stream held {refuses = refuses} references {o = o} es {known = known} {names = names} a {m = m} {b =
     b} none fresh h k = record {
-      whole = λ {xs} is. whole_bytes none (subst (AddsBits o known (write_run (es ++ align ∷ []) 0)) is
+      whole = λ {xs} is. whole_bytes none (subst (AddsBits o known (write_sequence (es ++ align ∷ []) 0)) is
           (bytes_added held refuses references o es known names a m b fresh h k));
       reached_as = names_kept held refuses references o es known names a m b fresh h k;
     }

@@ -2,62 +2,62 @@
 use Rattle.std.specs.Prelude.{◌≡◌, ℕ, zero, suc, IsTrue, Bool, true, false, List, [], ◌∷◌, ◌++◌, Result, Ok, Err}
 use Rattle.bitstream_count.specs.declared.error.Error.{Error}
 use Rattle.bitstream_count.specs.declared.error.Error.TheVariants.{OutOfMemory}
-use Rattle.bitstream_count.specs.Entry.{TooFew}
-use Rattle.bitstream_stream.specs.WholeBytes.ByteReads.{ByteReaderState, ByteSource, ByteReadEntry, BytesTaken, ByteMemoryRefused, ByteReads}
+use Rattle.bitstream_count.specs.Codec.{Incomplete}
+use Rattle.bitstream_stream.specs.WholeBytes.ByteReads.{ByteReaderState, ByteSource, ByteDecoder, BytesTaken, ByteMemoryRefused, ByteReads}
 use Rattle.bitstream_value.specs.Own.{OwnErrors}
-use Rattle.bitstream_value.specs.ByteTypes.{byte_chain, byte_gives, byte_stores, ByteReadsOwn}
+use Rattle.bitstream_value.specs.ByteTypes.{byte_and_then, byte_pure, byte_stores, ByteReadsOwn}
 
 -- Memory that a read of the call asked for was refused. The call may allocate after the bytes that were taken.
-pub record ByteReadLacksMemory {A : Type 0} (entry : ByteReadEntry A) (old : ByteReaderState)
+pub record ByteReadLacksMemory {A : Type 0} (decoder : ByteDecoder A) (old : ByteReaderState)
     (result : Result A Error) (new : ByteReaderState) : Type 0 where
-  pub refused : ByteMemoryRefused entry old result new
-  pub asked : IsTrue (entry.allocates refused.bytes)
+  pub refused : ByteMemoryRefused decoder old result new
+  pub asked : IsTrue (decoder.allocates refused.bytes)
 
 -- Memory was refused between the reads of a call. The call may allocate after these bytes, which were taken, and no
--- proper beginning of them has a front: the call was not decided before.
-pub record ByteGrowthRefused {A : Type 0} (entry : ByteReadEntry A) (old : ByteReaderState)
+-- proper beginning of them has a prefix: the call was not decided before.
+pub record ByteGrowthRefused {A : Type 0} (decoder : ByteDecoder A) (old : ByteReaderState)
     (result : Result A Error) (new : ByteReaderState) : Type 0 where
   pub answer : result ≡ Err OutOfMemory
   pub bytes : List ℕ
-  pub needs : (front : List ℕ) (b : ℕ) (back : List ℕ) → bytes ≡ front ++ b ∷ back → entry.reads front ≡ TooFew
-  pub asked : IsTrue (entry.allocates bytes)
+  pub needs : (prefix : List ℕ) (b : ℕ) (back : List ℕ) → bytes ≡ prefix ++ b ∷ back → decoder.reads prefix ≡ Incomplete
+  pub asked : IsTrue (decoder.allocates bytes)
   pub took : BytesTaken old bytes new
 
--- reads of bytes among which memory is asked for: they come to an outcome of a read, or memory was refused in one of
+-- reads of bytes that allocate between them: they have the outcome of a read, or memory was refused in one of
 -- them or between them
-pub data ByteGrowingOutcome {R A : Type 0} (K : ByteSource R) (entry : ByteReadEntry A) (old : R)
+pub data ByteGrowingOutcome {R A : Type 0} (K : ByteSource R) (decoder : ByteDecoder A) (old : R)
     (result : Result A Error) (new : R) : Type 0 where
-  by_reads : ByteReads K entry old result new → ByteGrowingOutcome K entry old result new
-  in_a_read : ByteReadLacksMemory entry (K.state old) result (K.state new) → ByteGrowingOutcome K entry old result new
-  between_reads : ByteGrowthRefused entry (K.state old) result (K.state new)
-      → ByteGrowingOutcome K entry old result new
+  by_reads : ByteReads K decoder old result new → ByteGrowingOutcome K decoder old result new
+  in_a_read : ByteReadLacksMemory decoder (K.state old) result (K.state new) → ByteGrowingOutcome K decoder old result new
+  between_reads : ByteGrowthRefused decoder (K.state old) result (K.state new)
+      → ByteGrowingOutcome K decoder old result new
 
--- such a read with errors of its own, which its entry answers too
-abbrev pub ByteGrowsOwn : {R A E : Type 0} → ByteSource R → (Error → E → Type 0) → ByteReadEntry (Result A E) → R
+-- a read of this kind with errors of its own, which its decoder returns too
+abbrev pub ByteGrowsOwn : {R A E : Type 0} → ByteSource R → (Error → E → Type 0) → ByteDecoder (Result A E) → R
     → Result A E → R → Type 0
-ByteGrowsOwn K becomes entry old result new =
-    OwnErrors becomes (λ answer. answer) (λ plain. ByteGrowingOutcome K entry old plain new) result
+ByteGrowsOwn K becomes decoder old result new =
+    OwnErrors becomes (λ answer. answer) (λ plain. ByteGrowingOutcome K decoder old plain new) result
 
--- a read of a type that says whether it asks for memory
-abbrev pub ByteOwnReads : {R A E : Type 0} → Bool → ByteSource R → (Error → E → Type 0) → ByteReadEntry (Result A E)
+-- a read of a type that states whether it allocates
+abbrev pub ByteOwnReads : {R A E : Type 0} → Bool → ByteSource R → (Error → E → Type 0) → ByteDecoder (Result A E)
     → R → Result A E → R → Type 0
-ByteOwnReads false K becomes entry old result new = ByteReadsOwn K becomes entry old result new
-ByteOwnReads true K becomes entry old result new = ByteGrowsOwn K becomes entry old result new
+ByteOwnReads false K becomes decoder old result new = ByteReadsOwn K becomes decoder old result new
+ByteOwnReads true K becomes decoder old result new = ByteGrowsOwn K becomes decoder old result new
 
--- what is read behind a part that has errors of its own, unless it answers one
-abbrev pub byte_part_then : {A B E : Type 0} → (A → ByteReadEntry (Result B E)) → Result A E
-    → ByteReadEntry (Result B E)
+-- the read that follows a part with errors of its own, unless the part returns one
+abbrev pub byte_part_then : {A B E : Type 0} → (A → ByteDecoder (Result B E)) → Result A E
+    → ByteDecoder (Result B E)
 byte_part_then f (Ok value) = f value
-byte_part_then f (Err error) = byte_gives (Err error)
+byte_part_then f (Err error) = byte_pure (Err error)
 
--- the given number of parts with errors of their own, one after another, up to the first that answers one; each is
--- stored once it is read
-unfoldable pub byte_parts : {A E : Type 0} → ByteReadEntry (Result A E) → ℕ → ByteReadEntry (Result (List A) E)
-byte_parts entry zero = byte_gives (Ok [])
-byte_parts entry (suc n) = byte_chain (byte_parts entry n) (byte_part_then (λ items.
-    byte_chain entry (byte_part_then (λ item. byte_stores (Ok (items ++ item ∷ []))))))
+-- n parts with errors of their own, one after another, up to the first that returns one; each is stored once it
+-- is read
+unfoldable pub byte_parts : {A E : Type 0} → ByteDecoder (Result A E) → ℕ → ByteDecoder (Result (List A) E)
+byte_parts decoder zero = byte_pure (Ok [])
+byte_parts decoder (suc n) = byte_and_then (byte_parts decoder n) (byte_part_then (λ items.
+    byte_and_then decoder (byte_part_then (λ item. byte_stores (Ok (items ++ item ∷ []))))))
 
--- so many parts were read, and these are they
-abbrev pub BytePartsRead : {R A E : Type 0} → ByteSource R → (Error → E → Type 0) → ByteReadEntry (Result A E) → ℕ → R
+-- n parts were read, and these are their values
+abbrev pub BytePartsRead : {R A E : Type 0} → ByteSource R → (Error → E → Type 0) → ByteDecoder (Result A E) → ℕ → R
     → List A → R → Type 0
-BytePartsRead K becomes entry n old items new = ByteGrowsOwn K becomes (byte_parts entry n) old (Ok items) new
+BytePartsRead K becomes decoder n old items new = ByteGrowsOwn K becomes (byte_parts decoder n) old (Ok items) new

@@ -5,53 +5,54 @@ use Rattle.std.proofs.Common.{sym, add-zero, arith, length-append}
 use Rattle.bitstream_number.specs.Word.{Order, High}
 use Rattle.bitstream_count.specs.declared.error.Error.{Error}
 use Rattle.bitstream_count.specs.declared.error.Error.TheVariants.{CounterOverflow}
-use Rattle.bitstream_count.specs.Entry.{Takes, allocates_after, front_then, is_empty}
-use Rattle.bitstream_stream.specs.WholeBytes.ByteReads.{ByteSource, ByteReadEntry, ByteReads, byte_call}
+use Rattle.bitstream_count.specs.Codec.{Done, allocates_after, prefix_then, is_empty}
+use Rattle.bitstream_stream.specs.WholeBytes.ByteReads.{ByteSource, ByteDecoder, ByteReads, byte_call}
 use Rattle.bitstream_stream.specs.WholeBytes.ByteSink.{ByteSink, ByteWrites}
 use Rattle.bitstream_value.specs.Lengths.{in_place, number_of}
 use Rattle.bitstream_value.specs.Own.{OwnAnswer, OwnErrors}
 
--- one read of bytes and then, unless it answers an error, another, which may depend on its answer
-unfoldable pub byte_chain : {A B : Type 0} → ByteReadEntry A → (A → ByteReadEntry B) → ByteReadEntry B
-byte_chain e f = record {
-  reads = λ bytes. front_then (e.reads bytes) (λ n a. (f a).reads (drop n bytes));
+-- one read of bytes and then, unless it returns an error, another, which may depend on its value
+unfoldable pub byte_and_then : {A B : Type 0} → ByteDecoder A → (A → ByteDecoder B) → ByteDecoder B
+byte_and_then e f = record {
+  reads = λ bytes. prefix_then (e.reads bytes) (λ n a. (f a).reads (drop n bytes));
   allocates = λ bytes.
       e.allocates bytes || allocates_after (e.reads bytes) (λ n a. (f a).allocates (drop n bytes));
 }
 
 -- no read at all
-abbrev pub byte_gives : {A : Type 0} → A → ByteReadEntry A
-byte_gives a = byte_call (λ _. Takes 0 (Ok a))
+abbrev pub byte_pure : {A : Type 0} → A → ByteDecoder A
+byte_pure a = byte_call (λ _. Done 0 (Ok a))
 
 -- the same, but the value is stored first, which may allocate
-abbrev pub byte_stores : {A : Type 0} → A → ByteReadEntry A
-byte_stores a = record (byte_gives a) { allocates = λ bytes. is_empty bytes }
+abbrev pub byte_stores : {A : Type 0} → A → ByteDecoder A
+byte_stores a = record (byte_pure a) { allocates = λ bytes. is_empty bytes }
 
--- a read of bytes with errors of its own, which its entry answers too
-abbrev pub ByteReadsOwn : {R A E : Type 0} → ByteSource R → (Error → E → Type 0) → ByteReadEntry (Result A E) → R
+-- a read of bytes with errors of its own, which its decoder returns too
+abbrev pub ByteReadsOwn : {R A E : Type 0} → ByteSource R → (Error → E → Type 0) → ByteDecoder (Result A E) → R
     → Result A E → R → Type 0
-ByteReadsOwn K becomes entry old result new = OwnErrors becomes (λ answer. answer)
-    (λ plain. ByteReads K entry old plain new) result
+ByteReadsOwn K becomes decoder old result new = OwnErrors becomes (λ answer. answer)
+    (λ plain. ByteReads K decoder old plain new) result
 
--- calls that write these bytes, a buffer each, up to the first that answers an error; of no calls, nothing at all
+-- calls that write these bytes, a buffer each, up to the first that returns an error; for no calls, nothing
+-- changes
 unfoldable pub ByteWritesAll : {S : Type 0} → ByteSink S → List (List ℕ) → S → Result (Unit {0}) Error → S → Type 0
 ByteWritesAll K [] old result new = (result ≡ Ok tt) × (new ≡ old)
 ByteWritesAll {S} K (buffer ∷ buffers) old result new =
     (IsErr result × ByteWrites K buffer old result new)
     ⊎ ((mid : S) × ByteWrites {S = S} {T = Unit {0}} K buffer old (Ok tt) mid × ByteWritesAll K buffers mid result new)
 
--- such calls, and behind them, if all were done, this answer
+-- these calls, and after them, if all were done, this result
 abbrev pub ByteWritesOwn : {S E : Type 0} → ByteSink S → (Error → E → Type 0) → List (List ℕ) → Result (Unit {0}) E → S
     → Result (Unit {0}) E → S → Type 0
 ByteWritesOwn K becomes buffers answer old result new =
     OwnErrors becomes (λ _. answer) (λ plain. ByteWritesAll K buffers old plain new) result
 
--- how many bytes the buffers have in all
+-- the number of bytes in all buffers
 abbrev pub total_length : List (List ℕ) → ℕ
 total_length [] = 0
 total_length (buffer ∷ buffers) = length buffer + total_length buffers
 
--- in both orders of bytes the buffers have as many bytes in all
+-- in both orders of bytes the buffers have the same number of bytes in all
 abbrev pub HasOneTotal : (Order → List (List ℕ)) → Type 0
 HasOneTotal writes = (o p : Order) → total_length (writes o) ≡ total_length (writes p)
 
@@ -67,7 +68,7 @@ abbrev pub CountsBytes : {C E : Type 0} → (C → ℕ) → ℕ → (Error → E
 CountsBytes value most becomes buffers answer result = OwnAnswer becomes (in_place answer)
     (held_by most (total_length buffers)) (number_of value result)
 
--- a sink that keeps the number of bytes and nothing else, up to the greatest number of its type
+-- a sink that keeps only the number of bytes, up to the greatest number of its type
 abbrev pub byte_counter_sink : {S : Type 0} → (count : S → ℕ) → (greatest : ℕ) → ((s : S) → count s ≤ greatest)
     → ByteSink S
 byte_counter_sink count greatest within = record {

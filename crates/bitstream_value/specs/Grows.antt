@@ -2,65 +2,66 @@
 use Rattle.std.specs.Prelude.{◌≡◌, ℕ, zero, suc, IsTrue, Bool, true, false, List, [], ◌∷◌, ◌++◌, Result, Ok, Err}
 use Rattle.bitstream_count.specs.declared.error.Error.{Error}
 use Rattle.bitstream_count.specs.declared.error.Error.TheVariants.{OutOfMemory}
-use Rattle.bitstream_count.specs.Entry.{ReadEntry, TooFew, chain, gives, stores}
+use Rattle.bitstream_count.specs.Codec.{Decoder, Incomplete, and_then, pure, stores}
 use Rattle.bitstream_number.specs.Word.{Order}
 use Rattle.bitstream_stream.specs.Reading.Reads.{ReaderState, BitSource, Took, MemoryRefused, Reads}
 use Rattle.bitstream_value.specs.Own.{OwnErrors, ReadsOwn, part_then}
 
--- Memory that a read of the call asked for was refused, and the reader has failed. The call may allocate behind the bits
--- that were taken.
-pub record ReadLacksMemory {A : Type 0} (o : Order) (entry : ReadEntry A) (old : ReaderState) (result : Result A Error)
+-- Memory that a read of the call asked for was refused, and the reader has failed. The call may allocate after
+-- the bits that were taken.
+pub record ReadLacksMemory {A : Type 0} (o : Order) (decoder : Decoder A) (old : ReaderState) (result : Result A Error)
     (new : ReaderState) : Type 0 where
-  pub refused : MemoryRefused o entry old result new
-  pub asked : IsTrue (entry.allocates old.taken refused.word)
+  pub refused : MemoryRefused o decoder old result new
+  pub asked : IsTrue (decoder.allocates old.taken refused.word)
 
--- Memory was refused between the reads of a call, on a reader that had not failed and goes on. The call may allocate
--- after the word that was taken, and no proper beginning of the word has a front: the call was not decided before.
-pub record GrowthRefused {A : Type 0} (o : Order) (entry : ReadEntry A) (old : ReaderState) (result : Result A Error)
+-- Memory was refused between the reads of a call, on a reader that had not failed and continues. The call may
+-- allocate after the word that was taken, and no proper beginning of the word has a prefix: the call was not
+-- decided before.
+pub record GrowthRefused {A : Type 0} (o : Order) (decoder : Decoder A) (old : ReaderState) (result : Result A Error)
     (new : ReaderState) : Type 0 where
   pub answer : result ≡ Err OutOfMemory
   pub word : List Bool
-  pub needs : (front : List Bool) (b : Bool) (back : List Bool) → word ≡ front ++ b ∷ back → entry.reads old.taken front
-      ≡ TooFew
-  pub asked : IsTrue (entry.allocates old.taken word)
+  pub needs : (prefix : List Bool) (b : Bool) (back : List Bool) → word ≡ prefix ++ b ∷ back → decoder.reads old.taken prefix
+      ≡ Incomplete
+  pub asked : IsTrue (decoder.allocates old.taken word)
   pub took : Took o old word new
 
--- reads among which memory is asked for: they come to an outcome of a read, or memory was refused in one of them or
+-- reads that allocate between them: they have the outcome of a read, or memory was refused in one of them or
 -- between them
-pub data GrowingOutcome {R A : Type 0} (K : BitSource R) (entry : ReadEntry A) (old : R) (result : Result A Error)
+pub data GrowingOutcome {R A : Type 0} (K : BitSource R) (decoder : Decoder A) (old : R) (result : Result A Error)
     (new : R) : Type 0 where
-  by_reads : Reads K entry old result new → GrowingOutcome K entry old result new
-  in_a_read : ReadLacksMemory K.order entry (K.state old) result (K.state new) → GrowingOutcome K entry old result new
-  between_reads : GrowthRefused K.order entry (K.state old) result (K.state new)
-      → GrowingOutcome K entry old result new
+  by_reads : Reads K decoder old result new → GrowingOutcome K decoder old result new
+  in_a_read : ReadLacksMemory K.order decoder (K.state old) result (K.state new) → GrowingOutcome K decoder old result new
+  between_reads : GrowthRefused K.order decoder (K.state old) result (K.state new)
+      → GrowingOutcome K decoder old result new
 
 -- the call may allocate once it has taken some first ones of these bits
-pub record MayAllocate {A : Type 0} (entry : ReadEntry A) (taken : ℕ) (bits : List Bool) : Type 0 where
-  pub front : List Bool
+pub record MayAllocate {A : Type 0} (decoder : Decoder A) (taken : ℕ) (bits : List Bool) : Type 0 where
+  pub prefix : List Bool
   pub back : List Bool
-  pub parts : bits ≡ front ++ back
-  pub asked : IsTrue (entry.allocates taken front)
+  pub parts : bits ≡ prefix ++ back
+  pub asked : IsTrue (decoder.allocates taken prefix)
 
--- such a read with errors of its own, which its entry answers too
-abbrev pub GrowsOwn : {R A E : Type 0} → BitSource R → (Error → E → Type 0) → ReadEntry (Result A E) → R → Result A E
+-- a read of this kind with errors of its own, which its decoder returns too
+abbrev pub GrowsOwn : {R A E : Type 0} → BitSource R → (Error → E → Type 0) → Decoder (Result A E) → R → Result A E
     → R → Type 0
-GrowsOwn K becomes entry old result new =
-    OwnErrors becomes (λ answer. answer) (λ plain. GrowingOutcome K entry old plain new) result
+GrowsOwn K becomes decoder old result new =
+    OwnErrors becomes (λ answer. answer) (λ plain. GrowingOutcome K decoder old plain new) result
 
--- a read of a type that says whether it asks for memory
-abbrev pub OwnReads : {R A E : Type 0} → Bool → BitSource R → (Error → E → Type 0) → ReadEntry (Result A E) → R
+-- a read of a type that states whether it allocates
+abbrev pub OwnReads : {R A E : Type 0} → Bool → BitSource R → (Error → E → Type 0) → Decoder (Result A E) → R
     → Result A E → R → Type 0
-OwnReads false K becomes entry old result new = ReadsOwn K becomes entry old result new
-OwnReads true K becomes entry old result new = GrowsOwn K becomes entry old result new
+OwnReads false K becomes decoder old result new = ReadsOwn K becomes decoder old result new
+OwnReads true K becomes decoder old result new = GrowsOwn K becomes decoder old result new
 
--- the given number of parts with errors of their own, one after another, up to the first that answers one; each is
--- stored once it is read
-unfoldable pub parts_entry : {A E : Type 0} → ReadEntry (Result A E) → ℕ → ReadEntry (Result (List A) E)
-parts_entry entry zero = gives (Ok [])
-parts_entry entry (suc n) = chain (parts_entry entry n) (part_then (λ items.
-    chain entry (part_then (λ item. stores (Ok (items ++ item ∷ []))))))
+-- n parts with errors of their own, one after another, up to the first that returns one; each is stored once it
+-- is read
+unfoldable pub parts_decoder : {A E : Type 0} → Decoder (Result A E) → ℕ → Decoder (Result (List A) E)
+parts_decoder decoder zero = pure (Ok [])
+parts_decoder decoder (suc n) = and_then (parts_decoder decoder n) (part_then (λ items.
+    and_then decoder (part_then (λ item. stores (Ok (items ++ item ∷ []))))))
 
--- so many parts were read, and these are they
-abbrev pub PartsRead : {R A E : Type 0} → BitSource R → (Error → E → Type 0) → ReadEntry (Result A E) → ℕ → R → List A
+-- n parts were read, and these are their values
+abbrev pub PartsRead : {R A E : Type 0} → BitSource R → (Error → E → Type 0) → Decoder (Result A E) → ℕ → R → List A
     → R → Type 0
-PartsRead K becomes entry n old items new = GrowsOwn K becomes (parts_entry entry n) old (Ok items) new
+PartsRead K becomes decoder n old items new = GrowsOwn K becomes (parts_decoder decoder n) old (Ok items) new

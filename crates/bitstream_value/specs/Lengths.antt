@@ -1,36 +1,36 @@
--- How many bits lists of write calls take.
+-- The number of bits that lists of write calls take.
 use Rattle.std.specs.Prelude.{◌≡◌, ℕ, ◌+◌, ◌%◌, ◌<◌, ◌≤◌, nat_lt, if◌then◌else◌, List, [], ◌∷◌, length, Result, Ok, Err, MatchResult}
 use Rattle.bitstream_number.specs.Word.{Order}
 use Rattle.bitstream_count.specs.declared.error.Error.{Error}
 use Rattle.bitstream_count.specs.declared.error.Error.TheVariants.{CounterOverflow}
-use Rattle.bitstream_count.specs.Entry.{WriteEntry, result_then}
+use Rattle.bitstream_count.specs.Codec.{Encoder, result_then}
 use Rattle.bitstream_value.specs.Own.{OwnAnswer}
 
--- what a counter answers that has counted `len` bits and holds `most` at most: what it has counted behind these calls,
--- or
+-- the result of a counter that has counted `len` bits and holds `most` at most: its count after these calls, or
 -- the first error
-abbrev pub counted_bits : ℕ → List WriteEntry → ℕ → Result ℕ Error
+abbrev pub counted_bits : ℕ → List Encoder → ℕ → Result ℕ Error
 counted_bits most [] len = Ok len
-counted_bits most (entry ∷ entries) len =
-    result_then (entry len) (λ word. if nat_lt most (len + length word) then Err CounterOverflow else counted_bits most
-    entries (len + length word))
+counted_bits most (encoder ∷ encoders) len =
+    result_then (encoder len) (λ word. if nat_lt most (len + length word) then Err CounterOverflow else counted_bits most
+    encoders (len + length word))
 
--- the length of the words of these calls behind `len` bits, or the first error
-abbrev pub run_length : List WriteEntry → ℕ → Result ℕ Error
-run_length [] len = Ok 0
-run_length (entry ∷ entries) len = result_then (entry len) (λ word. result_then (run_length entries (len + length word))
+-- the length of the words of these calls after `len` bits, or the first error
+abbrev pub sequence_length : List Encoder → ℕ → Result ℕ Error
+sequence_length [] len = Ok 0
+sequence_length (encoder ∷ encoders) len = result_then (encoder len) (λ word. result_then (sequence_length encoders (len + length word))
     (λ more. Ok (length word + more)))
 
--- in both orders of bits, and at all places that are as far behind a whole byte, the words have one length
-abbrev pub HasOneLength : (Order → List WriteEntry) → Type 0
-HasOneLength entries = (o p : Order) (m n : ℕ) → m % 8 ≡ n % 8 → run_length (entries o) m ≡ run_length (entries p) n
+-- in both orders of bits, and at all places with the same number of bits after a whole byte, the words have one
+-- length
+abbrev pub HasOneLength : (Order → List Encoder) → Type 0
+HasOneLength encoders = (o p : Order) (m n : ℕ) → m % 8 ≡ n % 8 → sequence_length (encoders o) m ≡ sequence_length (encoders p) n
 
--- an answer, with another value if it is one
+-- a result, with another value if it is `Ok`
 abbrev pub in_place : {A B E : Type 0} → Result A E → B → Result B E
 in_place (Ok x) y = Ok y
 in_place (Err error) y = Err error
 
--- the number of an answer
+-- the number of a result
 abbrev pub number_of : {C E : Type 0} → (C → ℕ) → Result C E → Result ℕ E
 number_of value (Ok x) = Ok (value x)
 number_of value (Err error) = Err error
@@ -38,9 +38,9 @@ number_of value (Err error) = Err error
 -- a count of the bits of these calls on a new counter that holds `most` at most: their number, or the error that the
 -- calls
 -- have on it
-abbrev pub CountsBits : {C E : Type 0} → (C → ℕ) → ℕ → (Error → E → Type 0) → List WriteEntry → Result (Unit {0}) E
+abbrev pub CountsBits : {C E : Type 0} → (C → ℕ) → ℕ → (Error → E → Type 0) → List Encoder → Result (Unit {0}) E
     → Result C E → Type 0
-CountsBits value most becomes entries answer result = OwnAnswer becomes (in_place answer) (counted_bits most entries 0)
+CountsBits value most becomes encoders answer result = OwnAnswer becomes (in_place answer) (counted_bits most encoders 0)
     (number_of value result)
 
 -- the number n, or an error exactly if it is above `most`

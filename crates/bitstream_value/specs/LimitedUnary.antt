@@ -8,7 +8,7 @@ abbrev pub limited_unary : Bool → ℕ → Option ℕ → List Bool
 limited_unary stop most None = replicate most (not stop)
 limited_unary stop most (Some k) = if nat_lt k most then unary stop k else []
 
--- the tree of these words behind k bits, if at most m more come
+-- the tree of the words after k bits, if at most m more bits come
 unfoldable pub limited_tree : Bool → ℕ → ℕ → Tree (Option ℕ)
 limited_tree stop k zero = leaf None
 limited_tree stop k (suc m) =

@@ -1,10 +1,10 @@
 -- Prefix codes: trees of symbols, whose words are the paths to the leaves.
 use Rattle.std.specs.Prelude.{◌≡◌, ◌⊎◌, Bool, true, false, List, [], ◌∷◌, map, Option, Some, None, option_map, if◌then◌else◌}
-use Rattle.bitstream_count.specs.Entry.{ReadEntry, WriteEntry, chain, gives}
-use Rattle.bitstream_stream.specs.Reading.ReadTable.{bit_entry}
+use Rattle.bitstream_count.specs.Codec.{Decoder, Encoder, and_then, pure}
+use Rattle.bitstream_stream.specs.Reading.ReadTable.{bit_decoder}
 use Rattle.bitstream_stream.specs.Writing.WriteTable.{bit}
 
--- a leaf with its symbol; or a branch, of which the bit 0 leads to the first side and the bit 1 to the second
+-- a leaf with its symbol; or a branch: the bit 0 leads to its first side and the bit 1 to the second
 pub data Tree (S : Type 0) : Type 0 where
   leaf : S → Tree S
   node : (zero_side : Tree S) → (one_side : Tree S) → Tree S
@@ -17,10 +17,10 @@ IsPath (node a b) [] s = ⊥
 IsPath (node a b) (false ∷ w) s = IsPath a w s
 IsPath (node a b) (true ∷ w) s = IsPath b w s
 
--- a read of a path: it takes the path's bits, one after another, and answers the symbol at its leaf
-unfoldable pub path_entry : {S : Type 0} → Tree S → ReadEntry S
-path_entry (leaf x) = gives x
-path_entry (node a b) = chain bit_entry (λ c. if c then path_entry b else path_entry a)
+-- a read of a path: it takes the path's bits, one after another, and returns the symbol at its leaf
+unfoldable pub path_decoder : {S : Type 0} → Tree S → Decoder S
+path_decoder (leaf x) = pure x
+path_decoder (node a b) = and_then bit_decoder (λ c. if c then path_decoder b else path_decoder a)
 
 -- the first one, if it is there, else the second
 abbrev pub or_else : {A : Type 0} → Option A → Option A → Option A
@@ -43,10 +43,10 @@ unfoldable pub symbol_word : {S : Type 0} → (S → S → Bool) → Tree S → 
 symbol_word same t s = or_nothing (first_path same t s)
 
 -- the calls that write a word, a bit each
-abbrev pub bit_by_bit : List Bool → List WriteEntry
+abbrev pub bit_by_bit : List Bool → List Encoder
 bit_by_bit w = map bit w
 
--- at the first place where they part, u leads to the side of 0 and v to that of 1
+-- at the first place where they differ, u leads to the side of 0 and v to the side of 1
 abbrev pub IsBefore : List Bool → List Bool → Type 0
 IsBefore [] v = ⊥
 IsBefore (b ∷ u) [] = ⊥

@@ -1,7 +1,7 @@
 //! Types whose values are written as bits.
 ghost use Rattle.std.specs.Prelude.{List, Result, Ok};
 ghost use Rattle.bitstream_count.specs.declared.error.Error.{Error};
-ghost use Rattle.bitstream_count.specs.Entry.{WriteEntry};
+ghost use Rattle.bitstream_count.specs.Codec.{Encoder};
 ghost use Rattle.bitstream_number.specs.Word.{Order, High};
 ghost use Rattle.bitstream_value.specs.Lengths.{CountsBits};
 ghost use Rattle.bitstream_value.specs.Own.{WritesOwn};
@@ -18,12 +18,12 @@ pub trait ToBitStream {
     /// The type of the errors of a write.
     type Error;
 
-    // What an error of the sink becomes.
+    // The error map: from an error of the sink to the type's own.
     ghost becomes: { Error → Self.Error → Type 0 };
 
-    // The calls that write a value, in either order of bits; and what is answered behind them, if all
-    // were done.
-    ghost writes: { Order → Self → List WriteEntry };
+    // The calls that write a value, in either order of bits; and the result after them, if all were
+    // done.
+    ghost writes: { Order → Self → List Encoder };
 
     ghost answers: { Self → Result (Unit {0}) Self.Error } = { λ _. Ok tt };
 
@@ -31,8 +31,8 @@ pub trait ToBitStream {
     ///
     /// # Errors
     ///
-    /// Those of the sink, as they become errors of the type, and the type's own. The parts before the
-    /// one that is refused stay written.
+    /// An error of the sink, mapped to the type's, or the type's own. The parts before the error
+    /// stay written.
     fn to_writer<W: BitWrite>(&self, writer: &mut W) -> Result<(), Self::Error>
         ensures writes { WritesOwn W.sink becomes (writes W.sink.order self.now) (answers self.now)
             writer.old result writer.new };
@@ -42,8 +42,8 @@ pub trait ToBitStream {
     ///
     /// # Errors
     ///
-    /// Those of [`to_writer`](ToBitStream::to_writer), and `CounterOverflow`, as it becomes an error
-    /// of the type, if C does not hold the sum.
+    /// The errors of [`to_writer`](ToBitStream::to_writer), and `CounterOverflow`, mapped to the
+    /// type's, if C does not hold the sum.
     fn bits<C: Counter>(&self) -> Result<C, Self::Error>
     where
         Self::Error: From<Error>,
@@ -73,18 +73,18 @@ pub trait ToBitStream {
 /// A type whose values are written as bits with a context, which is lent.
 /// [`build_with`](crate::write::BitWriteExt::build_with) writes them to any sink.
 pub trait ToBitStreamWith {
-    /// What is known before a value is written.
+    /// The context: data known before a value is written.
     type Context;
 
     /// The type of the errors of a write.
     type Error;
 
-    // What an error of the sink becomes.
+    // The error map: from an error of the sink to the type's own.
     ghost becomes: { Error → Self.Error → Type 0 };
 
-    // The calls that write a value, in either order of bits; and what is answered behind them, if all
-    // were done.
-    ghost writes: { Order → Self → Self.Context → List WriteEntry };
+    // The calls that write a value, in either order of bits; and the result after them, if all were
+    // done.
+    ghost writes: { Order → Self → Self.Context → List Encoder };
 
     ghost answers: { Self → Self.Context → Result (Unit {0}) Self.Error } = { λ _ _. Ok tt };
 
@@ -136,18 +136,18 @@ pub trait ToBitStreamWith {
 /// A type whose values are written as bits with a context, which is used up.
 /// [`build_using`](crate::write::BitWriteExt::build_using) writes them to any sink.
 pub trait ToBitStreamUsing {
-    /// What is known before a value is written.
+    /// The context: data known before a value is written.
     type Context;
 
     /// The type of the errors of a write.
     type Error;
 
-    // What an error of the sink becomes.
+    // The error map: from an error of the sink to the type's own.
     ghost becomes: { Error → Self.Error → Type 0 };
 
-    // The calls that write a value, in either order of bits; and what is answered behind them, if all
-    // were done.
-    ghost writes: { Order → Self → Self.Context → List WriteEntry };
+    // The calls that write a value, in either order of bits; and the result after them, if all were
+    // done.
+    ghost writes: { Order → Self → Self.Context → List Encoder };
 
     ghost answers: { Self → Self.Context → Result (Unit {0}) Self.Error } = { λ _ _. Ok tt };
 

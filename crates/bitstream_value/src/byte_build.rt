@@ -15,10 +15,10 @@ pub trait ToByteStream {
     /// The type of the errors of a write.
     type Error;
 
-    // What an error of the sink becomes.
+    // The error map: from an error of the sink to the type's own.
     ghost becomes: { Error → Self.Error → Type 0 };
 
-    // The bytes of the calls that write a value, in either order of bytes; and what is answered behind
+    // The bytes of the calls that write a value, in either order of bytes; and the result after
     // them, if all were done.
     ghost writes: { Order → Self → List (List ℕ) };
 
@@ -28,8 +28,8 @@ pub trait ToByteStream {
     ///
     /// # Errors
     ///
-    /// Those of the sink, as they become errors of the type, and the type's own. The parts before the
-    /// one that is refused stay written.
+    /// An error of the sink, mapped to the type's, or the type's own. The parts before the error
+    /// stay written.
     fn to_writer<W: ByteWrite>(&self, writer: &mut W) -> Result<(), Self::Error>
         ensures writes { ByteWritesOwn W.sink becomes (writes W.sink.order self.now)
             (answers self.now) writer.old result writer.new };
@@ -38,8 +38,8 @@ pub trait ToByteStream {
     ///
     /// # Errors
     ///
-    /// Those of [`to_writer`](ToByteStream::to_writer), and `CounterOverflow`, as it becomes an error
-    /// of the type, if C does not hold the sum.
+    /// The errors of [`to_writer`](ToByteStream::to_writer), and `CounterOverflow`, mapped to the
+    /// type's, if C does not hold the sum.
     fn bytes<C: Counter>(&self) -> Result<C, Self::Error>
     where
         Self::Error: From<Error>,
@@ -55,16 +55,16 @@ pub trait ToByteStream {
 /// A type whose values are written as whole bytes with a context, which is lent.
 /// [`build_with`](crate::byte_write::ByteWriteExt::build_with) writes them to any sink of bytes.
 pub trait ToByteStreamWith {
-    /// What is known before a value is written.
+    /// The context: data known before a value is written.
     type Context;
 
     /// The type of the errors of a write.
     type Error;
 
-    // What an error of the sink becomes.
+    // The error map: from an error of the sink to the type's own.
     ghost becomes: { Error → Self.Error → Type 0 };
 
-    // The bytes of the calls that write a value, in either order of bytes; and what is answered behind
+    // The bytes of the calls that write a value, in either order of bytes; and the result after
     // them, if all were done.
     ghost writes: { Order → Self → Self.Context → List (List ℕ) };
 
@@ -103,16 +103,16 @@ pub trait ToByteStreamWith {
 /// A type whose values are written as whole bytes with a context, which is used up.
 /// [`build_using`](crate::byte_write::ByteWriteExt::build_using) writes them to any sink of bytes.
 pub trait ToByteStreamUsing {
-    /// What is known before a value is written.
+    /// The context: data known before a value is written.
     type Context;
 
     /// The type of the errors of a write.
     type Error;
 
-    // What an error of the sink becomes.
+    // The error map: from an error of the sink to the type's own.
     ghost becomes: { Error → Self.Error → Type 0 };
 
-    // The bytes of the calls that write a value, in either order of bytes; and what is answered behind
+    // The bytes of the calls that write a value, in either order of bytes; and the result after
     // them, if all were done.
     ghost writes: { Order → Self → Self.Context → List (List ℕ) };
 

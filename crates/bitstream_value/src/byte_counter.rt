@@ -9,7 +9,7 @@ use bitstream_sink::counter::{Counter, Overflowed};
 use bitstream_stream::bytes::byte_write::ByteWrite;
 
 /// Counts the bytes that are written to it and keeps none of them. If the sum is above the greatest
-/// number of N, a call answers `CounterOverflow` and adds nothing.
+/// number of N, a call returns `CounterOverflow` and adds nothing.
 #[derive(Drop)]
 pub(crate) struct BytesWritten<N: Counter> {
     count: N,
@@ -46,7 +46,7 @@ impl<N: Counter> BytesWritten<N> {
         self.count
     }
 
-    /// Counts the given number of bytes.
+    /// Counts `bytes` bytes.
     ///
     /// # Errors
     ///

@@ -2,7 +2,7 @@
 ghost use Rattle.std.specs.Prelude.{Bool, false, Result};
 ghost use Rattle.bitstream_count.specs.declared.error.Error.{Error};
 ghost use Rattle.bitstream_number.specs.Word.{Order};
-ghost use Rattle.bitstream_stream.specs.WholeBytes.ByteReads.{ByteReadEntry};
+ghost use Rattle.bitstream_stream.specs.WholeBytes.ByteReads.{ByteDecoder};
 ghost use Rattle.bitstream_value.specs.ByteGrows.{ByteOwnReads};
 
 use bitstream_stream::bytes::byte_read::ByteRead;
@@ -13,21 +13,21 @@ pub trait FromByteStream: Sized {
     /// The type of the errors of a read.
     type Error;
 
-    // Whether a read asks for memory of its own.
+    // True if a read allocates.
     ghost grows: { Bool } = { false };
 
-    // What an error of the reader becomes.
+    // The error map: from an error of the reader to the type's own.
     ghost becomes: { Error → Self.Error → Type 0 };
 
-    // The reads of a value, in either order of bytes. They answer the errors of the type too.
-    ghost reads: { Order → ByteReadEntry (Result Self Self.Error) };
+    // The reads of a value, in either order of bytes. They return the errors of the type too.
+    ghost reads: { Order → ByteDecoder (Result Self Self.Error) };
 
     /// Reads a value.
     ///
     /// # Errors
     ///
-    /// Those of the reader, as they become errors of the type, and the type's own. The parts before
-    /// the one that is refused stay read.
+    /// An error of the reader, mapped to the type's, or the type's own. The parts before the error
+    /// stay read.
     fn from_reader<R: ByteRead>(reader: &mut R) -> Result<Self, Self::Error>
         ensures reads { ByteOwnReads grows R.source becomes (reads R.source.order)
             reader.old result reader.new };
@@ -36,20 +36,20 @@ pub trait FromByteStream: Sized {
 /// A type whose values are read from whole bytes with a context, which is lent.
 /// [`parse_with`](crate::byte_read::ByteReadExt::parse_with) reads them from any reader of bytes.
 pub trait FromByteStreamWith: Sized {
-    /// What is known before a value is read.
+    /// The context: data known before a value is read.
     type Context;
 
     /// The type of the errors of a read.
     type Error;
 
-    // Whether a read asks for memory of its own.
+    // True if a read allocates.
     ghost grows: { Bool } = { false };
 
-    // What an error of the reader becomes.
+    // The error map: from an error of the reader to the type's own.
     ghost becomes: { Error → Self.Error → Type 0 };
 
-    // The reads of a value, in either order of bytes. They answer the errors of the type too.
-    ghost reads: { Order → Self.Context → ByteReadEntry (Result Self Self.Error) };
+    // The reads of a value, in either order of bytes. They return the errors of the type too.
+    ghost reads: { Order → Self.Context → ByteDecoder (Result Self Self.Error) };
 
     /// Reads a value.
     ///
@@ -67,20 +67,20 @@ pub trait FromByteStreamWith: Sized {
 /// A type whose values are read from whole bytes with a context, which is used up.
 /// [`parse_using`](crate::byte_read::ByteReadExt::parse_using) reads them from any reader of bytes.
 pub trait FromByteStreamUsing: Sized {
-    /// What is known before a value is read.
+    /// The context: data known before a value is read.
     type Context;
 
     /// The type of the errors of a read.
     type Error;
 
-    // Whether a read asks for memory of its own.
+    // True if a read allocates.
     ghost grows: { Bool } = { false };
 
-    // What an error of the reader becomes.
+    // The error map: from an error of the reader to the type's own.
     ghost becomes: { Error → Self.Error → Type 0 };
 
-    // The reads of a value, in either order of bytes. They answer the errors of the type too.
-    ghost reads: { Order → Self.Context → ByteReadEntry (Result Self Self.Error) };
+    // The reads of a value, in either order of bytes. They return the errors of the type too.
+    ghost reads: { Order → Self.Context → ByteDecoder (Result Self Self.Error) };
 
     /// Reads a value.
     ///

@@ -4,9 +4,9 @@ ghost use Rattle.bitstream_value.specs.ByteGrows.{ByteOwnReads};
 use crate::byte_parse::{FromByteStream, FromByteStreamUsing, FromByteStreamWith};
 use bitstream_stream::bytes::byte_read::ByteRead;
 
-/// Reads values of types that say how they are read. Every reader of bytes has these calls.
+/// Reads values of types that implement their own reads. Every reader of bytes has these calls.
 pub trait ByteReadExt: ByteRead {
-    /// Reads a value of a type that says how it is read.
+    /// Reads a value of a type that implements its own reads.
     ///
     /// # Errors
     ///
@@ -15,7 +15,7 @@ pub trait ByteReadExt: ByteRead {
         ensures reads { ByteOwnReads F.grows Self.source F.becomes (F.reads Self.source.order)
             self.old result self.new };
 
-    /// Reads a value of such a type, with a context that is lent.
+    /// Reads a value that needs a borrowed context.
     ///
     /// # Errors
     ///
@@ -24,7 +24,7 @@ pub trait ByteReadExt: ByteRead {
         ensures reads { ByteOwnReads F.grows Self.source F.becomes
             (F.reads Self.source.order context.now) self.old result self.new };
 
-    /// Reads a value of such a type, with a context that is used up.
+    /// Reads a value that needs a context by value.
     ///
     /// # Errors
     ///

@@ -4,9 +4,9 @@ ghost use Rattle.bitstream_value.specs.ByteTypes.{ByteWritesOwn};
 use crate::byte_build::{ToByteStream, ToByteStreamUsing, ToByteStreamWith};
 use bitstream_stream::bytes::byte_write::ByteWrite;
 
-/// Writes values of types that say how they are written. Every sink of bytes has these calls.
+/// Writes values of types that implement their own writes. Every sink of bytes has these calls.
 pub trait ByteWriteExt: ByteWrite {
-    /// Writes a value of a type that says how it is written.
+    /// Writes a value of a type that implements its own writes.
     ///
     /// # Errors
     ///
@@ -15,7 +15,7 @@ pub trait ByteWriteExt: ByteWrite {
         ensures writes { ByteWritesOwn Self.sink T.becomes (T.writes Self.sink.order value.now)
             (T.answers value.now) self.old result self.new };
 
-    /// Writes a value of such a type, with a context that is lent.
+    /// Writes a value that needs a borrowed context.
     ///
     /// # Errors
     ///
@@ -29,7 +29,7 @@ pub trait ByteWriteExt: ByteWrite {
             (T.writes Self.sink.order value.now context.now) (T.answers value.now context.now)
             self.old result self.new };
 
-    /// Writes a value of such a type, with a context that is used up.
+    /// Writes a value that needs a context by value.
     ///
     /// # Errors
     ///

@@ -1,8 +1,8 @@
 //! Checked values, read and written.
 ghost use Rattle.std.specs.Prelude.{◌≡◌, ℤ, Bool, List, length, IfOk};
-ghost use Rattle.bitstream_count.specs.Entry.{ReadEntry};
+ghost use Rattle.bitstream_count.specs.Codec.{Decoder};
 ghost use Rattle.bitstream_number.specs.Word.{Order};
-ghost use Rattle.bitstream_order.specs.Moving.Gather.{seen};
+ghost use Rattle.bitstream_order.specs.Moving.Gather.{result_map};
 ghost use Rattle.bitstream_stream.specs.Reading.Reads.{Reads};
 ghost use Rattle.bitstream_stream.specs.Writing.Sink.{Writes};
 ghost use Rattle.bitstream_stream.specs.Writing.WriteTable.{plain};
@@ -24,8 +24,8 @@ use bitstream_stream::write::BitWrite;
 ///
 /// # Errors
 ///
-/// Those of the reader ([`BitRead`]) and of the sink ([`BitWrite`]). The calls below name only the
-/// errors of their own.
+/// The errors of the reader ([`BitRead`]) and of the sink ([`BitWrite`]). The calls below name only
+/// their own errors.
 ///
 /// # Examples
 ///
@@ -45,17 +45,17 @@ pub trait Checkable: Sealed + Copy {
     // The word of a value, in either order.
     ghost word: { Order → Self → List Bool };
 
-    /// Writes the value in as many bits as its count says.
+    /// Writes the value, with the number of bits in its count.
     fn write<W: BitWrite>(&self, writer: &mut W) -> Result<(), Error>
         ensures writes { Writes W.sink (plain (word W.sink.order self.now))
             writer.old result writer.new };
 
-    /// Returns how many bits a write of the value takes.
+    /// Returns the number of bits that a write of the value takes.
     fn written_bits(&self) -> u32
         ensures bits { (o : Order) → result ≡ length (word o self.now) };
 }
 
-/// A checked value that is read: a number of as many bits as a count says, which is kept with it.
+/// A checked value that can be read: a number, with the count of its bits.
 ///
 /// # Errors
 ///
@@ -64,22 +64,22 @@ pub trait CheckablePrimitive: Checkable {
     /// The type of the count.
     type CountType;
 
-    // The count and the number of a value, and the read entry of both at a count, in either order.
+    // The count and the number of a value, and the decoder of both at a count, in either order.
     ghost counted: { Self → Self.CountType × ℤ };
 
-    ghost reads: { Order → Self.CountType → ReadEntry (Self.CountType × ℤ) };
+    ghost reads: { Order → Self.CountType → Decoder (Self.CountType × ℤ) };
 
-    /// Reads a number of as many bits as the count says, and returns it with the count.
+    /// Reads a number of `count` bits, and returns it with the count.
     ///
     /// # Errors
     ///
     /// `ReadBits` if the type has fewer bits. Nothing is taken then.
     fn read<R: BitRead>(reader: &mut R, count: Self::CountType) -> Result<Self, Error>
         ensures reads { Reads R.source (reads R.source.order count)
-            reader.old (seen counted result) reader.new };
+            reader.old (result_map counted result) reader.new };
 }
 
-/// Keeps the value that a call answered with a count that holds it, which the caller proves.
+/// Pairs the value of a result with a count that holds it, which the caller proves.
 #[inline(always)]
 fn keep<C: Holds<T> + Copy, T>(count: C, answer: Result<T, Error>) -> Result<Checked<C, T>, Error>
     requires { IfOk answer (C.holds count) }

@@ -1,8 +1,8 @@
 //! Prefix codes: each symbol is a word of bits, and no word is the beginning of another.
 ghost use Rattle.std.specs.Prelude.{Bool, List};
-ghost use Rattle.bitstream_count.specs.Entry.{ReadEntry};
+ghost use Rattle.bitstream_count.specs.Codec.{Decoder};
 ghost use Rattle.bitstream_stream.specs.Reading.Reads.{BitSource, Reads};
-ghost use Rattle.bitstream_stream.specs.Reading.ReadTable.{bit_entry};
+ghost use Rattle.bitstream_stream.specs.Reading.ReadTable.{bit_decoder};
 ghost use Rattle.bitstream_stream.specs.Writing.Sink.{Sink, Writes, WritesAll};
 ghost use Rattle.bitstream_stream.specs.Writing.WriteTable.{bit};
 ghost use Rattle.bitstream_value.specs.Tree.{bit_by_bit};
@@ -16,14 +16,15 @@ use bitstream_count::error::Error;
 use bitstream_stream::read::BitRead;
 use bitstream_stream::write::BitWrite;
 
-/// All that a code needs of a reader. Every reader of bits is one, and fails as [`BitRead`] says.
+/// The calls that a code needs of a reader. Every reader of bits has them, with the errors of
+/// [`BitRead`].
 pub trait NextBit {
-    // What the states of the reader mean.
+    // The meaning of the reader's states.
     ghost source: { BitSource Self };
 
     /// Reads one bit, and returns whether it is 1.
     fn next_bit(&mut self) -> Result<bool, Error>
-        ensures reads { Reads source bit_entry self.old result self.new };
+        ensures reads { Reads source bit_decoder self.old result self.new };
 }
 
 impl<R: BitRead> NextBit for R {
@@ -35,9 +36,10 @@ impl<R: BitRead> NextBit for R {
     }
 }
 
-/// All that a code needs of a sink. Every sink of bits is one, and fails as [`BitWrite`] says.
+/// The calls that a code needs of a sink. Every sink of bits has them, with the errors of
+/// [`BitWrite`].
 pub trait PutBit {
-    // What the states of the sink mean.
+    // The meaning of the sink's states.
     ghost sink: { Sink Self };
 
     /// Writes one bit: 1 for `true`.
@@ -54,17 +56,17 @@ impl<W: BitWrite> PutBit for W {
     }
 }
 
-/// A prefix code that is read, bit by bit. Its only errors are those of the reader.
+/// A prefix code that is read bit by bit. Its only errors are the reader's.
 pub trait FromBits {
     /// The symbols of the code.
     type Symbol;
 
-    // The read entry of the code.
-    ghost entry: { Self → ReadEntry Self.Symbol };
+    // The decoder of the code.
+    ghost decoder: { Self → Decoder Self.Symbol };
 
     /// Reads one word, and returns its symbol.
     fn from_bits<N: NextBit>(&self, next: &mut N) -> Result<Self::Symbol, Error>
-        ensures reads { Reads N.source (entry self.now) next.old result next.new };
+        ensures reads { Reads N.source (decoder self.now) next.old result next.new };
 }
 
 /// A prefix code that is written, bit by bit.
@@ -79,8 +81,8 @@ pub trait ToBits {
     ///
     /// # Errors
     ///
-    /// Those of the sink. The bits before the refused one stay written. A word of no bits always
-    /// succeeds.
+    /// The errors of the sink. The bits before the refused one stay written. A word of no bits
+    /// always succeeds.
     fn to_bits<P: PutBit>(&self, symbol: Self::Symbol, put: &mut P) -> Result<(), Error>
         ensures writes { WritesAll P.sink (bit_by_bit (word self.now symbol))
             put.old result put.new };

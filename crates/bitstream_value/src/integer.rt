@@ -1,7 +1,7 @@
 //! Types whose values are read and written as bits.
 ghost use Rattle.std.specs.Prelude.{ℕ, List, IfOk};
 ghost use Rattle.bitstream_number.specs.Word.{Order};
-ghost use Rattle.bitstream_count.specs.Entry.{ReadEntry, WriteEntry};
+ghost use Rattle.bitstream_count.specs.Codec.{Decoder, Encoder};
 ghost use Rattle.bitstream_stream.specs.Reading.Reads.{Reads};
 ghost use Rattle.bitstream_stream.specs.Writing.Sink.{WritesAll};
 
@@ -26,22 +26,22 @@ use bitstream_stream::write::BitWrite;
 ///
 /// # Errors
 ///
-/// Those of the reader ([`BitRead`]) and of the sink ([`BitWrite`]). The calls below name only the
-/// errors of their own.
+/// The errors of the reader ([`BitRead`]) and of the sink ([`BitWrite`]). The calls below name only
+/// their own errors.
 ///
 /// A value that was read in n bits fits them: an unsigned number is below 2^n, a signed one lies from
 /// -2^(n-1) to 2^(n-1) - 1, and a `NonZero` is at most 2^n. Callers know it, so that a sum on a
 /// field that is narrower than its type needs no test.
 pub trait Integer: Sized {
-    // The read entry and the write entries of a value in a number of bits, in either order.
-    ghost reads: { Order → ℕ → ReadEntry Self };
+    // The decoder and the encoders of a value in a number of bits, in either order.
+    ghost reads: { Order → ℕ → Decoder Self };
 
-    ghost writes: { Order → ℕ → Self → List WriteEntry };
+    ghost writes: { Order → ℕ → Self → List Encoder };
 
     // The widths at which no value is rejected for its width.
     ghost IsWidth: { ℕ → Type 0 };
 
-    // What is known of a value that was read in a number of bits.
+    // The known range of a value that was read in a number of bits.
     ghost Fits: { ℕ → Self → Type 0 };
 
     /// Reads a value of `B::BITS` bits, a width that is never rejected.
@@ -49,13 +49,13 @@ pub trait Integer: Sized {
         requires { IsWidth B.BITS }
         // It is a read of the type's entry at `B::BITS` bits.
         ensures reads { Reads R.source (reads R.source.order B.BITS) reader.old result reader.new }
-        // A value that is answered fits `B::BITS` bits.
+        // A value that is returned fits `B::BITS` bits.
         ensures fits { IfOk result (λ value. Fits B.BITS value) }
     {
         Self::read_var(reader, BitCount::unknown(B::BITS))
     }
 
-    /// Reads a value of the given number of bits.
+    /// Reads a value of `bits` bits.
     ///
     /// # Errors
     ///
@@ -66,7 +66,7 @@ pub trait Integer: Sized {
         // It is a read of the type's entry at `bits` bits.
         ensures reads { Reads R.source (reads R.source.order (C.number bits))
             reader.old result reader.new }
-        // A value that is answered fits `bits` bits.
+        // A value that is returned fits `bits` bits.
         ensures fits { IfOk result (λ value. Fits (C.number bits) value) };
 
     /// Writes a value in `B::BITS` bits, a width that is never rejected.
@@ -82,7 +82,7 @@ pub trait Integer: Sized {
         self.write_var(writer, BitCount::unknown(B::BITS))
     }
 
-    /// Writes a value in the given number of bits.
+    /// Writes a value in `bits` bits.
     ///
     /// # Errors
     ///
@@ -102,14 +102,14 @@ pub trait Integer: Sized {
 ///
 /// # Errors
 ///
-/// Those of the reader ([`BitRead`]) and of the sink ([`BitWrite`]). The calls below name only the
-/// errors of their own.
+/// The errors of the reader ([`BitRead`]) and of the sink ([`BitWrite`]). The calls below name only
+/// their own errors.
 pub trait VBRInteger: Integer {
-    // The read entry and the write entries of a value in groups of a number of bits, in either
+    // The decoder and the encoders of a value in groups of a number of bits, in either
     // order.
-    ghost reads_vbr: { Order → ℕ → ReadEntry Self };
+    ghost reads_vbr: { Order → ℕ → Decoder Self };
 
-    ghost writes_vbr: { Order → ℕ → Self → List WriteEntry };
+    ghost writes_vbr: { Order → ℕ → Self → List Encoder };
 
     // The sizes that a group may have, in bits.
     ghost IsFieldSize: { ℕ → Type 0 };

@@ -3,14 +3,14 @@
 //! The contract of each function is a law. Its body is empty.
 
 ghost use Rattle.std.specs.Prelude.{◌≡◌, ℕ, ◌+◌, ◌%◌, ◌<◌, ◌≤◌, ◌↔◌, Bool, true, List, ◌++◌, length, take, Option, IfSome, IsSome, Some, Result, Ok};
-ghost use Rattle.bitstream_count.specs.Entry.{Takes};
+ghost use Rattle.bitstream_count.specs.Codec.{Done};
 ghost use Rattle.bitstream_count.specs.declared.error.Error.{Error};
 ghost use Rattle.bitstream_number.specs.Word.{High};
 ghost use Rattle.bitstream_value.specs.ByteTypes.{ByteWritesOwn, CountsBytes, HasOneTotal};
 ghost use Rattle.bitstream_value.specs.Lengths.{CountsBits, HasOneLength, IsNumberWithin};
 ghost use Rattle.bitstream_value.specs.LimitedUnary.{limited_unary, limited_tree};
 ghost use Rattle.bitstream_value.specs.Own.{WritesOwn};
-ghost use Rattle.bitstream_value.specs.Tree.{Tree, IsPath, IsFirstPath, path_entry, first_path, symbol_word};
+ghost use Rattle.bitstream_value.specs.Tree.{Tree, IsPath, IsFirstPath, path_decoder, first_path, symbol_word};
 
 use crate::build::{ToBitStream, ToBitStreamUsing, ToBitStreamWith};
 use crate::byte_build::{ToByteStream, ToByteStreamUsing, ToByteStreamWith};
@@ -18,18 +18,18 @@ use bitstream_sink::counter::Counter;
 use bitstream_stream::bytes::byte_write::ByteWrite;
 use bitstream_stream::write::BitWrite;
 
-/// No path of a tree is the beginning of another one. A path is read back, whatever follows it. A
-/// read takes a path, and answers the symbol at its leaf.
+/// No path of a tree is a prefix of another path. A path is read back, whatever follows it. A read
+/// takes a path, and returns the symbol at its leaf.
 pub fn paths_are_read<S>()
     // If the same bits begin with two paths, both are the same path, to the same symbol.
     ensures apart { (t : Tree S) (u v x y : List Bool) (a b : S) → IsPath t u a → IsPath t v b
         → u ++ x ≡ v ++ y → (u ≡ v) × (a ≡ b) }
     // A path is read as the symbol at its leaf, whatever follows it.
     ensures back { (t : Tree S) (w : List Bool) (s : S) (p : ℕ) (more : List Bool) → IsPath t w s
-        → (path_entry t).reads p (w ++ more) ≡ Takes (length w) (Ok s) }
-    // If a read answers, it took the bits of a path and answers the symbol at its leaf.
+        → (path_decoder t).reads p (w ++ more) ≡ Done (length w) (Ok s) }
+    // If a read succeeds, it took the bits of a path and returns the symbol at its leaf.
     ensures taken { (t : Tree S) (p : ℕ) (bits : List Bool) (n : ℕ) (answer : Result S Error)
-        → (path_entry t).reads p bits ≡ Takes n answer
+        → (path_decoder t).reads p bits ≡ Done n answer
         → (n ≤ length bits) × ((s : S) × (answer ≡ Ok s) × IsPath t (take n bits) s) }
 {}
 
@@ -39,13 +39,13 @@ pub fn symbols_have_words<S>()
     // A symbol has a word exactly if a leaf has the same symbol.
     ensures known { (same : S → S → Bool) (t : Tree S) (s : S) → IsSome (first_path same t s)
         ↔ ((w : List Bool) × (x : S) × IsPath t w x × (same x s ≡ true)) }
-    // The word is the path of the first such leaf, and is what is written.
+    // The word is the path of the first such leaf, and it is the word written.
     ensures first { (same : S → S → Bool) (t : Tree S) (s : S) (w : List Bool)
         → first_path same t s ≡ Some w → IsFirstPath same t s w × (symbol_word same t s ≡ w) }
     // The word is read as a symbol that is the same, whatever follows it.
     ensures back { (same : S → S → Bool) (t : Tree S) (s : S) (w : List Bool)
         → first_path same t s ≡ Some w → (x : S) × (same x s ≡ true)
-        × ((p : ℕ) (more : List Bool) → (path_entry t).reads p (w ++ more) ≡ Takes (length w) (Ok x)) }
+        × ((p : ℕ) (more : List Bool) → (path_decoder t).reads p (w ++ more) ≡ Done (length w) (Ok x)) }
 {}
 
 /// The words of limited unary are the paths of a tree, whose leaves are `None` and the numbers below
@@ -97,8 +97,8 @@ pub fn bits_using_a_context_are_those_appended<T: ToBitStreamUsing, C: Counter, 
         → IsNumberWithin C.value C.greatest T.becomes n bits }
 {}
 
-/// What `bytes` answers is the number of bytes that `to_writer` appends, or `CounterOverflow` if C
-/// does not hold it: if it is one number in both orders of bytes.
+/// `bytes` returns the number of bytes that `to_writer` appends, or `CounterOverflow` if C does not
+/// hold it: if the number is the same in both orders of bytes.
 pub fn bytes_are_those_appended<T: ToByteStream, C: Counter, W: ByteWrite>()
     ensures { (value : T) (old new : W) (bytes : Result C T.Error) (n : ℕ)
         → HasOneTotal (λ o. T.writes o value)

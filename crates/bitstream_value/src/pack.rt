@@ -3,7 +3,7 @@ ghost use Rattle.std.specs.Prelude.{◌≡◌, ◌∷◌, ◌++◌, [], Ok};
 ghost use Rattle.bitstream_count.specs.declared.error.Error.{Error};
 ghost use Rattle.bitstream_stream.specs.Writing.Sink.{WritesAll};
 ghost use Rattle.bitstream_stream.specs.Writing.WriteTable.{align};
-ghost use Rattle.bitstream_value.specs.Lengths.{run_length};
+ghost use Rattle.bitstream_value.specs.Lengths.{sequence_length};
 ghost use Rattle.bitstream_value.specs.PackInto.{PacksInto, error_or};
 
 use crate::build::ToBitStream;
@@ -54,7 +54,7 @@ fn write_whole<T: ToBitStream<Error = Error>, W: BitWrite>(
 fn misfit_or<E: Endianness, T: ToBitStream<Error = Error>>(value: &T, other: Error) -> Error
     requires same { (error own : Error) → T.becomes error own → own ≡ error }
     requires plain { T.answers value.now ≡ Ok tt }
-    ensures { result ≡ error_or (run_length (T.writes E.order value.now) 0) other }
+    ensures { result ≡ error_or (sequence_length (T.writes E.order value.now) 0) other }
 {
     let mut writer = BitWriter::<_, E>::new(Discard {});
     match value.to_writer(&mut writer) {
@@ -76,7 +76,7 @@ pub fn pack_into<'a, E: Endianness, T: ToBitStream<Error = Error>>(
     value: &T,
     buffer: &'a mut [u8],
 ) -> Result<SliceMut<'a>, Error>
-    // The type's errors are those of the sink.
+    // The type's errors are the sink's.
     requires same { (error own : Error) → T.becomes error own → own ≡ error }
     // It has none of its own.
     requires plain { T.answers value.now ≡ Ok tt }

@@ -1,7 +1,7 @@
 //! Types whose values are read from bits.
 ghost use Rattle.std.specs.Prelude.{Bool, false, Result};
 ghost use Rattle.bitstream_count.specs.declared.error.Error.{Error};
-ghost use Rattle.bitstream_count.specs.Entry.{ReadEntry};
+ghost use Rattle.bitstream_count.specs.Codec.{Decoder};
 ghost use Rattle.bitstream_number.specs.Word.{Order};
 ghost use Rattle.bitstream_value.specs.Grows.{OwnReads};
 
@@ -13,21 +13,21 @@ pub trait FromBitStream: Sized {
     /// The type of the errors of a read.
     type Error;
 
-    // Whether a read asks for memory of its own.
+    // True if a read allocates.
     ghost grows: { Bool } = { false };
 
-    // What an error of the reader becomes.
+    // The error map: from an error of the reader to the type's own.
     ghost becomes: { Error → Self.Error → Type 0 };
 
-    // The reads of a value, in either order of bits. They answer the errors of the type too.
-    ghost reads: { Order → ReadEntry (Result Self Self.Error) };
+    // The reads of a value, in either order of bits. They return the errors of the type too.
+    ghost reads: { Order → Decoder (Result Self Self.Error) };
 
     /// Reads a value.
     ///
     /// # Errors
     ///
-    /// Those of the reader, as they become errors of the type, and the type's own. The parts before
-    /// the one that is refused stay read.
+    /// An error of the reader, mapped to the type's, or the type's own. The parts before the error
+    /// stay read.
     fn from_reader<R: BitRead>(reader: &mut R) -> Result<Self, Self::Error>
         ensures reads { OwnReads grows R.source becomes (reads R.source.order)
             reader.old result reader.new };
@@ -36,20 +36,20 @@ pub trait FromBitStream: Sized {
 /// A type whose values are read from bits with a context, which is lent.
 /// [`parse_with`](crate::read::BitReadExt::parse_with) reads them from any reader.
 pub trait FromBitStreamWith: Sized {
-    /// What is known before a value is read.
+    /// The context: data known before a value is read.
     type Context;
 
     /// The type of the errors of a read.
     type Error;
 
-    // Whether a read asks for memory of its own.
+    // True if a read allocates.
     ghost grows: { Bool } = { false };
 
-    // What an error of the reader becomes.
+    // The error map: from an error of the reader to the type's own.
     ghost becomes: { Error → Self.Error → Type 0 };
 
-    // The reads of a value, in either order of bits. They answer the errors of the type too.
-    ghost reads: { Order → Self.Context → ReadEntry (Result Self Self.Error) };
+    // The reads of a value, in either order of bits. They return the errors of the type too.
+    ghost reads: { Order → Self.Context → Decoder (Result Self Self.Error) };
 
     /// Reads a value.
     ///
@@ -64,20 +64,20 @@ pub trait FromBitStreamWith: Sized {
 /// A type whose values are read from bits with a context, which is used up.
 /// [`parse_using`](crate::read::BitReadExt::parse_using) reads them from any reader.
 pub trait FromBitStreamUsing: Sized {
-    /// What is known before a value is read.
+    /// The context: data known before a value is read.
     type Context;
 
     /// The type of the errors of a read.
     type Error;
 
-    // Whether a read asks for memory of its own.
+    // True if a read allocates.
     ghost grows: { Bool } = { false };
 
-    // What an error of the reader becomes.
+    // The error map: from an error of the reader to the type's own.
     ghost becomes: { Error → Self.Error → Type 0 };
 
-    // The reads of a value, in either order of bits. They answer the errors of the type too.
-    ghost reads: { Order → Self.Context → ReadEntry (Result Self Self.Error) };
+    // The reads of a value, in either order of bits. They return the errors of the type too.
+    ghost reads: { Order → Self.Context → Decoder (Result Self Self.Error) };
 
     /// Reads a value.
     ///

@@ -1,6 +1,6 @@
 //! Calls that read values of any type.
 ghost use Rattle.std.specs.Prelude.{IfOk};
-ghost use Rattle.bitstream_order.specs.Moving.Gather.{seen};
+ghost use Rattle.bitstream_order.specs.Moving.Gather.{result_map};
 ghost use Rattle.bitstream_stream.specs.Reading.Reads.{Reads};
 ghost use Rattle.bitstream_value.specs.Grows.{OwnReads};
 
@@ -40,10 +40,10 @@ pub trait BitReadExt: BitRead {
         // It is a read of the type's entry at `B::BITS` bits.
         ensures reads { Reads Self.source (I.reads Self.source.order B.BITS)
             self.old result self.new }
-        // A value that is answered fits `B::BITS` bits.
+        // A value that is returned fits `B::BITS` bits.
         ensures fits { IfOk result (λ value. I.Fits B.BITS value) };
 
-    /// Reads a value of the given number of bits.
+    /// Reads a value of `bits` bits.
     ///
     /// # Errors
     ///
@@ -52,10 +52,10 @@ pub trait BitReadExt: BitRead {
         // It is a read of the type's entry at `bits` bits.
         ensures reads { Reads Self.source (I.reads Self.source.order bits)
             self.old result self.new }
-        // A value that is answered fits `bits` bits.
+        // A value that is returned fits `bits` bits.
         ensures fits { IfOk result (λ value. I.Fits bits value) };
 
-    /// Reads a value of the given number of bits.
+    /// Reads a value of `bits` bits.
     ///
     /// # Errors
     ///
@@ -64,7 +64,7 @@ pub trait BitReadExt: BitRead {
         // It is a read of the type's entry at `bits` bits.
         ensures reads { Reads Self.source (I.reads Self.source.order (C.number bits))
             self.old result self.new }
-        // A value that is answered fits `bits` bits.
+        // A value that is returned fits `bits` bits.
         ensures fits { IfOk result (λ value. I.Fits (C.number bits) value) };
 
     /// Reads a value of variable width, in groups of `F::BITS` bits.
@@ -77,14 +77,14 @@ pub trait BitReadExt: BitRead {
         ensures reads { Reads Self.source (I.reads_vbr Self.source.order F.BITS)
             self.old result self.new };
 
-    /// Reads a number of as many bits as the count says, and returns it with the count.
+    /// Reads a number of `count` bits, and returns it with the count.
     ///
     /// # Errors
     ///
     /// As [`CheckablePrimitive::read`].
     fn read_checked<C: CheckablePrimitive>(&mut self, count: C::CountType) -> Result<C, Error>
         ensures reads { Reads Self.source (C.reads Self.source.order count)
-            self.old (seen C.counted result) self.new };
+            self.old (result_map C.counted result) self.new };
 
     /// Reads the word of a symbol of a prefix code, and returns the symbol.
     ///
@@ -92,9 +92,9 @@ pub trait BitReadExt: BitRead {
     ///
     /// As [`FromBits::from_bits`].
     fn read_huffman<T: FromBits>(&mut self, code: &T) -> Result<T::Symbol, Error>
-        ensures reads { Reads Self.source (T.entry code.now) self.old result self.new };
+        ensures reads { Reads Self.source (T.decoder code.now) self.old result self.new };
 
-    /// Reads a value of a type that says how it is read.
+    /// Reads a value of a type that implements its own reads.
     ///
     /// # Errors
     ///
@@ -103,7 +103,7 @@ pub trait BitReadExt: BitRead {
         ensures reads { OwnReads F.grows Self.source F.becomes (F.reads Self.source.order)
             self.old result self.new };
 
-    /// Reads a value of such a type, with a context that is lent.
+    /// Reads a value that needs a borrowed context.
     ///
     /// # Errors
     ///
@@ -112,7 +112,7 @@ pub trait BitReadExt: BitRead {
         ensures reads { OwnReads F.grows Self.source F.becomes (F.reads Self.source.order context.now)
             self.old result self.new };
 
-    /// Reads a value of such a type, with a context that is used up.
+    /// Reads a value that needs a context by value.
     ///
     /// # Errors
     ///

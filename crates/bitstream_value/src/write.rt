@@ -37,7 +37,7 @@ pub trait BitWriteExt: BitWrite {
         ensures writes { WritesAll Self.sink (I.writes Self.sink.order B.BITS value)
             self.old result self.new };
 
-    /// Writes a value in the given number of bits.
+    /// Writes a value in `bits` bits.
     ///
     /// # Errors
     ///
@@ -46,7 +46,7 @@ pub trait BitWriteExt: BitWrite {
         ensures writes { WritesAll Self.sink (I.writes Self.sink.order bits value)
             self.old result self.new };
 
-    /// Writes a value in the given number of bits.
+    /// Writes a value in `bits` bits.
     ///
     /// # Errors
     ///
@@ -65,7 +65,7 @@ pub trait BitWriteExt: BitWrite {
         ensures writes { WritesAll Self.sink (I.writes_vbr Self.sink.order F.BITS value)
             self.old result self.new };
 
-    /// Writes a checked value in as many bits as its count says. It is never rejected.
+    /// Writes a checked value, with the number of bits in its count. It is never rejected.
     ///
     /// # Errors
     ///
@@ -83,7 +83,7 @@ pub trait BitWriteExt: BitWrite {
         ensures writes { WritesAll Self.sink (bit_by_bit (T.word code.now symbol))
             self.old result self.new };
 
-    /// Writes a value of a type that says how it is written.
+    /// Writes a value of a type that implements its own writes.
     ///
     /// # Errors
     ///
@@ -92,7 +92,7 @@ pub trait BitWriteExt: BitWrite {
         ensures writes { WritesOwn Self.sink T.becomes (T.writes Self.sink.order value.now)
             (T.answers value.now) self.old result self.new };
 
-    /// Writes a value of such a type, with a context that is lent.
+    /// Writes a value that needs a borrowed context.
     ///
     /// # Errors
     ///
@@ -106,7 +106,7 @@ pub trait BitWriteExt: BitWrite {
             (T.writes Self.sink.order value.now context.now) (T.answers value.now context.now)
             self.old result self.new };
 
-    /// Writes a value of such a type, with a context that is used up.
+    /// Writes a value that needs a context by value.
     ///
     /// # Errors
     ///

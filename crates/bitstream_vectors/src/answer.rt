@@ -1,4 +1,4 @@
-//! Answers of calls, as rows spell them.
+//! Results of calls, as rows spell them.
 
 use crate::objection::Objection;
 use bitstream_io::{CheckedError, Error};
@@ -7,7 +7,7 @@ use std::io::ErrorKind;
 use std::num::ParseIntError;
 use std::str::FromStr;
 
-/// What a write call answers, where its row spells one.
+/// The result of a write call, if its row spells one.
 pub type Answer = Result<Result<(), Error>, Objection>;
 
 /// The name of an error.
@@ -54,7 +54,7 @@ fn stream_name(kind: ErrorKind) -> &'static str {
     name
 }
 
-/// Whether a text is what a call answered: `ok`, or the name of the error.
+/// Returns true if a text is the result of a call: `ok`, or the name of the error.
 pub fn is_done(want: &str, answer: &Result<(), Error>) -> bool {
     match answer {
         Ok(()) => want == "ok",
@@ -62,7 +62,7 @@ pub fn is_done(want: &str, answer: &Result<(), Error>) -> bool {
     }
 }
 
-/// Whether a text is what a call answered: the number, or the name of the error.
+/// Returns true if a text is the result of a call: the number, or the name of the error.
 pub fn is_number<T: FromStr<Err = ParseIntError> + PartialEq + Drop>(
     want: &str,
     answer: Result<T, Error>,
@@ -76,7 +76,7 @@ pub fn is_number<T: FromStr<Err = ParseIntError> + PartialEq + Drop>(
     }
 }
 
-/// Whether a text is what a call answered: a number, `none`, or the name of the error.
+/// Returns true if a text is the result of a call: a number, `none`, or the name of the error.
 pub fn is_optional<T: FromStr<Err = ParseIntError> + PartialEq + Drop>(
     want: &str,
     answer: Result<Option<T>, Error>,
@@ -103,7 +103,7 @@ pub fn bytes_of(alloc: Global, text: &str) -> Result<Vec<u8>, Objection> {
     Ok(bytes)
 }
 
-/// Whether hexadecimal digits spell these bytes, as [`bytes_of`] reads them.
+/// Returns true if hexadecimal digits spell these bytes, as [`bytes_of`] reads them.
 pub fn are_bytes(want: &str, bytes: &[u8]) -> bool {
     if want == "-" {
         return bytes.is_empty();

@@ -1,17 +1,17 @@
 //! Buffers of each length, at each place in a byte, in both orders.
 //!
-//! What is to stand written comes from a formula over bytes, and not from the library.
+//! The expected bytes come from a formula over bytes, and not from the library.
 use crate::row::Order;
 use bitstream_io::{BE, BitRead, BitReader, BitWrite, BitWriter, Endianness, LE};
 use std::alloc::{AllocError, Global};
 use std::io;
 
-/// How many lengths there are, from 0 on: the longest is two of the pieces in which long buffers go,
-/// and two bytes.
+/// The number of lengths, from 0 on: the longest is two of the pieces in which long buffers are
+/// moved, and two bytes.
 const LENGTHS: usize = 2051;
 
-/// The byte of each buffer at an index. Neighbours differ, and so do the first and the last bit of a
-/// byte, so that none is itself with its bits turned round.
+/// Returns the byte of each buffer at an index. Neighbours differ, and so do the first and the last
+/// bit of a byte, so that no byte equals its own reversed bits.
 pub fn byte_at(index: usize) -> u8 {
     let low = ((index % 127).wrapping_mul(37) % 127) as u8;
     if low % 2 == 0 { low | 0x80 } else { low }
@@ -21,14 +21,15 @@ pub fn byte_at(index: usize) -> u8 {
 #[derive(Clone, Copy, Drop)]
 struct Place {
     order: Order,
-    /// How many bits stand before, each of them 1.
+    /// The number of bits before, each of them 1.
     bits: u32,
     /// The number of these bits.
     lead: u8,
 }
 
 impl Place {
-    /// The byte that begins with the last `bits` bits of a byte and goes on with the first of the next.
+    /// Returns the byte that begins with the last `bits` bits of a byte and continues with the
+    /// first bits of the next.
     fn joined(self, before: u8, this: u8) -> u8 {
         let (before, this) = (u16::from(before), u16::from(this));
         let both = match self.order {
@@ -50,12 +51,12 @@ impl Place {
         self.write_to(&mut BitWriter::<_, E>::new(written), bytes)
     }
 
-    /// Reads as many bits, and then bytes.
+    /// Reads the bits before, and then bytes.
     fn read_from<R: BitRead>(self, reader: &mut R, buf: &mut [u8]) -> bool {
         reader.read_unsigned_var::<u8>(self.bits).is_ok() & reader.read_bytes(buf).is_ok()
     }
 
-    /// Reads as many bits, and then bytes, from memory.
+    /// Reads the bits before, and then bytes, from memory.
     fn read<E: Endianness>(self, from: &[u8], buf: &mut [u8]) -> bool {
         self.read_from(&mut BitReader::<_, E>::new(from), buf)
     }
@@ -69,7 +70,7 @@ struct Scratch {
 }
 
 impl Scratch {
-    /// Whether bytes are written as they are to be, and are read from what is to stand written.
+    /// Returns true if `bytes` are written as `want`, and `want` is read as `bytes`.
     fn agrees<E: Endianness>(
         &mut self,
         place: Place,
@@ -86,7 +87,7 @@ impl Scratch {
     }
 }
 
-/// How many lengths differ at a place. A call that is refused differs too.
+/// Returns the number of lengths that differ at a place. A call that is refused differs too.
 fn differing<E: Endianness>(alloc: Global, place: Place) -> Result<u32, AllocError> {
     let mut scratch = Scratch {
         written: Vec::new(alloc),
@@ -112,7 +113,7 @@ fn differing<E: Endianness>(alloc: Global, place: Place) -> Result<u32, AllocErr
     Ok(differing)
 }
 
-/// Writes and reads all buffers. Prints how many differ, and gives it.
+/// Writes and reads all buffers. Prints the number that differ, and returns it.
 pub fn play_buffers(rt: &impl Print, alloc: Global) -> io::Result<u32> {
     let mut all = 0u32;
     let mut lead = 0u8;

@@ -6,16 +6,16 @@ use std::alloc::Global;
 use std::num::ParseIntError;
 use std::str::FromStr;
 
-/// A call with the answer that a row wants.
+/// A call with the result that a row wants.
 #[derive(Clone, Copy, Drop)]
 pub struct Call<'a> {
-    /// What it reads or writes, or asks.
+    /// The form of the call: what it reads, writes or asks.
     pub form: Form,
-    /// In how many bits, how many bytes, or the greatest number of a count.
+    /// The number of bits or bytes, or the greatest number of a count.
     pub bits: u32,
-    /// What it writes, the number of a constant, or the calls that it is given.
+    /// The value that it writes, the number of a constant, or the calls that a recorder is given.
     pub value: &'a str,
-    /// What it answers.
+    /// The expected result.
     pub answer: &'a str,
 }
 
@@ -33,7 +33,7 @@ impl<'a> Call<'a> {
         Call::of_words(kind, words.as_slice(), answer)
     }
 
-    /// The call that words spell, with its answer. A write call that has none is accepted.
+    /// Parses a call from words, with its result. A write call without a result is accepted.
     fn of_words(
         kind: Kind,
         words: &[&'a str],
@@ -69,7 +69,7 @@ impl<'a> Call<'a> {
         }
     }
 
-    /// The call that reads one bit, which is answered so.
+    /// Returns the call that reads one bit, with this result.
     pub fn reads_bit(answer: &'static str) -> Call<'static> {
         Call {
             form: Form::Bit,
@@ -99,7 +99,7 @@ impl<'a> Call<'a> {
         }
     }
 
-    /// Whether the word of the symbol that it writes has a bit.
+    /// Returns true if the word of the symbol that it writes has a bit.
     fn has_bits(&self) -> bool {
         match self.form {
             Form::Limited(_, most) => match self.value.parse::<u32>() {
@@ -111,7 +111,8 @@ impl<'a> Call<'a> {
         }
     }
 
-    /// Whether a call for whole bytes has any to move. One that has none asks the stream for nothing.
+    /// Returns true if a call for whole bytes has any to move. A call that has none asks the stream
+    /// for nothing.
     pub fn moves_bytes(&self) -> bool {
         match self.form {
             Form::Whole(_, _) => true,
@@ -119,13 +120,13 @@ impl<'a> Call<'a> {
         }
     }
 
-    /// Whether it seeks, and so asks the stream also once its reader has failed.
+    /// Returns true if it seeks, and so asks the stream even after its reader has failed.
     pub fn recovers(&self) -> bool {
         matches!(self.form, Form::Seek(Whence::Start | Whence::End))
     }
 
-    /// Whether it does not seek, or a reader of bytes in memory of so many bits goes on as one over a stream
-    /// does: to a place that it has, or it stays where it is.
+    /// Returns true if it does not seek, or a reader of `bits` bits in memory behaves as a reader
+    /// over a stream: it goes to a place that it has, or it stays where it is.
     pub fn stays_within(&self, bits: u64) -> bool {
         match (self.form, self.answer) {
             (Form::Seek(Whence::Current), "Place" | "Failed") => true,
@@ -134,7 +135,7 @@ impl<'a> Call<'a> {
         }
     }
 
-    /// How many of the requests that it makes first are seeks.
+    /// Returns the number of seeks that it makes first.
     pub fn seeks(&self) -> u64 {
         match self.form {
             Form::Seek(Whence::Start) | Form::Place | Form::PlaceIs(_) => 1,
@@ -143,8 +144,8 @@ impl<'a> Call<'a> {
         }
     }
 
-    /// What it answers on a reader or writer of bits that has failed. A checked value that is none,
-    /// or a count that is none, was refused before any call.
+    /// Returns its result on a reader or writer of bits that has failed. An invalid checked value,
+    /// or an invalid count, was refused before any call.
     pub fn answer_of_failed(&self, kind: Kind) -> &'a str {
         match (self.form, kind) {
             (Form::Aligned, _) => "no",
@@ -161,7 +162,7 @@ impl<'a> Call<'a> {
     }
 }
 
-/// Whether a text spells a symbol of a tree that has a bit.
+/// Returns true if a text spells a symbol of a tree that has a bit.
 fn has_symbol(tree: Tree, text: &str) -> bool {
     match tree {
         Tree::OneSided => is_among(&["0", "1", "2", "5"], text),
@@ -204,7 +205,8 @@ fn word_at<'a>(words: &[&'a str], at: usize) -> &'a str {
     words.get(at).copied().unwrap_or("")
 }
 
-/// The number that a text spells. It is compiled once a type, and not with each call that it goes to.
+/// Parses the number that a text spells. It is compiled once for each type, and not with each call
+/// that uses it.
 #[inline(never)]
 pub fn number<T: FromStr<Err = ParseIntError>>(text: &str) -> Result<T, Objection> {
     match text.parse() {

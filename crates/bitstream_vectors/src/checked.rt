@@ -13,7 +13,8 @@ use std::str::FromStr;
 /// The greatest number of a count.
 const MOST: u32 = u32::MAX;
 
-/// Whether a text is what a call answered: the number of a checked value, or the name of the error.
+/// Returns true if a text is the result of a call: the number of a checked value, or the name of
+/// the error.
 fn is_checked<C: Holds<T> + Copy, T>(want: &str, answer: Result<Checked<C, T>, Error>) -> bool
 where
     T: Copy + FromStr<Err = ParseIntError> + PartialEq + Drop,
@@ -42,7 +43,7 @@ where
     }
 }
 
-/// Reads a checked value, and tells whether it answers so.
+/// Reads a checked value, and returns true if the result is as wanted.
 pub fn read_checked<R: BitRead>(reader: &mut R, number: Number, bits: u32, want: &str) -> bool {
     match number {
         Number::Unsigned(size) => unsigned!(size, read_unsigned(reader, bits, want)),

@@ -9,14 +9,14 @@ use std::str::FromStr;
 
 /// A call whose width is a constant.
 trait FixedCall {
-    /// Makes it with a value in as many bits as B says, and tells whether it answers so.
+    /// Makes the call with a value in `B::BITS` bits, and returns true if the result is as wanted.
     fn make<B: Width, I>(&mut self) -> Result<bool, Objection>
     where
         I: Integer + FromStr<Err = ParseIntError> + PartialEq + Drop,
         requires { I.IsWidth B.BITS };
 }
 
-/// A read call, and what it is to answer.
+/// A read call, and its expected result.
 #[derive(Drop)]
 pub struct Reading<'a, R> {
     pub reader: &'a mut R,
@@ -32,7 +32,7 @@ impl<R: BitRead> FixedCall for Reading<'_, R> {
     }
 }
 
-/// A call that writes the value that a text spells, and what it is to answer.
+/// A call that writes the value that a text spells, and its expected result.
 #[derive(Drop)]
 pub struct Writing<'a, W> {
     pub writer: &'a mut W,
@@ -89,7 +89,7 @@ fn make_signed<C: FixedCall>(call: &mut C, size: Size, bits: u32) -> Result<bool
     }
 }
 
-/// Reads a number in a constant number of bits, and tells whether it answers so.
+/// Reads a number in a constant number of bits, and returns true if the result is as wanted.
 pub fn read_fixed<R: BitRead>(
     reader: &mut R,
     number: Number,
@@ -99,8 +99,8 @@ pub fn read_fixed<R: BitRead>(
     make_fixed(&mut Reading { reader, want }, number, bits)
 }
 
-/// Writes the number that a text spells in a constant number of bits, and tells whether that answers
-/// so.
+/// Writes the number that a text spells in a constant number of bits, and returns true if the
+/// result is as wanted.
 pub fn write_fixed<W: BitWrite>(
     writer: &mut W,
     number: Number,

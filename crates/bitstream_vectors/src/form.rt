@@ -19,7 +19,7 @@ pub enum Number {
     Signed(Size),
 }
 
-/// An array of items in as many bits each.
+/// An array of items of the same number of bits.
 #[derive(Clone, Copy, Drop)]
 pub enum Items {
     /// Four of `u8`.
@@ -32,8 +32,8 @@ pub enum Items {
     None,
 }
 
-/// What stands as a number of variable width: a number, one that is not 0, or that or none. A number
-/// may be read by the lenient call, also if its last groups are 0.
+/// The value of a number of variable width: a number, a number that is not 0, or such a number or
+/// none. The lenient call may read it too, even if its last groups are 0.
 #[derive(Clone, Copy, Drop)]
 pub enum Grouped {
     Unsigned,
@@ -57,25 +57,25 @@ pub enum Tree {
     Leaf,
 }
 
-/// What writes a symbol.
+/// The encoder of a symbol.
 #[derive(Clone, Copy, Drop)]
 pub enum Coder {
     /// The tree itself.
     Tree,
-    /// Its words, made before.
+    /// The symbols' words, precomputed.
     Words,
 }
 
 /// The order of the bytes of a primitive.
 #[derive(Clone, Copy, Drop)]
 pub enum ByteOrder {
-    /// That of the stream.
+    /// The stream's own.
     Own,
     Big,
     Little,
 }
 
-/// From where a seek counts its bits.
+/// The place from which a seek counts its bits.
 #[derive(Clone, Copy, Drop)]
 pub enum Whence {
     Start,
@@ -83,10 +83,10 @@ pub enum Whence {
     Current,
 }
 
-/// What a call reads or writes, or asks.
+/// The form of a call: what it reads, writes or asks.
 #[derive(Clone, Copy, Drop)]
 pub enum Form {
-    /// Whether the stream stands at the end of a byte.
+    /// True if the stream is at the end of a byte.
     Aligned,
     Align,
     Array(Items),
@@ -108,7 +108,7 @@ pub enum Form {
     Cursor,
     /// A number in a constant number of bits.
     Fixed(Number),
-    /// Digits up to a stop digit, or at most the given number of them.
+    /// Digits up to a stop digit, or at most this number of them.
     Limited(bool, u32),
     NonZero(Size),
     Optional(Size),
@@ -116,7 +116,7 @@ pub enum Form {
     Pad,
     /// The place in bits.
     Place,
-    /// Whether the place in bits is this one.
+    /// True if the place in bits is this one.
     PlaceIs(u64),
     /// A symbol of a tree.
     Prefix(Tree, Coder),
@@ -128,22 +128,22 @@ pub enum Form {
     Skip,
     /// Digits up to a stop digit.
     Unary(bool),
-    /// A number in the given number of bits, as a value.
+    /// A number in a number of bits, as a value.
     Value(Number),
-    /// A number of a size, in groups of the given number of bits.
+    /// A number of a size, in groups of this number of bits.
     Variable(Grouped, Size, u32),
-    /// Two of `u8`, each in groups of the given number of bits.
+    /// Two `u8`, each in groups of this number of bits.
     VariablePair(u32),
     /// A vector of bytes.
     Vector,
     /// A primitive.
     Whole(ByteOrder, Number),
-    /// A number in the given number of bits, by the calls for words alone.
+    /// A number in a number of bits, only by the calls for words.
     Word(Number),
 }
 
 impl Form {
-    /// How many words stand behind the call's name where it reads, and where it writes.
+    /// Returns the number of words after the call's name, for reads and for writes.
     pub fn arguments(self) -> (usize, usize) {
         match self {
             Form::Align | Form::Aligned | Form::Clear | Form::Place | Form::PlaceIs(_) => (0, 0),
@@ -154,7 +154,7 @@ impl Form {
         }
     }
 
-    /// At which word a call's value stands, if it has no number of bits.
+    /// Returns the index of the word with a call's value, if it has no number of bits.
     pub fn place_of_value(self, kind: Kind) -> Option<usize> {
         match (self, kind) {
             (Form::Bytes, Kind::Write) => Some(1),
@@ -167,11 +167,11 @@ impl Form {
     }
 }
 
-/// The form that a name spells, of a primitive with the word behind it.
+/// Returns the form that a name spells. For a primitive, the word after it belongs to the name.
 ///
 /// # Errors
 ///
-/// That the name spells none.
+/// If the name spells none.
 pub fn form_of(name: &str, next: &str) -> Result<Form, Objection> {
     let named = named(&PLAIN, name).or_else(|| whole_form(name, next));
     let named = named.or_else(|| variable_form(name, next));
@@ -181,7 +181,7 @@ pub fn form_of(name: &str, next: &str) -> Result<Form, Objection> {
         .ok_or(Objection::BAD_FORM)
 }
 
-/// The forms that a name alone spells.
+/// The forms that a name spells without the word after it.
 const PLAIN: [(&str, Form); 32] = [
     ("align", Form::Align),
     ("aligned", Form::Aligned),
@@ -217,7 +217,7 @@ const PLAIN: [(&str, Form); 32] = [
     ("vector", Form::Vector),
 ];
 
-/// What a table has under a name.
+/// Returns the entry of a table under a name.
 fn named<T: Copy>(table: &[(&'static str, T)], name: &str) -> Option<T> {
     let mut found = None;
     for (spelled, value) in table {
@@ -263,7 +263,7 @@ const GROUPED: [(&str, (Grouped, Size)); 20] = [
     ("optional128", (Grouped::Optional, Size::Bits128)),
 ];
 
-/// The type that goes in groups and that a name spells.
+/// Returns the type of a number of variable width that a name spells.
 fn grouped_of(name: &str) -> Option<(Grouped, Size)> {
     named(&GROUPED, name)
 }

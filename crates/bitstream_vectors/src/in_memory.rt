@@ -1,26 +1,26 @@
 //! Words, runs and parts of bytes in memory, and calls that they are too short for, at each place in a byte,
 //! in both orders.
 //!
-//! What is to be read is computed from single bits, and not by the library.
+//! The expected values are computed from single bits, and not by the library.
 use crate::buffers::byte_at;
 use crate::row::Order;
 use bitstream_io::{BE, BitRead, Bits, Endianness, Error, LE, SliceReader};
 use std::io;
 use std::io::SeekFrom;
 
-/// How many widths of words there are, from 0 on.
+/// The number of widths of words, from 0 on.
 const WIDTHS: u32 = 129;
 
-/// How many lengths of runs there are, from 0 on: the longest is of three words of 64 bits, and 8 bits.
+/// The number of lengths of runs, from 0 on: the longest is three words of 64 bits, and 8 bits.
 const RUNS: u32 = 201;
 
 /// The bits before the byte in which a word begins.
 const BEFORE: u32 = 24;
 
-/// The bytes behind a word or a run, where there are any.
+/// The number of bytes after a word or a run, if there are any.
 const BEHIND: usize = 16;
 
-/// The bytes of which parts are taken.
+/// The number of bytes from which parts are taken.
 const WHOLE: usize = 5;
 
 /// The number of some bits.
@@ -36,8 +36,8 @@ fn number_of(order: Order, bytes: &[u8], at: u32, width: u32) -> u128 {
     number
 }
 
-/// Whether a word is read so at a place, and its bits are taken. Of 64 bits or fewer it is read as a number
-/// of 64 bits too.
+/// Returns true if a word at a place is read as wanted, and its bits are taken. A word of 64 bits
+/// or fewer is read as a number of 64 bits too.
 fn reads_word<E: Endianness>(bytes: &[u8], at: u64, width: u32, want: u128) -> bool {
     let mut reader = SliceReader::<E>::over(bytes);
     let there = reader.seek_bits(SeekFrom::Start(at)).is_ok();
@@ -49,7 +49,8 @@ fn reads_word<E: Endianness>(bytes: &[u8], at: u64, width: u32, want: u128) -> b
     there & same & taken & back & short
 }
 
-/// Whether bytes end before a word does, so that none of its bits is taken, or before its place.
+/// Returns true if bytes end before a word does, so that none of its bits is taken, or before its
+/// place.
 fn word_ends<E: Endianness>(bytes: &[u8], at: u64, width: u32) -> bool {
     let mut reader = SliceReader::<E>::over(bytes);
     if at > reader.bits_left() {
@@ -63,8 +64,8 @@ fn word_ends<E: Endianness>(bytes: &[u8], at: u64, width: u32) -> bool {
     there & ended & (reader.bits_read() == at)
 }
 
-/// Whether a word at a bit behind some bytes is read as it is to be: where the bytes end with it, where more
-/// stand behind, and where one is missing.
+/// Returns true if a word at a bit after some bytes is read correctly: with the bytes ending at its
+/// end, with more bytes after it, and with one byte missing.
 fn word_agrees<E: Endianness>(order: Order, bytes: &[u8], bit: u32, width: u32) -> bool {
     let at = BEFORE.wrapping_add(bit);
     let end = at.wrapping_add(width).div_ceil(8) as usize;
@@ -78,7 +79,7 @@ fn word_agrees<E: Endianness>(order: Order, bytes: &[u8], bit: u32, width: u32) 
         & word_ends::<E>(short, place, width)
 }
 
-/// How many words at a bit differ.
+/// Returns the number of words at a bit that differ.
 fn differing_words<E: Endianness>(order: Order, bit: u32) -> u32 {
     let mut bytes = [0u8; 48];
     for (index, byte) in bytes.iter_mut().enumerate() {
@@ -93,7 +94,7 @@ fn differing_words<E: Endianness>(order: Order, bit: u32) -> u32 {
     differing
 }
 
-/// What a run of bits behind some bits answers.
+/// Skips some bits, and reads the run after them.
 fn run_behind<E: Endianness>(
     reader: &mut SliceReader<E>,
     bits: u32,
@@ -107,7 +108,7 @@ fn run_behind<E: Endianness>(
     }
 }
 
-/// Whether a run is read so behind some bits, and is taken with its stop bit.
+/// Returns true if a run after some bits is read as wanted, and is taken with its stop bit.
 fn reads_run<E: Endianness>(bytes: &[u8], bits: u32, stop: bool, want: u32) -> bool {
     let mut reader = SliceReader::<E>::over(bytes);
     let same = matches!(run_behind(&mut reader, bits, stop), Ok(run) if run == want);
@@ -117,7 +118,7 @@ fn reads_run<E: Endianness>(bytes: &[u8], bits: u32, stop: bool, want: u32) -> b
             .wrapping_add(1))
 }
 
-/// Whether a run behind some bits has no end, so that none of its bits is taken.
+/// Returns true if a run after some bits has no end, so that none of its bits is taken.
 fn run_ends<E: Endianness>(bytes: &[u8], bits: u32, stop: bool) -> bool {
     let mut reader = SliceReader::<E>::over(bytes);
     let ended = matches!(run_behind(&mut reader, bits, stop), Err(Error::EndOfInput));
@@ -135,8 +136,8 @@ fn turn(order: Order, bytes: &mut [u8], at: u32) {
     }
 }
 
-/// Whether a run behind some bits, which are stop bits, is read as it is to be: where the bytes end with it,
-/// where more stand behind, and where its stop bit is missing.
+/// Returns true if a run after some bits, which are stop bits, is read correctly: with the bytes
+/// ending at its end, with more bytes after it, and with its stop bit missing.
 fn run_agrees<E: Endianness>(order: Order, bits: u32, run: u32, stop: bool) -> bool {
     let mut bytes = [if stop { 0x00u8 } else { 0xff }; 48];
     for at in 0..bits {
@@ -152,7 +153,7 @@ fn run_agrees<E: Endianness>(order: Order, bits: u32, run: u32, stop: bool) -> b
     endless & ended & more
 }
 
-/// How many runs of either stop bit differ behind some bits.
+/// Returns the number of runs of either stop bit that differ after some bits.
 fn differing_runs<E: Endianness>(order: Order, bits: u32) -> u32 {
     let mut differing = 0u32;
     for run in 0..RUNS {
@@ -165,7 +166,7 @@ fn differing_runs<E: Endianness>(order: Order, bits: u32) -> u32 {
     differing
 }
 
-/// Whether a reader has left these bytes, of which no bit is taken.
+/// Returns true if a reader has left these bytes, of which no bit is taken.
 fn leaves<E: Endianness>(reader: &SliceReader<E>, bytes: &[u8]) -> bool {
     let bits = (bytes.len() as u64).wrapping_mul(8);
     (reader.rest() == bytes)
@@ -173,7 +174,7 @@ fn leaves<E: Endianness>(reader: &SliceReader<E>, bytes: &[u8]) -> bool {
         & (reader.is_at_end() == bytes.is_empty())
 }
 
-/// Whether a reader gives these bytes, and then ends.
+/// Returns true if a reader returns these bytes, and then ends.
 fn gives<E: Endianness>(reader: &mut SliceReader<E>, bytes: &[u8]) -> bool {
     let mut read = [0u8; WHOLE];
     let same = match read.get_mut(..bytes.len()) {
@@ -183,7 +184,7 @@ fn gives<E: Endianness>(reader: &mut SliceReader<E>, bytes: &[u8]) -> bool {
     same & leaves(reader, &[]) & matches!(reader.read_bit(), Err(Error::EndOfInput))
 }
 
-/// Whether a part is given that has these bytes.
+/// Returns true if the part exists and has these bytes.
 fn has_part<E: Endianness>(part: Result<SliceReader<'_, E>, Error>, bytes: &[u8]) -> bool {
     match part {
         Ok(mut part) => gives(&mut part, bytes),
@@ -191,7 +192,8 @@ fn has_part<E: Endianness>(part: Result<SliceReader<'_, E>, Error>, bytes: &[u8]
     }
 }
 
-/// Whether so many bytes behind some bits are taken, lent or as a part, or refused where there are too few.
+/// Returns true if `count` bytes after some bits are taken, lent or as a part, or refused if there
+/// are too few.
 fn part_agrees<E: Endianness>(bytes: &[u8], bits: u32, count: usize) -> bool {
     let (mut lends, mut parts) = (SliceReader::<E>::over(bytes), SliceReader::<E>::over(bytes));
     let skipped = lends.skip(bits).is_ok() & parts.skip(bits).is_ok();
@@ -210,7 +212,7 @@ fn part_agrees<E: Endianness>(bytes: &[u8], bits: u32, count: usize) -> bool {
     skipped & same & leaves(&lends, left) & leaves(&parts, left)
 }
 
-/// How many lengths of parts differ behind some bits.
+/// Returns the number of lengths of parts that differ after some bits.
 fn differing_parts<E: Endianness>(bits: u32) -> u32 {
     let bytes: [u8; WHOLE] = [0xb1, 0xed, 0x3b, 0xc1, 0x57];
     let mut differing = 0u32;
@@ -251,7 +253,7 @@ fn stays_in_place<E: Endianness>(bits: u32, kind: u32) -> bool {
     skipped & ended & failed & place & left & !reader.is_at_end()
 }
 
-/// Returns how many kinds of calls that are too long do not stay in place after some bits.
+/// Returns the number of kinds of overlong calls that move after some bits.
 fn moved_by_failing<E: Endianness>(bits: u32) -> u32 {
     let mut differing = 0u32;
     for kind in 0..TOO_LONG {
@@ -262,7 +264,8 @@ fn moved_by_failing<E: Endianness>(bits: u32) -> u32 {
     differing
 }
 
-/// Reads all words, runs and parts, and makes the calls that are too long. Prints how many differ, and gives it.
+/// Reads all words, runs and parts, and makes the overlong calls. Prints the number that differ,
+/// and returns it.
 pub fn play_memory_parts(rt: &impl Print) -> io::Result<u32> {
     let (mut words, mut runs, mut parts, mut moved) = (0u32, 0u32, 0u32, 0u32);
     for bits in 0..8 {

@@ -1,11 +1,12 @@
-//! Plays rows: lists of calls with their answers and bytes, from several files.
+//! Plays rows: lists of calls with their results and bytes, from several files.
 //!
-//! Each file says in its head what its rows and columns mean, and where the answers come from. Each row
-//! is played over a slice or a vector, over a stream that gives or takes a byte a request, and over
-//! streams that refuse from each of its requests on. Reads of bits that go to no place behind the end are
-//! played on a `SliceReader` too: over all bytes, and if they go to no place, over those cut off at each
-//! length. What is written is written to a counter and to a recorder too. Buffers of each length are written
-//! and read at each place in a byte, and so are words, runs and parts of bytes in memory read.
+//! Each file says in its head what its rows and columns mean, and where the results come from. Each
+//! row is played over a slice or a vector, over a stream with short reads and writes of one byte,
+//! and over streams that refuse from each of its requests on. Reads of bits that go to no place
+//! after the end are played on a `SliceReader` too: over all bytes, and if they go to no place,
+//! over the bytes cut off at each length. Writes go to a counter and to a recorder too. Buffers of
+//! each length are written and read at each place in a byte. Words, runs and parts of bytes in
+//! memory are read at each place, too.
 //!
 //! The program fails if a row or a buffer differs, or if a row has a form, a width or a constant that the
 //! player does not know.
@@ -85,7 +86,7 @@ const FILES: [&str; 13] = [
     "r15_redundant.tsv",
 ];
 
-/// Plays a row. Prints one that differs, and tells whether it does.
+/// Plays a row. If it differs, prints it and returns true.
 fn differs(rt: &impl Print, alloc: Global, line: &str) -> io::Result<bool> {
     match replay(alloc, line) {
         Ok(()) => Ok(false),
@@ -97,7 +98,7 @@ fn differs(rt: &impl Print, alloc: Global, line: &str) -> io::Result<bool> {
     }
 }
 
-/// Plays the rows of a file, and gives how many differ.
+/// Plays the rows of a file, and returns the number that differ.
 fn play_file(rt: &(impl Files + Print + Alloc), alloc: Global, name: &str) -> io::Result<u32> {
     let text = std::fs::read_to_string(rt, name)?;
     let (mut rows, mut differing) = (0u32, 0u32);
@@ -113,7 +114,7 @@ fn play_file(rt: &(impl Files + Print + Alloc), alloc: Global, name: &str) -> io
     Ok(differing)
 }
 
-/// Plays the rows of files, and gives how many differ.
+/// Plays the rows of files, and returns the number that differ.
 fn play_files(rt: &(impl Files + Print + Alloc), alloc: Global, names: &[&str]) -> io::Result<u32> {
     let mut differing = 0u32;
     for name in names {

@@ -9,9 +9,9 @@ use std::io::{Cursor, Read, Seek, SeekFrom};
 /// Bytes in memory.
 #[derive(Drop)]
 pub enum Memory<'a> {
-    /// By std's cursor.
+    /// std's cursor.
     Cursor(Cursor<&'a [u8]>),
-    /// By the library's own source.
+    /// The library's own source.
     Slice(Slice<'a>),
 }
 
@@ -28,7 +28,7 @@ impl<'a> Memory<'a> {
         Ok(Memory::Cursor(cursor))
     }
 
-    /// At which byte it stands.
+    /// Returns the index of its current byte.
     pub fn position(&mut self) -> usize {
         match Seek::seek(self, SeekFrom::Current(0)) {
             Ok(at) => at as usize,

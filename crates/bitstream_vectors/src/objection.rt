@@ -1,38 +1,38 @@
-//! Why a row does not stand.
+//! The reasons that a row does not hold.
 
 use std::alloc::{AllocError, AllocFailed};
 
-/// What is not as a row says.
+/// The differences between a row and a play.
 #[derive(Clone, Copy, Drop)]
 pub enum Difference {
     /// The row is of a form that the head of its file does not name.
     Form,
     /// A call has a width, a greatest number or a constant for which the player has no line.
     Unlisted,
-    /// An answer, over std's bytes in memory.
+    /// A result over std's bytes in memory.
     Answer,
-    /// An answer over a `Slice`.
+    /// A result over a `Slice`.
     Sliced,
-    /// An answer, or how many bits were read, of the reader of bytes in memory.
+    /// A result, or the number of bits read, of the reader of bytes in memory.
     InMemory,
-    /// An answer over a stream that gives or takes a byte a request.
-    Dripped,
-    /// An answer, the requests or the bytes over a stream that refuses.
+    /// A result over a stream with short reads and writes of one byte.
+    Short,
+    /// A result, the requests or the bytes over a stream that refuses.
     Refused,
-    /// The bytes, or how many were moved.
+    /// The bytes, or the number moved.
     Bytes,
     /// The place in bits.
     Place,
-    /// How many requests were made.
+    /// The number of requests.
     Requests,
-    /// An answer, or the number of bits, of a counter or a recorder beside a writer.
+    /// A result, or the number of bits, of a counter or a recorder next to a writer.
     Beside,
-    /// How many bits a counter or a recorder holds.
+    /// The number of bits that a counter or a recorder holds.
     Length,
 }
 
 impl Difference {
-    /// What is printed before the row.
+    /// Returns the text that is printed before the row.
     pub fn text(self) -> &'static str {
         match self {
             Difference::Form => "has a form that the player does not know",
@@ -40,7 +40,7 @@ impl Difference {
             Difference::Answer => "differs in an answer",
             Difference::Sliced => "differs over a slice",
             Difference::InMemory => "differs on the reader of bytes in memory",
-            Difference::Dripped => "differs over a stream that drips",
+            Difference::Short => "differs over a stream with short reads",
             Difference::Refused => "differs over a stream that refuses",
             Difference::Bytes => "differs in its bytes",
             Difference::Place => "differs in its place",
@@ -51,10 +51,10 @@ impl Difference {
     }
 }
 
-/// Why a row does not stand.
+/// The reasons that a row does not hold.
 #[derive(Clone, Copy, Drop)]
 pub enum Objection {
-    /// Something is not as it says.
+    /// A fact of the row does not hold.
     Differs(Difference),
     /// Memory was refused.
     OutOfMemory,
@@ -64,7 +64,7 @@ impl Objection {
     /// A row whose form is none that the head of its file names.
     pub const BAD_FORM: Objection = Objection::Differs(Difference::Form);
 
-    /// A row with a number that stands in no table of the player.
+    /// A row with a number that is in no table of the player.
     pub const UNLISTED: Objection = Objection::Differs(Difference::Unlisted);
 }
 

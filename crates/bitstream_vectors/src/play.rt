@@ -14,38 +14,39 @@ use bitstream_io::{
 };
 use std::alloc::Global;
 use std::io::{ErrorKind, Read, Seek, SeekFrom};
-use test_streams::{Count, Drip, Refuse};
+use test_streams::{Count, Refuse, Short};
 
 /// A request that a stream refuses, as each later one.
 #[derive(Clone, Copy, Drop)]
 pub struct Fault {
-    /// How many requests it serves before.
+    /// The number of requests that it serves before.
     pub served: u32,
     /// The kind of the refusal.
     pub kind: ErrorKind,
     /// The place of the call that makes the request.
     pub call: usize,
-    /// Whether the request is a seek.
+    /// True if the request is a seek.
     pub seeks: bool,
 }
 
-/// What the stream of a play does.
+/// The behavior of the stream of a play.
 #[derive(Clone, Copy, Drop)]
 pub enum Way {
-    /// It gives or takes what it has room for.
+    /// It moves the bytes that it has room for.
     Plain,
     /// It does so, and is the library's own source of bytes in memory.
     Slice,
-    /// It gives or takes a byte a request.
-    Dripped,
+    /// It has short reads and writes of one byte.
+    Short,
     /// It refuses requests from one on.
     Refused(Fault),
-    /// There is none: the library's reader of bytes in memory reads them, up to the call that wants more.
+    /// No stream: the library's reader of bytes in memory reads them, up to the call that needs
+    /// more bits.
     Cut(usize),
 }
 
 impl Fault {
-    /// What the call answers whose request is refused.
+    /// Returns the result of the call whose request is refused.
     fn answer(self, kind: Kind) -> &'static str {
         match (kind, self.kind) {
             (Kind::Read, ErrorKind::UnexpectedEof) if !self.seeks => "EndOfInput",
@@ -53,7 +54,7 @@ impl Fault {
         }
     }
 
-    /// What a call answers whose seek is refused, or whose bytes are not taken.
+    /// Returns the result of a call whose seek is refused, or whose bytes are not taken.
     fn answer_of_seek(self) -> &'static str {
         match self.kind {
             ErrorKind::OutOfMemory => "OutOfMemory",
@@ -61,8 +62,9 @@ impl Fault {
         }
     }
 
-    /// What a call behind that one answers: on a reader or writer of bits, that it has failed, unless
-    /// it seeks, which is refused again; on one of bytes the refusal again, unless it asks for nothing.
+    /// Returns the result of a call after the refused one. On a reader or writer of bits: that it
+    /// has failed, unless it seeks, which is refused again. On one of bytes: the refusal again,
+    /// unless it asks for nothing.
     fn later_answer<'a>(self, row: &Row<'_>, call: &Call<'a>) -> &'a str {
         match row.layer {
             Layer::Bits if call.recovers() => self.answer_of_seek(),
@@ -74,8 +76,8 @@ impl Fault {
 }
 
 impl Way {
-    /// What a call of a row answers on such a stream. Before the refused call: the row's answer; at it:
-    /// the refusal; after it: `later_answer`.
+    /// Returns the result of a call of a row on this stream. Before the refused call: the row's
+    /// result; at it: the refusal; after it: `later_answer`.
     fn answer<'a>(self, row: &Row<'_>, at: usize, call: &Call<'a>) -> &'a str {
         match self {
             Way::Refused(fault) if at == fault.call => fault.answer(row.kind),
@@ -86,32 +88,33 @@ impl Way {
         }
     }
 
-    /// What differs where an answer does.
+    /// Returns the difference to report if a result differs.
     fn difference(self) -> Difference {
         match self {
             Way::Plain => Difference::Answer,
             Way::Slice => Difference::Sliced,
-            Way::Dripped => Difference::Dripped,
+            Way::Short => Difference::Short,
             Way::Refused(_) => Difference::Refused,
             Way::Cut(_) => Difference::InMemory,
         }
     }
 }
 
-/// What a play did to its stream.
+/// The effect of a play on its stream.
 #[derive(Clone, Copy, Drop)]
 pub struct Moved {
-    /// How many requests were made.
+    /// The number of requests.
     pub requests: u64,
-    /// How many of them were refused.
+    /// The number of refused requests.
     pub refused: u64,
-    /// At which byte the stream stands that was read, or how many bytes were handed on.
+    /// The index of the current byte of the stream that was read, or the number of bytes that were
+    /// handed on.
     pub bytes: usize,
 }
 
 /// A reader or writer on which calls are made.
 trait Stage {
-    /// Makes a call, and tells whether it answers so.
+    /// Makes a call, and returns true if the result is as wanted.
     fn call(&mut self, alloc: Global, call: &Call<'_>, want: &str) -> Result<bool, Objection>;
 }
 
@@ -185,16 +188,16 @@ fn make_calls<S: Stage>(
     Ok(())
 }
 
-/// A stream that does what a way says.
-fn stream_of<S>(inner: S, way: Way) -> Count<Refuse<Drip<S>>> {
-    let drips = matches!(way, Way::Dripped);
+/// Returns the stream of a way.
+fn stream_of<S>(inner: S, way: Way) -> Count<Refuse<Short<S>>> {
+    let short = matches!(way, Way::Short);
     let (left, kind) = match way {
         Way::Refused(fault) => (Some(fault.served), fault.kind),
         _ => (None, ErrorKind::Other),
     };
     Count {
         inner: Refuse {
-            inner: Drip { inner, drips },
+            inner: Short { inner, short },
             left,
             once: false,
             kind,
@@ -240,8 +243,8 @@ fn read_bytes<E: Endianness + Drop>(
     })
 }
 
-/// Makes the read calls of a row on bytes in memory, of which `last` is the first that wants more bits. Gives
-/// how many bits were read.
+/// Makes the read calls of a row on bytes in memory. The call `last` is the first that needs more
+/// bits. Returns the number of bits read.
 fn read_memory<E: Endianness>(
     alloc: Global,
     row: &Row<'_>,
@@ -266,8 +269,8 @@ pub fn play_memory(
     }
 }
 
-/// Makes write calls on a counter and on a recorder. Objects where these do not hold the bits that a
-/// writer of bits wrote, of which these are the whole bytes.
+/// Makes write calls on a counter and on a recorder. Objects if their bits differ from the bits of
+/// a writer, whose whole bytes these are.
 fn write_beside<E: Endianness + Drop>(
     alloc: Global,
     calls: &[Call<'_>],
@@ -286,8 +289,8 @@ fn write_beside<E: Endianness + Drop>(
     agrees(recorded && same && counted, Difference::Beside)
 }
 
-/// Makes write calls on a writer of bits, and if its stream is plain, on a counter and on a recorder
-/// too. Gives how many requests the writer made, and how many were refused.
+/// Makes write calls on a writer of bits, and if its stream is plain, on a counter and on a
+/// recorder too. Returns the number of requests that the writer made, and the number refused.
 fn write_bits<E: Endianness + Drop>(
     alloc: Global,
     written: &mut Vec<u8>,
@@ -305,8 +308,8 @@ fn write_bits<E: Endianness + Drop>(
     Ok(moved)
 }
 
-/// Makes write calls on a writer of bytes. Gives how many requests they made, and how many were
-/// refused.
+/// Makes write calls on a writer of bytes. Returns the number of requests that they made, and the
+/// number refused.
 fn write_whole_bytes<E: Endianness>(
     alloc: Global,
     written: &mut Vec<u8>,

@@ -16,7 +16,7 @@ use std::alloc::Global;
 use std::num::{NonZero, ParseIntError};
 use std::str::FromStr;
 
-/// Makes a read call, and tells whether it answers so.
+/// Makes a read call, and returns true if the result is as wanted.
 pub fn read_call<R: BitRead + WholeRead>(
     alloc: Global,
     reader: &mut R,
@@ -37,8 +37,8 @@ pub fn read_call<R: BitRead + WholeRead>(
     }
 }
 
-/// Makes a call that reads a number or a truth in the given number of bits, or digits, or that asks
-/// or moves to the end of a byte.
+/// Makes a call that reads a number or a truth in `bits` bits, or digits, or that asks for the end
+/// of a byte or moves to it.
 fn read_in_bits<R: BitRead>(
     reader: &mut R,
     form: Form,
@@ -70,7 +70,7 @@ fn align<R: BitRead>(reader: &mut R, want: &str) -> bool {
     want == "ok"
 }
 
-/// Whether a text is what a reader answers that is asked if it stands at the end of a byte.
+/// Returns true if a text is the result of asking a reader if it is at the end of a byte.
 fn is_aligned<R: BitRead>(reader: &R, want: &str) -> bool {
     want == if reader.byte_aligned() { "yes" } else { "no" }
 }
@@ -83,14 +83,14 @@ fn read_bool<R: BitRead>(reader: &mut R, bits: u32, want: &str) -> bool {
     is_truth(want, reader.read_var::<bool>(bits))
 }
 
-/// Reads digits up to the stop digit that S says.
+/// Reads digits up to the stop digit S.
 fn read_unary<S: Width, R: BitRead>(reader: &mut R, want: &str) -> bool
     requires { S.BITS < 2 }
 {
     is_number(want, reader.read_unary::<S>())
 }
 
-/// Whether a text is what a call answered: a binary digit, or the name of the error.
+/// Returns true if a text is the result of a call: a binary digit, or the name of the error.
 fn is_truth(want: &str, answer: Result<bool, Error>) -> bool {
     match answer {
         Ok(bit) => want == if bit { "1" } else { "0" },
@@ -98,7 +98,7 @@ fn is_truth(want: &str, answer: Result<bool, Error>) -> bool {
     }
 }
 
-/// Reads a value that is spelled as it is.
+/// Reads a value that is spelled directly.
 fn read_value<I: Integer + FromStr<Err = ParseIntError> + PartialEq + Drop, R: BitRead>(
     reader: &mut R,
     bits: u32,
@@ -134,8 +134,8 @@ fn read_optional<R: BitRead>(reader: &mut R, size: Size, bits: u32, want: &str) 
     }
 }
 
-/// Reads a number in a number of bits that is known to be no more than 128, at the types that the
-/// rows have.
+/// Reads a number in at most 128 bits, in a counted number of bits, at the types that the rows
+/// have.
 fn read_counted<R: BitRead>(
     reader: &mut R,
     number: Number,
@@ -153,7 +153,7 @@ fn read_counted<R: BitRead>(
     }
 }
 
-/// Reads a number by the calls for words alone, at the types that the rows have.
+/// Reads a number only by the calls for words, at the types that the rows have.
 fn read_word<R: BitRead>(
     reader: &mut R,
     number: Number,
@@ -193,7 +193,7 @@ fn read_array<R: BitRead>(
     }
 }
 
-/// Whether a text is what a call answered: four bytes, or the name of the error.
+/// Returns true if a text is the result of a call: four bytes, or the name of the error.
 fn are_four(want: &str, answer: Result<[u8; 4], Error>) -> bool {
     match answer {
         Ok(bytes) => are_bytes(want, bytes.as_slice()),
@@ -201,7 +201,7 @@ fn are_four(want: &str, answer: Result<[u8; 4], Error>) -> bool {
     }
 }
 
-/// Whether a text is what a call answered: `-` for no item, or the name of the error.
+/// Returns true if a text is the result of a call: `-` for no item, or the name of the error.
 fn is_empty(want: &str, answer: Result<[u8; 0], Error>) -> bool {
     match answer {
         Ok(_) => want == "-",
@@ -209,7 +209,7 @@ fn is_empty(want: &str, answer: Result<[u8; 0], Error>) -> bool {
     }
 }
 
-/// Whether a text is what a call answered: four truths, or the name of the error.
+/// Returns true if a text is the result of a call: four truths, or the name of the error.
 fn are_truths(want: &str, answer: Result<[bool; 4], Error>) -> Result<bool, Objection> {
     match answer {
         Ok(truths) => Ok(truths_of(want)? == truths),
@@ -217,8 +217,8 @@ fn are_truths(want: &str, answer: Result<[bool; 4], Error>) -> Result<bool, Obje
     }
 }
 
-/// Whether a text is what a call answered: two numbers with a comma between them, or the name of
-/// the error.
+/// Returns true if a text is the result of a call: two numbers with a comma between them, or the
+/// name of the error.
 pub fn is_pair<T: FromStr<Err = ParseIntError> + PartialEq + Drop>(
     want: &str,
     answer: Result<[T; 2], Error>,
@@ -229,7 +229,7 @@ pub fn is_pair<T: FromStr<Err = ParseIntError> + PartialEq + Drop>(
     }
 }
 
-/// Whether a text is what a call answered: a count, or the name of the error.
+/// Returns true if a text is the result of a call: a count, or the name of the error.
 fn is_count<const MAX: u32>(want: &str, answer: Result<BitCount<MAX>, Error>) -> bool {
     is_number(want, answer.map(|count| count.bits()))
 }
@@ -246,7 +246,7 @@ fn read_count<R: BitRead>(reader: &mut R, max: u32, want: &str) -> Result<bool, 
     }
 }
 
-/// Why a constant was not read.
+/// The reasons that a constant was not read.
 #[derive(Drop)]
 enum NotRead {
     Differs,
@@ -259,7 +259,7 @@ impl From<Error> for NotRead {
     }
 }
 
-/// Reads the constant that V says in as many bits as B says.
+/// Reads the constant `V::BITS` in `B::BITS` bits.
 fn read_const_in<B: Width, V: Width, R: BitRead>(reader: &mut R, want: &str) -> bool
     requires word { B.BITS ≤ 32 }
     requires value { (V.BITS < 2 ^ B.BITS) ⊎ (B.BITS ≡ 0) }

@@ -8,18 +8,18 @@ use crate::sinks::{Recorder, give, sink_call};
 use bitstream_io::{BE, BitRecorder, BitWrite, BitWriter, Endianness, Error, LE};
 use std::alloc::Global;
 
-/// What is done with a recorder.
+/// The use of a recorder.
 #[derive(Clone, Copy, Drop)]
 struct Played {
-    /// How many bits it holds.
+    /// The number of bits that it holds.
     recorded: u32,
     /// The order of the writer to which it is played.
     to: Order,
-    /// What is written before: how many bits, and a number.
+    /// The bits written before: their number, and their value.
     behind: (u32, u8),
 }
 
-/// The words of a text that says of a recorder: `to ORDER ; behind N V ; recorded L`.
+/// Splits a text on a recorder into its words: `to ORDER ; behind N V ; recorded L`.
 fn played_of(text: &str) -> Option<(&str, &str, &str, &str)> {
     let (to, rest) = text.strip_prefix("to ")?.split_once(" ; behind ")?;
     let (behind, recorded) = rest.split_once(" ; recorded ")?;
@@ -28,7 +28,7 @@ fn played_of(text: &str) -> Option<(&str, &str, &str, &str)> {
 }
 
 impl Played {
-    /// What such a text says.
+    /// Parses the text.
     fn parse(text: &str) -> Result<Played, Objection> {
         let Some((to, bits, value, recorded)) = played_of(text) else {
             return Err(Objection::BAD_FORM);
@@ -68,7 +68,7 @@ fn record_call<E: Endianness + Drop>(
     Ok(recorder)
 }
 
-/// Plays a recorder to a writer behind some bits, and aligns it.
+/// Plays a recorder to a writer after some bits, and aligns it.
 fn play_behind<E: Endianness, W: BitWrite>(
     recorder: &Recorder<E>,
     writer: &mut W,
@@ -110,8 +110,7 @@ fn record_in<E: Endianness + Drop>(
     agrees(written.as_slice() == bytes, Difference::Bytes)
 }
 
-/// Plays a row of a recorder's order, its calls, the bytes that stand written, and what is done with
-/// the recorder.
+/// Plays a row of a recorder's order, its calls, the bytes written, and the use of the recorder.
 pub fn play_record(
     alloc: Global,
     order: &str,

@@ -26,7 +26,7 @@ const WRITE_FAULTS: [ErrorKind; 3] = [
 ///
 /// # Errors
 ///
-/// The first thing that is not as the row says.
+/// The first difference from the row.
 pub fn replay(alloc: Global, line: &str) -> Result<(), Objection> {
     play_line(alloc, line)?;
     if line.contains("prefix ") {
@@ -36,7 +36,7 @@ pub fn replay(alloc: Global, line: &str) -> Result<(), Objection> {
     Ok(())
 }
 
-/// Plays a row as it stands.
+/// Plays the row of a line.
 fn play_line(alloc: Global, line: &str) -> Result<(), Objection> {
     let columns: Vec<&str> = line.split('\t').collect(alloc)?;
     match columns.as_slice() {
@@ -48,8 +48,8 @@ fn play_line(alloc: Global, line: &str) -> Result<(), Objection> {
     }
 }
 
-/// Plays a row that says what holds after its calls: of a counter, with its type in the place of an
-/// order, of a recorder, or of a reader or writer.
+/// Plays a row with facts about the state after its calls: of a counter, with its type instead of
+/// an order, of a recorder, or of a reader or writer.
 fn play_row(
     alloc: Global,
     kind: &str,
@@ -65,8 +65,8 @@ fn play_row(
     }
 }
 
-/// Plays a row as it is, over a stream that drips, over a `Slice`, over streams that refuse from each of
-/// its requests on, and on the reader of bytes in memory.
+/// Plays a row over its stream, over a stream with short reads and writes, over a `Slice`, over
+/// streams that refuse from each of its requests on, and on the reader of bytes in memory.
 fn play_stream(alloc: Global, row: &Row<'_>) -> Result<(), Objection> {
     let steps = steps_of(alloc, row)?;
     play_whole(alloc, row, Way::Plain)?;
@@ -79,11 +79,11 @@ fn play_stream(alloc: Global, row: &Row<'_>) -> Result<(), Objection> {
         }
         read_all(alloc, row)?;
     }
-    play_whole(alloc, row, Way::Dripped)?;
+    play_whole(alloc, row, Way::Short)?;
     refuse_each(alloc, row, &steps)
 }
 
-/// What the calls before each call move, and then what all of them do.
+/// Returns the effect of the calls before each call, and then of all of them.
 fn steps_of(alloc: Global, row: &Row<'_>) -> Result<Vec<Moved>, Objection> {
     let calls = row.calls.as_slice();
     let mut steps = Vec::new(alloc);
@@ -94,8 +94,8 @@ fn steps_of(alloc: Global, row: &Row<'_>) -> Result<Vec<Moved>, Objection> {
     Ok(steps)
 }
 
-/// Plays a whole row over a stream that serves each request, and holds what stands behind its calls
-/// against what the row says.
+/// Plays a whole row over a stream that serves each request, and compares the state after its calls
+/// with the row.
 fn play_whole(alloc: Global, row: &Row<'_>, way: Way) -> Result<(), Objection> {
     let moved = play(alloc, row, &row.calls, way)?;
     let after = row.after;
@@ -112,7 +112,7 @@ fn play_whole(alloc: Global, row: &Row<'_>, way: Way) -> Result<(), Objection> {
     }
 }
 
-/// Objects where a row says what holds, and something else does.
+/// Objects if a row states a fact that does not hold.
 fn agrees_with<T: Copy + PartialEq>(
     want: Option<T>,
     found: T,
@@ -124,8 +124,8 @@ fn agrees_with<T: Copy + PartialEq>(
     }
 }
 
-/// Objects where a row's reader does not stand at the given bit of its stream: the reader answers so, the
-/// bits that are left follow one by one, and then the input ends.
+/// Objects if a row's reader is not at the bit `place` of its stream: the reader reports that
+/// place, the bits left follow one by one, and then the input ends.
 fn stands_at(
     alloc: Global,
     row: &Row<'_>,
@@ -142,8 +142,8 @@ fn stands_at(
     }
 }
 
-/// The calls of a row, and then calls that ask for its place, and read its bits from there on, and its
-/// end.
+/// Returns the calls of a row, and then calls that ask for its place, and read its bits from there
+/// on, and its end.
 fn with_rest<'a>(alloc: Global, row: &Row<'a>, place: usize) -> Result<Vec<Call<'a>>, Objection> {
     let mut calls: Vec<Call<'a>> = row.calls.iter().copied().collect(alloc)?;
     calls.push(Call::asks_place(place as u64))?;
@@ -194,7 +194,7 @@ fn refuse_each(alloc: Global, row: &Row<'_>, steps: &[Moved]) -> Result<(), Obje
     Ok(())
 }
 
-/// Plays a row over streams that serve the given number of requests, and refuse each later one.
+/// Plays a row over streams that serve `served` requests, and refuse each later one.
 fn refuse(alloc: Global, row: &Row<'_>, steps: &[Moved], served: u64) -> Result<(), Objection> {
     let call = steps
         .iter()
@@ -219,7 +219,7 @@ fn refuse(alloc: Global, row: &Row<'_>, steps: &[Moved], served: u64) -> Result<
     Ok(())
 }
 
-/// Whether the request of a call that comes behind the given number of requests is a seek.
+/// Returns true if the request of a call that comes after `served` requests is a seek.
 fn seeks_at(row: &Row<'_>, steps: &[Moved], call: usize, served: u64) -> bool {
     let before = steps.get(call).map_or(0, |step| step.requests);
     let seeks = row.calls.get(call).map_or(0, |call| call.seeks());
@@ -241,9 +241,9 @@ fn refusals(row: &Row<'_>, fault: Fault) -> u64 {
     }
 }
 
-/// Objects where more or fewer requests were made than the refused ones and those before, or where
-/// other bytes moved than those of the calls before and of a part of the call that was refused. (Where
-/// calls seek, no bytes lie between.)
+/// Objects if the number of requests is not the number of refused ones and of the ones before.
+/// Objects if other bytes moved than the bytes of the calls before and a part of the bytes of the
+/// refused call. (If calls seek, the bytes are not compared.)
 fn stops_at(row: &Row<'_>, steps: &[Moved], fault: Fault, moved: Moved) -> Result<(), Objection> {
     let refusals = refusals(row, fault);
     let requests = u64::from(fault.served).saturating_add(refusals);

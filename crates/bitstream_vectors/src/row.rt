@@ -5,14 +5,14 @@ use crate::form::Form;
 use crate::objection::Objection;
 use std::alloc::Global;
 
-/// Whether the calls of a row read (and seek) or write.
+/// The direction of the calls of a row: they read (and seek), or they write.
 #[derive(Clone, Copy, PartialEq, Eq, Drop)]
 pub enum Kind {
     Read,
     Write,
 }
 
-/// Whether the calls of a row are made on a reader or writer of bits, or on one of bytes.
+/// The layer of the calls of a row: a reader or writer of bits, or one of bytes.
 #[derive(Clone, Copy, PartialEq, Eq, Drop)]
 pub enum Layer {
     Bits,
@@ -27,7 +27,7 @@ pub enum Order {
 }
 
 impl Order {
-    /// A bit of bytes in this order, or 0 behind their end.
+    /// Returns a bit of bytes in this order, or 0 after their end.
     pub fn bit(self, bytes: &[u8], at: usize) -> u8 {
         let byte = bytes.get(at / 8).copied().unwrap_or(0);
         let bits = match self {
@@ -38,7 +38,7 @@ impl Order {
     }
 }
 
-/// A row: calls with their answers, on a stream of these bytes.
+/// A row: calls with their results, on a stream of these bytes.
 #[derive(Drop)]
 pub struct Row<'a> {
     pub layer: Layer,
@@ -46,33 +46,33 @@ pub struct Row<'a> {
     pub order: Order,
     /// The calls, of a row that writes bits with the last alignment, if it has one.
     pub calls: Vec<Call<'a>>,
-    /// What is read, or what stands written after the calls.
+    /// The bytes to read, or the bytes written after the calls.
     pub bytes: Vec<u8>,
     pub after: After,
 }
 
-/// What a row says of the stream after its calls.
+/// The state of the stream after the calls of a row.
 #[derive(Clone, Copy, Drop)]
 pub struct After {
-    /// At which bit of the stream the reader stands.
+    /// The index of the stream's bit at which the reader is.
     pub place: Option<usize>,
-    /// How many bytes were fetched or handed on.
+    /// The number of bytes fetched or handed on.
     pub moved: Option<usize>,
-    /// How many requests were made.
+    /// The number of requests.
     pub requests: Option<u64>,
-    /// How many requests were made at most.
+    /// The greatest number of requests.
     pub most_requests: Option<u64>,
-    /// Whether the bytes were handed on by the calls alone, with no last alignment.
+    /// True if the bytes were handed on by the calls, with no last alignment.
     pub unpadded: bool,
 }
 
 impl<'a> Row<'a> {
-    /// The row of a kind, an order, calls, bytes and, if it has more to say, what holds after the
-    /// calls.
+    /// Parses a row of a kind, an order, calls, bytes and, if it has them, facts about the state
+    /// after the calls.
     ///
     /// # Errors
     ///
-    /// That the row is of a bad form.
+    /// If the row has a bad form.
     pub fn parse(
         alloc: Global,
         kind: &str,
@@ -102,26 +102,26 @@ impl<'a> Row<'a> {
         })
     }
 
-    /// Whether its stream begins elsewhere than at its first byte.
+    /// Returns true if its stream does not begin at its first byte.
     pub fn begins_elsewhere(&self) -> bool {
         self.calls
             .first()
             .is_some_and(|call| matches!(call.form, Form::Cursor))
     }
 
-    /// Whether a call of it asks for its place, or goes to one.
+    /// Returns true if a call of it asks for its place, or goes to one.
     pub fn has_places(&self) -> bool {
         self.calls.iter().any(|call| call.seeks() > 0 || matches!(call.form, Form::Cursor))
     }
 
-    /// Whether it begins at its first byte, and each seek of it goes to a place among its bytes, or to their
-    /// end.
+    /// Returns true if it begins at its first byte, and each seek of it goes to a place among its
+    /// bytes, or to their end.
     pub fn stays_within(&self) -> bool {
         let bits = (self.bytes.len() as u64).saturating_mul(8);
         !self.begins_elsewhere() && self.calls.iter().all(|call| call.stays_within(bits))
     }
 
-    /// Whether a call of it seeks, or its stream begins elsewhere than at its first byte.
+    /// Returns true if a call of it seeks, or its stream does not begin at its first byte.
     pub fn seeks(&self) -> bool {
         self.calls
             .iter()
@@ -175,7 +175,7 @@ impl After {
         Ok(after)
     }
 
-    /// Whether it says what holds of bits alone.
+    /// Returns true if it has facts that apply only to bits.
     fn tells_of_bits(&self) -> bool {
         self.place.is_some() || self.unpadded
     }

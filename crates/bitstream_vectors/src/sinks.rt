@@ -11,7 +11,7 @@ use std::alloc::Global;
 /// A recorder of bits.
 pub type Recorder<E> = BitRecorder<u32, E, Global>;
 
-/// Makes calls on a sink. Objects where one answers otherwise.
+/// Makes calls on a sink. Objects if a result differs.
 pub fn call_sink<W: BitWrite>(
     alloc: Global,
     sink: &mut W,
@@ -25,7 +25,7 @@ pub fn call_sink<W: BitWrite>(
     Ok(())
 }
 
-/// Gives calls, with a stroke between them, to a recorder, whatever they answer.
+/// Gives calls, with a stroke between them, to a recorder, whatever their results.
 pub fn give<E: Endianness>(
     alloc: Global,
     recorder: &mut Recorder<E>,
@@ -52,7 +52,7 @@ fn play_calls<E: Endianness + Drop, W: BitWrite>(
     Ok(recorder.playback(writer))
 }
 
-/// Makes a write call, or plays a recorder, and tells whether it answers so.
+/// Makes a write call, or plays a recorder, and returns true if the result is as wanted.
 pub fn sink_call<W: BitWrite>(
     alloc: Global,
     writer: &mut W,

@@ -36,7 +36,7 @@ fn code(alloc: Global, tree: Tree) -> Result<Code, AllocError> {
     }
 }
 
-/// Reads a symbol of a tree, and tells whether it answers so.
+/// Reads a symbol of a tree, and returns true if the result is as wanted.
 pub fn read_symbol<R: BitRead>(
     alloc: Global,
     reader: &mut R,
@@ -62,7 +62,7 @@ pub fn write_symbol<W: BitWrite>(
     })
 }
 
-/// Reads a run of at most the given number of digits, and tells whether it answers so.
+/// Reads a run of at most `most` digits, and returns true if the result is as wanted.
 pub fn read_limited<R: BitRead>(
     reader: &mut R,
     stop: bool,
@@ -80,7 +80,7 @@ pub fn read_limited<R: BitRead>(
     Ok(is_optional(want, answer))
 }
 
-/// Writes the run of at most the given number of digits that a text spells: a number, or none.
+/// Writes the run of at most `most` digits that a text spells: a number, or none.
 pub fn write_limited<W: BitWrite>(writer: &mut W, stop: bool, most: u32, value: &str) -> Answer {
     let run: Option<u32> = match value {
         "none" => None,

@@ -15,9 +15,9 @@ use bitstream_io::{
 use std::num::{NonZero, ParseIntError};
 use std::str::FromStr;
 
-/// A call for a number of variable width, in groups of as many bits as F says.
+/// A call for a number of variable width, in groups of `F::BITS` bits.
 trait GroupedCall {
-    /// Makes it with a value, and tells whether it answers so.
+    /// Makes the call with a value, and returns true if the result is as wanted.
     fn strict<F: Width, I>(&mut self) -> Result<bool, Objection>
     where
         I: VBRInteger + FromStr<Err = ParseIntError> + PartialEq + Drop,
@@ -176,7 +176,7 @@ macro_rules! at_field {
     };
 }
 
-/// Makes a call for a value of a size, in groups of the given number of bits.
+/// Makes a call for a value of a size, in groups of `field` bits.
 fn make_variable<C: GroupedCall>(
     call: &mut C,
     value: Grouped,
@@ -192,7 +192,7 @@ fn make_variable<C: GroupedCall>(
     }
 }
 
-/// Reads a value in groups of the given number of bits, and tells whether it answers so.
+/// Reads a value in groups of `field` bits, and returns true if the result is as wanted.
 pub fn read_variable<R: BitRead>(
     reader: &mut R,
     value: Grouped,
@@ -203,8 +203,8 @@ pub fn read_variable<R: BitRead>(
     make_variable(&mut Reading { reader, want }, value, size, field)
 }
 
-/// Writes the value that a text spells in groups of the given number of bits, and tells whether that
-/// answers so.
+/// Writes the value that a text spells in groups of `field` bits, and returns true if the result is
+/// as wanted.
 pub fn write_variable<W: BitWrite>(
     writer: &mut W,
     kind: Grouped,
@@ -221,7 +221,7 @@ pub fn write_variable<W: BitWrite>(
     make_variable(&mut call, kind, size, field)
 }
 
-/// Reads two of `u8` in groups of the given number of bits, and tells whether it answers so.
+/// Reads two `u8` in groups of `field` bits, and returns true if the result is as wanted.
 pub fn read_variable_pair<R: BitRead>(
     reader: &mut R,
     field: u32,
@@ -233,7 +233,7 @@ pub fn read_variable_pair<R: BitRead>(
     }
 }
 
-/// Writes the two of `u8` that a text spells in groups of the given number of bits.
+/// Writes the two `u8` that a text spells in groups of `field` bits.
 pub fn write_variable_pair<W: BitWrite>(writer: &mut W, field: u32, value: &str) -> Answer {
     match field {
         4 => Ok(writer.write_vbr::<Bits<4>, [u8; 2]>(pair_of(value)?)),

@@ -1,4 +1,4 @@
-//! Calls for whole bytes, which readers and writers of bits and those of bytes have alike.
+//! Calls for whole bytes, which readers and writers of bits and of bytes have in common.
 use crate::answer::{Answer, are_bytes, bytes_of, error_name, is_done, is_number};
 use crate::call::{Call, number};
 use crate::form::{ByteOrder, Form, Number, Size};
@@ -19,10 +19,10 @@ pub trait WholeRead {
     /// Fills a buffer.
     fn fill(&mut self, buf: &mut [u8]) -> Result<(), Error>;
 
-    /// Reads a vector of the given number of bytes.
+    /// Reads a vector of `bytes` bytes.
     fn vector(&mut self, alloc: Global, bytes: u32) -> Result<Vec<u8>, Error>;
 
-    /// Skips the given number of bits or bytes, as its layer counts.
+    /// Skips `count` bits or bytes, as its layer counts.
     fn pass(&mut self, count: u32) -> Result<(), Error>;
 }
 
@@ -101,7 +101,7 @@ pub trait WholeWrite {
     /// Writes the bytes of a buffer.
     fn send(&mut self, bytes: &[u8]) -> Result<(), Error>;
 
-    /// Writes the given number of zeros, bits or bytes, as its layer counts.
+    /// Writes `count` zeros, bits or bytes, as its layer counts.
     fn zeros(&mut self, count: u32) -> Result<(), Error>;
 }
 
@@ -142,7 +142,7 @@ impl<W: Target, E: Endianness> WholeWrite for ByteWriter<W, E> {
     }
 }
 
-/// Makes a read call for whole bytes, and tells whether it answers so.
+/// Makes a read call for whole bytes, and returns true if the result is as wanted.
 pub fn read_whole<R: WholeRead>(
     alloc: Global,
     reader: &mut R,
@@ -172,7 +172,7 @@ fn read_buffer<R: WholeRead>(
     }
 }
 
-/// Whether a text is what a call answered: the bytes of a vector, or the name of the error.
+/// Returns true if a text is the result of a call: the bytes of a vector, or the name of the error.
 fn is_vector(want: &str, answer: Result<Vec<u8>, Error>) -> bool {
     match answer {
         Ok(bytes) => are_bytes(want, bytes.as_slice()),

@@ -15,7 +15,7 @@ use std::alloc::Global;
 use std::num::{NonZero, ParseIntError};
 use std::str::FromStr;
 
-/// Makes a write call, and tells whether it answers so.
+/// Makes a write call, and returns true if the result is as wanted.
 pub fn write_call<W: BitWrite>(
     alloc: Global,
     writer: &mut W,
@@ -45,7 +45,7 @@ fn write<W: BitWrite>(alloc: Global, mut writer: &mut W, call: &Call<'_>) -> Ans
     }
 }
 
-/// Makes a call that writes a number or a truth in the given number of bits, or digits.
+/// Makes a call that writes a number or a truth in `bits` bits, or digits.
 fn write_in_bits<W: BitWrite>(writer: &mut W, form: Form, bits: u32, value: &str) -> Answer {
     match form {
         Form::Align => Ok(writer.byte_align()),
@@ -74,7 +74,7 @@ fn write_bool<W: BitWrite>(writer: &mut W, bits: u32, digit: &str) -> Answer {
     Ok(writer.write_var(bits, truth(digit)?))
 }
 
-/// Writes as many digits as a text spells, and a stop digit.
+/// Writes the number of digits that a text spells, and a stop digit.
 fn write_unary<W: BitWrite>(writer: &mut W, stop: bool, value: &str) -> Answer {
     let digits = number::<u32>(value)?;
     Ok(if stop {
@@ -109,8 +109,8 @@ fn write_number<W: BitWrite>(writer: &mut W, number: Number, bits: u32, value: &
     }
 }
 
-/// Writes a number in a number of bits that is known to be no more than 128, at the types that the
-/// rows have.
+/// Writes a number in at most 128 bits, in a counted number of bits, at the types that the rows
+/// have.
 fn write_counted<W: BitWrite>(writer: &mut W, kind: Number, bits: u32, value: &str) -> Answer {
     let Ok(count) = BitCount::<128>::try_from(bits) else {
         return Err(Objection::BAD_FORM);
@@ -123,7 +123,7 @@ fn write_counted<W: BitWrite>(writer: &mut W, kind: Number, bits: u32, value: &s
     }
 }
 
-/// Writes a number by the calls for words alone, at the types that the rows have.
+/// Writes a number only by the calls for words, at the types that the rows have.
 fn write_word<W: BitWrite>(writer: &mut W, kind: Number, bits: u32, value: &str) -> Answer {
     Ok(match kind {
         Number::Unsigned(Size::Bits8) => writer.write_unsigned_var::<u8>(bits, number(value)?),
@@ -207,7 +207,7 @@ pub fn truths_of(text: &str) -> Result<[bool; 4], Objection> {
     }
 }
 
-/// Writes a count of no more than MAX.
+/// Writes a count of at most MAX.
 fn write_count_below<const MAX: u32, W: BitWrite>(writer: &mut W, value: u32) -> Answer
     requires { 0 < MAX }
 {
@@ -232,7 +232,7 @@ fn write_count<W: BitWrite>(writer: &mut W, max: u32, value: &str) -> Answer {
     }
 }
 
-/// Writes the constant that V says in as many bits as B says.
+/// Writes the constant `V::BITS` in `B::BITS` bits.
 fn write_const_in<B: Width, V: Width, W: BitWrite>(writer: &mut W) -> Answer
     requires word { B.BITS ≤ 32 }
     requires value { (V.BITS < 2 ^ B.BITS) ⊎ (B.BITS ≡ 0) }

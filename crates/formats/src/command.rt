@@ -1,4 +1,4 @@
-//! What the program does with a file.
+//! The work of the program on a file.
 
 use crate::options::Style;
 use crate::print::Printer;
@@ -58,7 +58,7 @@ impl Command {
         }
     }
 
-    /// Returns true if the command writes what a file holds, and prints no elements.
+    /// Returns true if the command writes the contents of a file, and prints no elements.
     pub fn decodes(self) -> bool {
         matches!(self, Command::Flac | Command::Gunzip)
     }
@@ -118,11 +118,11 @@ pub fn play<W: Write, P: Write>(
     }
 }
 
-/// What came of the units of a file.
+/// The outcome of the units of a file.
 #[derive(Clone, Copy, Debug)]
 struct Tally {
     status: Status,
-    // How many were read or refused.
+    // The number of units that were read or refused.
     count: u64,
 }
 
@@ -182,7 +182,7 @@ pub fn show<U: ReadUnits, W: Write, P: Write>(
     Ok(tally.end(name, report))
 }
 
-/// Writes what the units of a file hold, and reports those that are refused.
+/// Writes the contents of the units of a file, and reports the units that are refused.
 pub fn decode<U: ReadUnits, W: Write, P: Write>(
     alloc: Global,
     name: &str,

@@ -8,7 +8,7 @@ use anyhow::Error;
 use std::alloc::{AllocError, Global};
 use std::fs;
 
-/// How often an error came.
+/// An error, and the number of times that it came.
 #[derive(Drop)]
 struct Count {
     text: String,
@@ -34,8 +34,8 @@ fn add(alloc: Global, counts: &mut Vec<Count>, text: &str) -> Result<(), AllocEr
     Ok(())
 }
 
-/// Turns the bits of each byte of a file in turn, and counts the copies that are read whole and the first errors of the
-/// others.
+/// Flips the bits of each byte of a file one after the other, and counts the copies that are read
+/// whole and the first errors of the others.
 pub fn play_damaged(rt: &HostRuntime, command: Command, path: &str) -> Result<(), Error> {
     let alloc = rt.alloc();
     let mut file = fs::read(rt, path)?;

@@ -1,4 +1,4 @@
-//! How the program is called.
+//! The help texts of the program.
 
 use crate::command::Command;
 

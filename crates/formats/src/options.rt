@@ -3,7 +3,7 @@
 use crate::command::Command;
 use std::alloc::{AllocError, Global};
 
-/// How units are printed.
+/// The styles in which units are printed.
 #[derive(Clone, Copy, Debug, PartialEq, Eq)]
 pub enum Style {
     /// A line for each element: its place in bits, its name and its value.
@@ -12,11 +12,11 @@ pub enum Style {
     Table,
     /// A JSON object for each unit, on a line of its own.
     Json,
-    /// Errors alone.
+    /// Only errors.
     Errors,
 }
 
-/// How the units of files are printed.
+/// The choices for printing the units of files.
 #[derive(Drop)]
 pub struct Options {
     /// The style.
@@ -48,7 +48,7 @@ impl Options {
     }
 }
 
-/// What the program is to do.
+/// The tasks of the program.
 #[derive(Drop)]
 pub enum Call {
     /// Print how it is called.
@@ -59,13 +59,13 @@ pub enum Call {
     Version,
     /// Read files.
     Read(Command, Options, Vec<String>),
-    /// Compare what is read of files with what other programs read of them.
+    /// Compare the elements read from files with the output of other programs.
     Rows(String),
-    /// Count what is read of the damaged copies of a file.
+    /// Count the results of reading damaged copies of a file.
     Damaged(Command, String),
 }
 
-/// Why a call is refused.
+/// The reasons that the arguments are refused.
 #[derive(Debug, Drop)]
 pub enum Usage {
     /// There is no command of this name.
@@ -76,7 +76,7 @@ pub enum Usage {
     NoValue(String),
     /// No file is named, or the wrong number of them.
     NoFile,
-    /// A command that writes what a file holds prints no elements, and has no option.
+    /// A command that writes the contents of a file prints no elements, and has no option.
     NoElements,
     /// Memory was refused.
     NoMemory,
@@ -107,7 +107,7 @@ fn command(word: &String) -> Result<Command, Usage> {
     }
 }
 
-/// Returns what the words of a call ask for.
+/// Parses the arguments of the program.
 pub fn parse(alloc: Global, words: &[String]) -> Result<Call, Usage> {
     let Some((first, rest)) = words.split_first() else {
         return Ok(Call::Help);
@@ -123,7 +123,7 @@ pub fn parse(alloc: Global, words: &[String]) -> Result<Call, Usage> {
     }
 }
 
-/// Returns what the words after a command ask for.
+/// Parses the arguments after a command.
 fn parse_command(alloc: Global, command: Command, words: &[String]) -> Result<Call, Usage> {
     let mut options = Options::of(alloc, Style::Rows);
     let mut files = Vec::new(alloc);

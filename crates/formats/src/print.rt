@@ -1,4 +1,4 @@
-//! Units as they are printed.
+//! The printer of units.
 
 use crate::options::{Options, Style};
 use crate::unit::{Fault, Note, NoteValue, Unit};
@@ -13,7 +13,7 @@ struct Name {
     text: &'static str,
     // The place of the first element or note of this name.
     first: usize,
-    // Whether the value is an array: there are several, or it has a number.
+    // True if the value is an array: there are several, or it has a number.
     several: bool,
 }
 
@@ -244,7 +244,7 @@ impl Printer {
     }
 }
 
-/// Prints what comes before the value of a name, the number of which counts from 0.
+/// Prints the text before the value of a name. The number of the name counts from 0.
 fn begin_member<W: Write>(out: &mut W, number: usize, name: &Name) -> io::Result<()> {
     if number > 0 {
         write!(out, ",")?;
@@ -256,7 +256,7 @@ fn begin_member<W: Write>(out: &mut W, number: usize, name: &Name) -> io::Result
     Ok(())
 }
 
-/// Prints what comes after the value of a name.
+/// Prints the text after the value of a name.
 fn end_member<W: Write>(out: &mut W, name: &Name) -> io::Result<()> {
     if name.several {
         write!(out, "]")?;

@@ -1,14 +1,14 @@
-//! What is reported on standard error: how far a run is, and what was refused.
+//! The reports on standard error: progress, and refused units.
 
 use crate::unit::{Fault, Unit};
 use std::io;
 use std::io::{Read, Write};
 
-/// Reports how far a run is, a hundredth at a time, in one line that it overwrites, and what was refused.
+/// Reports progress, a hundredth at a time, in one line that it overwrites, and the refused units.
 #[derive(Drop)]
 pub struct Report<P: Write> {
     out: P,
-    // Whether progress is shown.
+    // True if progress is shown.
     shown: bool,
     total: u64,
     // The hundredths that were shown.
@@ -26,7 +26,7 @@ impl<P: Write> Report<P> {
         }
     }
 
-    /// Shows that so many bytes were read.
+    /// Shows that `bytes` bytes were read.
     pub fn done(&mut self, bytes: u64) {
         if !self.shown || self.total == 0 {
             return;
@@ -79,7 +79,7 @@ pub struct Watched<R: Read, P: Write> {
 }
 
 impl<R: Read, P: Write> Watched<R, P> {
-    /// Returns a reader that reports what is read of another one.
+    /// Returns a reader that passes on the reads of another one, and reports them.
     pub fn new(reader: R, report: Report<P>) -> Watched<R, P> {
         Watched {
             reader,

@@ -1,4 +1,4 @@
-//! Files, and what other programs read of them.
+//! Files, and the output of other programs on them.
 
 use crate::command::{Command, play};
 use crate::damaged::play_damaged;
@@ -10,14 +10,14 @@ use anyhow::{Error, anyhow, bail};
 use std::alloc::{AllocError, Global};
 use std::fs;
 
-/// What a command writes of a file.
+/// The output of a command on a file.
 #[derive(Drop)]
 pub struct Written {
-    /// What it writes to standard output.
+    /// The bytes written to standard output.
     pub out: Vec<u8>,
-    /// What it reports on standard error.
+    /// The bytes reported on standard error.
     pub reported: Vec<u8>,
-    /// What came of the file.
+    /// The outcome of the file.
     pub status: Status,
 }
 
@@ -36,7 +36,7 @@ impl Written {
     }
 }
 
-/// Returns what a command writes of a file.
+/// Returns the output of a command on a file.
 pub fn outcome_of(
     alloc: Global,
     command: Command,
@@ -104,18 +104,19 @@ fn compare_rows(alloc: Global, written: &str, rows: &str) -> Result<u64, Error> 
     Ok(count)
 }
 
-/// How a file of a list is compared.
+/// The comparison of a file of a list.
 #[derive(Clone, Copy, Debug, PartialEq, Eq)]
 struct Case {
-    /// Whether the file has an error, which is printed.
+    /// True if the file has an error, which is printed.
     refused: bool,
-    /// How its units are printed.
+    /// The style in which its units are printed.
     style: Style,
 }
 
-/// Compares what is read of each file of a list: a line has a command, a file, and a file of rows or of bytes. After
-/// the word `json` the units are printed so. After the word `refused` the file has an error, which is printed. After
-/// the word `damaged` there are a command and a file whose damaged copies are counted.
+/// Compares the results of reading each file of a list: a line has a command, a file, and a file of
+/// rows or of bytes. After the word `json` the units are printed as JSON. After the word `refused`
+/// the file has an error, which is printed. After the word `damaged` there are a command and a file
+/// whose damaged copies are counted.
 pub fn play_rows(rt: &HostRuntime, list: &str) -> Result<(), Error> {
     let text = fs::read_to_string(rt, list)?;
     for line in text.as_str().lines() {
@@ -153,7 +154,7 @@ fn command_of(word: &str) -> Result<Command, Error> {
     }
 }
 
-/// Compares what is read of a file with the rows or the bytes of another one.
+/// Compares the output on a file with the rows or the bytes of another one.
 fn compare(
     rt: &HostRuntime,
     command: Command,

@@ -26,7 +26,7 @@ fn words(rt: &HostRuntime) -> io::Result<Vec<String>> {
     Ok(words)
 }
 
-/// Does what the arguments ask for, and returns the exit status.
+/// Runs the program on its arguments, and returns the exit status.
 pub fn run(rt: &HostRuntime) -> io::Result<u8> {
     let words = words(rt)?;
     match parse(rt.alloc(), words.as_slice()) {
@@ -51,7 +51,7 @@ fn refuse(rt: &HostRuntime, usage: Usage) -> io::Result<()> {
     eprintln!(rt; "formats: `formats --help` prints how it is called")
 }
 
-/// Does what a call asks for, and returns the exit status.
+/// Runs a parsed call, and returns the exit status.
 fn answer(rt: &HostRuntime, call: Call) -> io::Result<u8> {
     match call {
         Call::Help => print!(rt; "{HELP}")?,
@@ -122,7 +122,7 @@ fn read_file<W: Write + Drop>(
     read_from(rt, command, name, file, length, printer, out)
 }
 
-/// Plays a command over a reader of so many bytes, or 0 if it is not known.
+/// Runs a command on a reader of `length` bytes, or 0 if the number is not known.
 fn read_from<R: Read + Drop, W: Write>(
     rt: &HostRuntime,
     command: Command,

@@ -1,6 +1,6 @@
 //! The status with which the program ends.
 
-/// What came of a file, the better before the worse.
+/// The outcome of a file, the better before the worse.
 #[derive(Clone, Copy, Debug, PartialEq, Eq, PartialOrd, Ord)]
 pub enum Status {
     /// All of it was read.

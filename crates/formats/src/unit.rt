@@ -19,24 +19,24 @@ pub enum NoteValue {
 /// A fact about a unit that is no element of the format's document: it follows from elements, or is a text.
 #[derive(Drop)]
 pub struct Note {
-    /// Its name.
+    /// The name.
     pub name: &'static str,
-    /// Its number, of several notes of one name.
+    /// The index among notes of the same name.
     pub index: Option<u32>,
-    /// Its value.
+    /// The value.
     pub value: NoteValue,
 }
 
 /// A unit of a file: a NAL unit, an OBU, a frame, a page, a packet, a block or a member.
 #[derive(Drop)]
 pub struct Unit {
-    /// What it is.
+    /// The kind of the unit.
     pub kind: &'static str,
     /// The place of its first byte in the file.
     pub byte: u64,
-    /// Its elements, as far as they were read.
+    /// The elements, as far as they were read.
     pub elements: Vec<Element>,
-    /// What is known of it beyond its elements.
+    /// The facts beyond the elements.
     pub notes: Vec<Note>,
 }
 
@@ -118,7 +118,7 @@ impl Unit {
 pub struct Fault {
     /// The bit in the unit at which the reader was.
     pub bit: u64,
-    /// What is wrong.
+    /// The error.
     pub text: String,
 }
 
@@ -132,7 +132,7 @@ impl Fault {
     }
 }
 
-/// What came of a unit.
+/// The outcome of a unit.
 #[derive(Drop)]
 pub enum Step {
     /// It was read.
@@ -165,8 +165,8 @@ impl Step {
 
 /// Units that are read one after the other.
 pub trait ReadUnits {
-    /// Reads the next unit, and writes to `out` what a decoder finds in it. After a unit that is refused the next call
-    /// goes on with the next unit that can be found.
+    /// Reads the next unit, and writes its decoded data to `out`. After a refused unit, the next
+    /// call continues with the next unit that can be found.
     fn next_unit<W: Write>(
         &mut self,
         alloc: Global,
@@ -174,6 +174,6 @@ pub trait ReadUnits {
         out: &mut W,
     ) -> Result<Step, Error>;
 
-    /// Returns how many bytes of the file were read.
+    /// Returns the number of bytes of the file that were read.
     fn bytes_done(&self) -> u64;
 }

@@ -50,9 +50,9 @@ module _ {M : Type 1} {𝓤 : Ura M} (𝓛 : Logic 𝓤) (at_mem : Memory → SP
       nothing ! $ move ! (1 ∷ []) $ fjoin ! $ nothing ! $ move ! (2 ∷ []) $ join ! $ join ! $ nothing ! $ move !
       (1 ∷ []) $ done !
 
-  pub Serves-gives : (v : Val) → ent 𝓤 ((Serves 𝓛 at_mem run).post (at_serves 𝓛 at_mem run κ q c) v)
+  pub Serves-pure : (v : Val) → ent 𝓤 ((Serves 𝓛 at_mem run).post (at_serves 𝓛 at_mem run κ q c) v)
       (H.⇛ (ex 𝓤 (λ (b : Bool). guard 𝓤 (v ≡ vbool b) (A.lft κ q))))
-  Serves-gives v =
+  Serves-pure v =
       qed 𝓛 (types.Kit.raw ((Serves 𝓛 at_mem run).post (at_serves 𝓛 at_mem run κ q c) v) ∷ []) ∵ updating ! $
       use1 𝓛 (later (some (λ (b : Bool). ((‵ (flft κ q) ⊛ ‵ ftrue) ⊛ ‵ (bool.own_val b (v ∷ []))) ⊛ some
       (λ (ws : Unit {0} × Unit {0}). ‵ (fsep ftrue ftrue) ⊛ ‵ ftrue)))) (id⊢ 𝓤 _) $ await ! tt $ pick ! (λ b.

@@ -4,10 +4,10 @@ ghost use Rattle.std.specs.Prelude.{◌≡◌, length, replicate, Ok};
 use std::io;
 use std::io::Read;
 
-/// Gives the same byte for ever.
+/// Returns the same byte forever.
 #[derive(Drop)]
 pub struct Endless {
-    /// The byte that it gives.
+    /// The byte that it returns.
     pub byte: u8,
 }
 

@@ -2,8 +2,8 @@
 use std::alloc::{AllocError, Allocator};
 use std::cell::Cell;
 
-/// Serves the given number of requests for a block of memory, and refuses each later one. What it has served
-/// stands in a cell, of which no contract tells.
+/// Serves `left` requests for a block of memory, and refuses each later one. The number left is in
+/// a cell, which no contract sees.
 #[derive(Drop)]
 pub struct RefuseMemory<A> {
     inner: A,
@@ -11,7 +11,7 @@ pub struct RefuseMemory<A> {
 }
 
 impl<A: Allocator> RefuseMemory<A> {
-    /// Returns memory that asks another for the given number of blocks.
+    /// Returns memory that passes on `left` requests for a block.
     pub fn new(inner: A, left: u32) -> RefuseMemory<A> {
         RefuseMemory {
             inner,
@@ -20,7 +20,7 @@ impl<A: Allocator> RefuseMemory<A> {
     }
 }
 
-/// Counts a request down, and answers whether it is served.
+/// Counts a request down, and returns true if it is served.
 fn serves(left: &Cell<u32>) -> bool {
     match left.get().checked_sub(1) {
         Some(fewer) => {

@@ -13,11 +13,12 @@ use std::io::{ErrorKind, Read, Seek, SeekFrom, Write};
 /// refuses `once`. A refused request reaches no byte.
 #[derive(Drop)]
 pub struct Refuse<S> {
-    /// The stream that it stands before.
+    /// The stream that it wraps.
     pub inner: S,
-    /// How many requests it serves before the next one that it refuses; `None` if it serves all.
+    /// The number of requests that it serves before the next one that it refuses; `None` if it
+    /// serves all.
     pub left: Option<u32>,
-    /// Whether it refuses one request alone.
+    /// True if it refuses only one request.
     pub once: bool,
     /// The kind of each refusal, which is not `Interrupted`: std would ask again.
     pub kind: ErrorKind,

@@ -1,14 +1,14 @@
 -- Made by `./format` from formats/header.fields: edit that file and make this one anew.
--- What was written of a `Header` is read back, and how many bits it takes.
-use Rattle.wav_header.specs.Header.{header_entry, header_writes, header_size, header_bits, Fits, coding_of, coding_number}
+-- A written `Header` is read back, and its number of bits.
+use Rattle.wav_header.specs.Header.{header_decoder, header_writes, header_size, header_bits, Fits, coding_of, coding_number}
 use Rattle.wav_header.specs.declared.header.Header.{Header}
 use Rattle.std.proofs.Common.{◌≡◌, ◌++◌, ◌∷◌, [], Ok, refl}
-use Rattle.bitstream_io.proofs.CallerLemmas.{GoesBack, Packs, unsigned-back, gives-back, made-back, literal-back, unsigned-written, const-written, packs-none, packs-more}
-use Rattle.bitstream_io.specs.Callers.{Order, Low, align, write_run}
+use Rattle.bitstream_io.proofs.CallerLemmas.{RoundTrip, Packs, unsigned-back, pure-back, made-back, literal-back, unsigned-written, const-written, packs-none, packs-more}
+use Rattle.bitstream_io.specs.Callers.{Order, Low, align, write_sequence}
 
--- what was written is read back
+-- a written value is read back
 pub header_goes : (o : Order) (value : Header) → Fits value
-    → GoesBack (header_entry o) (header_writes o value) (Ok value)
+    → RoundTrip (header_decoder o) (header_writes o value) (Ok value)
 header_goes o value fits =
     literal-back _ _ o 32 1179011410 _ refl (unsigned-back o 32 _ _ 32 value.size _ refl fits.size (literal-back _ _ o
     32 1163280727 _ refl (literal-back _ _ o 32 544501094 _ refl (literal-back _ _ o 32 16 _ refl (made-back _ _ o
@@ -17,9 +17,9 @@ header_goes o value fits =
     fits.sample_rate (unsigned-back o 32 _ _ 32 value.byte_rate _ refl fits.byte_rate (unsigned-back o 16 _ _ 16
     value.block_size _ refl fits.block_size (unsigned-back o 16 _ _ 16 value.bits_per_sample _ refl
     fits.bits_per_sample (literal-back _ _ o 32 1635017060 _ refl (unsigned-back o 32 _ _ 32 value.data_size _ refl
-    fits.data_size (gives-back _)))))))))))))
+    fits.data_size (pure-back _)))))))))))))
 
--- each write is accepted, and so many bits are written
+-- each write is accepted, and the value's size is the number of bits written
 pub header_packs : (o : Order) (value : Header) → Fits value
     → Packs (header_writes o value) (header_size o value)
 header_packs o value fits =
@@ -34,6 +34,6 @@ header_packs o value fits =
 
 -- the bits, of which a search is to see no part
 pub told : (value : Header)
-    → write_run (header_writes Low value ++ align ∷ []) 0 ≡ header_bits value
+    → write_sequence (header_writes Low value ++ align ∷ []) 0 ≡ header_bits value
 unfolding header_bits
 told value = refl

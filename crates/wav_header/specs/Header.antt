@@ -5,7 +5,7 @@ use Rattle.wav_header.specs.declared.header.HeaderError.TheVariants.{Reader, NoR
 use Rattle.wav_header.specs.declared.header.Coding.{Coding}
 use Rattle.wav_header.specs.declared.header.Coding.TheVariants.{Pcm, Float, ALaw, MuLaw, Other}
 use Rattle.std.specs.Prelude.{◌≡◌, ◌^◌, ◌<◌, ◌++◌, ◌∷◌, [], ◌==◌, if◌then◌else◌, ℕ, Bool, List, Result, Ok, Err, take, drop}
-use Rattle.bitstream_io.specs.Callers.{◌>>=◌, ReadEntry, WriteEntry, gives, Error, Order, Low, number, chain, word, unsigned_entry, const_entry, plain, unsigned, align, write_run}
+use Rattle.bitstream_io.specs.Callers.{◌>>=◌, Decoder, Encoder, pure, Error, Order, Low, number, and_then, word, unsigned_decoder, const_decoder, plain, unsigned, align, write_sequence}
 
 -- Made by `./format` from formats/header.fields: edit that file and make this one anew.
 
@@ -13,7 +13,7 @@ use Rattle.bitstream_io.specs.Callers.{◌>>=◌, ReadEntry, WriteEntry, gives, 
 abbrev pub becomes_header : Error → HeaderError → Type 0
 becomes_header error own = own ≡ Reader error
 
--- n bits behind the first k
+-- n bits after the first k
 abbrev pub bits_at : ℕ → ℕ → List Bool → List Bool
 bits_at k n bits = take n (drop k bits)
 
@@ -33,12 +33,12 @@ const_at_96 bits = number Low (bits_at 96 32 bits)
 abbrev pub const_at_128 : List Bool → ℕ
 const_at_128 bits = number Low (bits_at 128 32 bits)
 
--- what a number says
+-- the case of a number
 abbrev pub coding_of : ℕ → Coding
 coding_of n = if n == 1 then Pcm else if n == 3 then Float else if n == 6 then ALaw else if n == 7 then MuLaw else Other
     n
 
--- and back
+-- the number of a case
 abbrev pub coding_number : Coding → ℕ
 coding_number Pcm = 1
 coding_number Float = 3
@@ -46,19 +46,19 @@ coding_number ALaw = 6
 coding_number MuLaw = 7
 coding_number (Other n) = n
 
--- the read of its number
-abbrev pub coding_read : Order → ReadEntry Coding
-coding_read o = chain (unsigned_entry o 16 16) (λ v. gives (coding_of v))
+-- the read of a case
+abbrev pub coding_read : Order → Decoder Coding
+coding_read o = and_then (unsigned_decoder o 16 16) (λ v. pure (coding_of v))
 
 -- the 32 bits at 288, which are 1635017060
 abbrev pub const_at_288 : List Bool → ℕ
 const_at_288 bits = number Low (bits_at 288 32 bits)
 
--- the reads, in order, behind 5 that may be refused
-abbrev pub header_entry_5 : Order → ℕ → Coding → ℕ → ℕ → ℕ → ℕ → ℕ → ReadEntry (Result Header HeaderError)
-header_entry_5 o size coding channels sample_rate byte_rate block_size bits_per_sample = do
-  data_size ← unsigned_entry o 32 32
-  gives (Ok (record {
+-- the reads, in order, after 5 that may be refused
+abbrev pub header_decoder_5 : Order → ℕ → Coding → ℕ → ℕ → ℕ → ℕ → ℕ → Decoder (Result Header HeaderError)
+header_decoder_5 o size coding channels sample_rate byte_rate block_size bits_per_sample = do
+  data_size ← unsigned_decoder o 32 32
+  pure (Ok (record {
     size = size;
     coding = coding;
     channels = channels;
@@ -70,46 +70,46 @@ header_entry_5 o size coding channels sample_rate byte_rate block_size bits_per_
     data_size = data_size;
   }))
 
--- the reads, in order, behind 4 that may be refused
-abbrev pub header_entry_4 : Order → ℕ → ReadEntry (Result Header HeaderError)
-header_entry_4 o size = do
+-- the reads, in order, after 4 that may be refused
+abbrev pub header_decoder_4 : Order → ℕ → Decoder (Result Header HeaderError)
+header_decoder_4 o size = do
   coding ← coding_read o
-  channels ← unsigned_entry o 16 16
-  sample_rate ← unsigned_entry o 32 32
-  byte_rate ← unsigned_entry o 32 32
-  block_size ← unsigned_entry o 16 16
-  bits_per_sample ← unsigned_entry o 16 16
-  is_11 ← const_entry o 32 1635017060
-  if is_11 then header_entry_5 o size coding channels sample_rate byte_rate block_size bits_per_sample else gives (Err
+  channels ← unsigned_decoder o 16 16
+  sample_rate ← unsigned_decoder o 32 32
+  byte_rate ← unsigned_decoder o 32 32
+  block_size ← unsigned_decoder o 16 16
+  bits_per_sample ← unsigned_decoder o 16 16
+  is_11 ← const_decoder o 32 1635017060
+  if is_11 then header_decoder_5 o size coding channels sample_rate byte_rate block_size bits_per_sample else pure (Err
       NoData)
 
--- the reads, in order, behind 3 that may be refused
-abbrev pub header_entry_3 : Order → ℕ → ReadEntry (Result Header HeaderError)
-header_entry_3 o size = do
-  is_4 ← const_entry o 32 16
-  if is_4 then header_entry_4 o size else gives (Err LongFormat)
+-- the reads, in order, after 3 that may be refused
+abbrev pub header_decoder_3 : Order → ℕ → Decoder (Result Header HeaderError)
+header_decoder_3 o size = do
+  is_4 ← const_decoder o 32 16
+  if is_4 then header_decoder_4 o size else pure (Err LongFormat)
 
--- the reads, in order, behind 2 that may be refused
-abbrev pub header_entry_2 : Order → ℕ → ReadEntry (Result Header HeaderError)
-header_entry_2 o size = do
-  is_3 ← const_entry o 32 544501094
-  if is_3 then header_entry_3 o size else gives (Err NoFormat)
+-- the reads, in order, after 2 that may be refused
+abbrev pub header_decoder_2 : Order → ℕ → Decoder (Result Header HeaderError)
+header_decoder_2 o size = do
+  is_3 ← const_decoder o 32 544501094
+  if is_3 then header_decoder_3 o size else pure (Err NoFormat)
 
--- the reads, in order, behind 1 that may be refused
-abbrev pub header_entry_1 : Order → ReadEntry (Result Header HeaderError)
-header_entry_1 o = do
-  size ← unsigned_entry o 32 32
-  is_2 ← const_entry o 32 1163280727
-  if is_2 then header_entry_2 o size else gives (Err NoWave)
+-- the reads, in order, after 1 that may be refused
+abbrev pub header_decoder_1 : Order → Decoder (Result Header HeaderError)
+header_decoder_1 o = do
+  size ← unsigned_decoder o 32 32
+  is_2 ← const_decoder o 32 1163280727
+  if is_2 then header_decoder_2 o size else pure (Err NoWave)
 
 -- the reads, in order
-abbrev pub header_entry : Order → ReadEntry (Result Header HeaderError)
-header_entry o = do
-  is_0 ← const_entry o 32 1179011410
-  if is_0 then header_entry_1 o else gives (Err NoRiff)
+abbrev pub header_decoder : Order → Decoder (Result Header HeaderError)
+header_decoder o = do
+  is_0 ← const_decoder o 32 1179011410
+  if is_0 then header_decoder_1 o else pure (Err NoRiff)
 
 -- the writes, in order
-abbrev pub header_writes : Order → Header → List WriteEntry
+abbrev pub header_writes : Order → Header → List Encoder
 header_writes o value =
     plain (word o 32 1179011410)
     ∷ unsigned o 32 32 value.size
@@ -144,9 +144,9 @@ header_size o value = 352
 
 -- the bits of all fields, up to a whole byte
 unfoldable pub header_bits : Header → List Bool
-header_bits value = write_run (header_writes Low value ++ align ∷ []) 0
+header_bits value = write_sequence (header_writes Low value ++ align ∷ []) 0
 
--- the fields that bits say, each by its place
+-- the fields in bits, each by its place
 abbrev pub header_at : List Bool → Header
 header_at bits = record {
   size = number Low (bits_at 32 32 bits);

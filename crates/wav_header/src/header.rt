@@ -1,13 +1,13 @@
 //! The first 44 bytes of a WAV file whose first two chunks are `fmt ` and `data`.
 //!
 //! Made by `./format` from formats/header.fields: edit that file and make this one anew.
-ghost use Rattle.wav_header.specs.Header.{header_entry, header_writes, header_bits, header_at, Fits, becomes_header, const_at_0, const_at_64, const_at_96, const_at_128, const_at_288, coding_of, coding_number, coding_read};
+ghost use Rattle.wav_header.specs.Header.{header_decoder, header_writes, header_bits, header_at, Fits, becomes_header, const_at_0, const_at_64, const_at_96, const_at_128, const_at_288, coding_of, coding_number, coding_read};
 ghost use Rattle.wav_header.specs.declared.header.Header.{Header};
 ghost use Rattle.wav_header.specs.declared.header.HeaderError.{HeaderError};
 ghost use Rattle.wav_header.specs.declared.header.HeaderError.TheVariants.{Reader, NoRiff, NoWave, NoFormat, LongFormat, NoData};
 ghost use Rattle.std.specs.Prelude.{◌≡◌, ◌≢◌, ◌<◌, ◌≤◌, ◌++◌, ℕ, Bool, List, Ok, Err, length, IfOk, IsOk};
 ghost use Rattle.std.specs.declared.io.ErrorKind.TheVariants.{WriteZero};
-ghost use Rattle.bitstream_io.specs.Callers.{Takes, Error, EndOfInput, Order, Low, bits, write_run, Reads, ReadsOwn, OwnAnswer, WritesAll, AllAccepted, run_length, sure_answer, Stream, same_error};
+ghost use Rattle.bitstream_io.specs.Callers.{Done, Error, EndOfInput, Order, Low, bits, write_sequence, Reads, ReadsOwn, OwnAnswer, WritesAll, AllAccepted, sequence_length, sure_answer, Stream, same_error};
 ghost use Rattle.bitstream_io.specs.SliceMut.{HoldsFirst, written_bytes};
 
 use bitstream_io::{
@@ -48,7 +48,7 @@ use bitstream_io::{
 pub struct Header {
     /// The bytes that follow this field.
     pub size: u32,
-    /// How samples are coded.
+    /// The coding of samples.
     pub coding: Coding,
     /// The number of channels.
     pub channels: u16,
@@ -64,7 +64,7 @@ pub struct Header {
     pub data_size: u32,
 }
 
-/// Why a `Header` is not read.
+/// The errors of reading a `Header`.
 #[derive(Debug, Drop, thiserror::Error)]
 pub enum HeaderError {
     /// An error of the reader.
@@ -95,7 +95,7 @@ impl From<Error> for HeaderError {
     }
 }
 
-/// How samples are coded.
+/// The coding of samples.
 #[derive(Clone, Copy, Debug, PartialEq)]
 pub enum Coding {
     /// 1.
@@ -111,7 +111,7 @@ pub enum Coding {
 }
 
 impl Coding {
-    /// Returns what a number says.
+    /// Decodes a number.
     pub fn of(number: u16) -> Coding
         ensures { result ≡ coding_of number }
     {
@@ -130,7 +130,7 @@ impl Coding {
         Coding::Other(number)
     }
 
-    /// Returns its number.
+    /// Returns the number of the case.
     pub fn number(self) -> u16
         ensures { result ≡ coding_number self }
     {
@@ -143,7 +143,7 @@ impl Coding {
         }
     }
 
-    /// Reads its number.
+    /// Reads a number of 16 bits, and decodes it.
     pub fn read<R: BitRead>(reader: &mut R) -> Result<Coding, Error>
         ensures { Reads R.source (coding_read R.source.order) reader.old result reader.new }
     {
@@ -153,14 +153,17 @@ impl Coding {
 }
 
 impl Header {
+    /// The number of bits before each line of the description.
+    pub const PLACES: [u64; 13] = [0, 32, 64, 96, 128, 160, 176, 192, 224, 256, 272, 288, 320];
+
     /// Reads the fields in order.
     ///
     /// # Errors
     ///
-    /// `NoRiff`, `NoWave`, `NoFormat`, `LongFormat`, `NoData`, behind the bits that say so.
-    /// Else those of the reader: after each of them it has failed.
+    /// `NoRiff`, `NoWave`, `NoFormat`, `LongFormat`, `NoData`, after the bits that are refused.
+    /// Else the errors of the reader: after each of them it has failed.
     pub fn read<R: BitRead>(reader: &mut R) -> Result<Header, HeaderError>
-        ensures { ReadsOwn R.source becomes_header (header_entry R.source.order) reader.old result reader.new }
+        ensures { ReadsOwn R.source becomes_header (header_decoder R.source.order) reader.old result reader.new }
     {
         reader.read_const::<Bits<32>, Bits<1179011410>, HeaderError>(HeaderError::NoRiff)?;
         let size = reader.read::<Bits<32>, u32>()?;
@@ -187,14 +190,14 @@ impl Header {
         })
     }
 
-    /// Returns what bytes begin with.
+    /// Parses the value at the start of `packet`.
     ///
     /// # Errors
     ///
     /// `NoRiff`, `NoWave`, `NoFormat`, `LongFormat`, `NoData`, `Reader(EndOfInput)` for fewer than 44 bytes.
     pub fn parse(packet: &[u8]) -> Result<Header, HeaderError>
         ensures answer { OwnAnswer becomes_header (λ answer. answer)
-            (sure_answer ((header_entry Low).reads 0 (bits Low packet.now))) result }
+            (sure_answer ((header_decoder Low).reads 0 (bits Low packet.now))) result }
         ensures there { 44 ≤ length packet.now → const_at_0 (bits Low packet.now) ≡ 1179011410
             → const_at_64 (bits Low packet.now) ≡ 1163280727
             → const_at_96 (bits Low packet.now) ≡ 544501094
@@ -227,7 +230,7 @@ impl Header {
         ensures back { (value : Header) (more : List Bool) → Fits value
             → bits Low packet.now ≡ header_bits value ++ more → result ≡ Ok value }
     {
-        header_goes_back();
+        header_round_trip();
         Header::read(&mut BitReader::<_, LE>::over(packet))
     }
 
@@ -236,7 +239,7 @@ impl Header {
     /// # Errors
     ///
     /// `Checked` for a field that does not fit its bits. The fields before it are written then.
-    /// Else those of the sink.
+    /// Else the errors of the sink.
     pub fn write<W: BitWrite>(&self, writer: &mut W) -> Result<(), Error>
         ensures { WritesAll W.sink (header_writes W.sink.order self.now) writer.old result writer.new }
     {
@@ -268,7 +271,7 @@ impl Header {
         ensures packed { IfOk result (λ packed. bits Low (written_bytes packed) ≡ header_bits self.now) }
         ensures first { IfOk result (HoldsFirst buffer.entry.ghost_name buffer.old) }
         ensures accepted { IsOk result → AllAccepted (header_writes Low self.now) 0 }
-        ensures misfit { (error : Error) → run_length (header_writes Low self.now) 0 ≡ Err error
+        ensures misfit { (error : Error) → sequence_length (header_writes Low self.now) 0 ≡ Err error
             → result ≡ Err error }
         ensures room { Fits self.now → 44 ≤ length buffer.old → IsOk result }
         ensures short { Fits self.now → length buffer.old < 44 → result ≡ Err (Stream WriteZero) }
@@ -282,7 +285,7 @@ impl FromBitStream for Header {
 
     ghost becomes = { becomes_header };
 
-    ghost reads = { header_entry };
+    ghost reads = { header_decoder };
 
     fn from_reader<R: BitRead>(reader: &mut R) -> Result<Header, HeaderError> {
         Header::read(reader)
@@ -301,12 +304,12 @@ impl ToBitStream for Header {
     }
 }
 
-/// What fits its bits is read back as it was written, in either order of bits, wherever it stands.
-/// The read takes the bits that were written, and no more: 352 bits.
-pub fn header_goes_back()
+/// A value that fits its bits is read back as it was written, in either order of bits, at any place.
+/// The read takes only the bits that were written: 352 bits.
+pub fn header_round_trip()
     ensures back { (o : Order) (value : Header) (at from : ℕ) (more : List Bool) → Fits value
-        → let written = write_run (header_writes o value) at in
-        (header_entry o).reads from (written ++ more) ≡ Takes (length written) (Ok (Ok value)) }
+        → let written = write_sequence (header_writes o value) at in
+        (header_decoder o).reads from (written ++ more) ≡ Done (length written) (Ok (Ok value)) }
     ensures size { (o : Order) (value : Header) (at : ℕ) → Fits value
-        → length (write_run (header_writes o value) at) ≡ 352 }
+        → length (write_sequence (header_writes o value) at) ≡ 352 }
 {}

@@ -1,4 +1,4 @@
-//! Prints what the header of a WAV file says: `wav_header FILE`.
+//! Prints the fields of the header of a WAV file: `wav_header FILE`.
 #![tactic(auto)]
 
 mod header;

@@ -184,7 +184,7 @@ def is_read(f: Format, line: Line, use: m.Use, term: str, fits: str) -> str:
     goes = f"({use.module}_goes o {term} {fits}).back"
     if not f.mapped(line.kind):
         return goes
-    writes, read = f"({use.module}_writes o {term})", f"({use.module}_entry o)"
+    writes, read = f"({use.module}_writes o {term})", f"({use.module}_decoder o)"
     return f"(mapped-read {use.module}_answer {writes} {read} (Ok {term}) {goes})"
 
 

@@ -43,9 +43,9 @@ READ_FITS, FITS = "(search (sfits_of, ARM))", "(search sfits_of)"
 # For a call that succeeded: the term of the calls after it follows.
 NEXT: Table = {
     "Reads": {
-        "read": "Reads-chain-ok 2 FACT",
+        "read": "Reads-and_then-ok 2 FACT",
         "const": "next_const 5 FACT",
-        "alone": "Reads-chain-ok 2 (const_alone 6 FACT refl refl refl)",
+        "alone": "Reads-and_then-ok 2 (const_alone 6 FACT refl refl refl)",
         "signed": f"next_signed_read 4 FACT {READ_FITS}",
         "signed read of": f"next_signed_part 1 WIDE FACT {READ_FITS}",
     },
@@ -135,7 +135,7 @@ TESTS = {
     "GrowsOwn": ("if_growing 3", "else_growing 3"),
 }
 # For an `Ok` after the last call.
-END = {"Reads": "Reads-gives 2", "ReadsOwn": "own_end 2", "GrowsOwn": "grown_end 2", "WritesAll": "all_none 2"}
+END = {"Reads": "Reads-pure 2", "ReadsOwn": "own_end 2", "GrowsOwn": "grown_end 2", "WritesAll": "all_none 2"}
 # The clause of a part that has no error of its own, as plain reads or writes.
 PLAINLY = {"Reads": "(read_plainly 5 FACT)", "WritesAll": "(written_plainly 5 FACT)"}
 # The modules of the lemmas, in the order of their imports, and shorter names for some lemmas.
@@ -153,13 +153,13 @@ LEMMAS = {
     CALLER + "OwnSteps": "if_own else_own then_own_signed then_part end_part own_end",
     CALLER + "ReadSteps": "next_signed_read",
     "Rattle.std.proofs.lemmas.Int": "to_z-of_z",
-    CALLER + "ReadsLemmas": "Reads-chain-ok Reads-gives exit",
+    CALLER + "ReadsLemmas": "Reads-and_then-ok Reads-pure exit",
     CALLER + "WriteParts": "all_append all_none all_one all_stop",
     CALLER + "WriteSteps": "next_call next_write next_signed next_signed_call stop_call stop_write stop_signed"
     " stop_signed_call signed_value",
 }
 SHORT = {
-    "Reads-chain-ok": "next",
+    "Reads-and_then-ok": "next",
     "next_own_read": "next",
     "next_own_const": "next_const",
     "exit_own_read": "exit",

@@ -16,7 +16,7 @@ def lemmas(line: Line, enum: m.EnumType) -> list[str]:
     if enum.other or line.repeats:
         return []
     s, cases = snake(enum.name), [called(line, case) for _, case in enum.cases]
-    out = ["-- the number of each case fits its bits, and says that case"]
+    out = ["-- the number of each case fits its bits, and decodes to that case"]
     out += [f"{s}_small : (it : {enum.name}) → {s}_number it < 2 ^ {enum.width}"]
     out += [f"{s}_small {case} = omega arith" for case in cases]
     out += ["", f"{s}_again : (it : {enum.name}) → {s}_of ({s}_number it) ≡ Ok it"]
@@ -60,7 +60,7 @@ def number_answers(enum: m.EnumType, goals: str) -> list[str]:
 def read_answers(line: Line, goals: str, read: str, name: str, made: str) -> list[str]:
     """Returns the answers of a function that reads `name`, and returns what `made` makes of it."""
     steps = ("next_own_read _", "own_end _ _", "exit_own_read _")
-    first, end, stop = steps if line.error else ("Reads-chain-ok _ _", "Reads-gives _ _", "exit _ _")
+    first, end, stop = steps if line.error else ("Reads-and_then-ok _ _", "Reads-pure _ _", "exit _ _")
     return [
         f"{goals}.{read}.Goals as goal",
         "",
@@ -97,7 +97,7 @@ def array_invariants(f: Format, line: Line, enum: m.EnumType, kind: m.Array) -> 
     return write_invariants(f, kind) | {
         f"{enum.name}/each": [
             f"use {f.goals}.{enum.name}.each.Given as goal",
-            "-- the items so far are what their numbers say",
+            "-- the items so far are the cases of their numbers",
             "abbrev pub invariant-loop-i : goal.invariant-loop-i",
             f"invariant-loop-i l = ({made}) × (length l.found ≡ {kind.count})",
         ]

@@ -63,17 +63,17 @@ def enum_found(line: Line, kind: m.Enum, left: int, behind: str, order: str) -> 
 
 def part_found(line: Line, left: int, behind: str, order: str) -> str:
     """Returns the term for a part."""
-    term = "gives-finds _ _ _"
+    term = "pure-finds _ _ _"
     for it in reversed(line.inner):
         term = found(it, line.wide - (it.at or 0), term, order)
-    return f"chain-finds _ _ {line.wide} {left - line.wide} _ _ _ _ ({term}) ({behind})"
+    return f"and_then-finds _ _ {line.wide} {left - line.wide} _ _ _ _ ({term}) ({behind})"
 
 
 def missed(line: Line, order: str) -> str:
     """Returns the term that the read of a line refuses its bits."""
     kind, bits = line.kind, line.wide
     if isinstance(kind, m.Const):
-        return f"const-misses _ _ {bits} {bits} _ {order} {kind.value} _ refl differs (gives-finds _ _ _)"
+        return f"const-misses _ _ {bits} {bits} _ {order} {kind.value} _ refl differs (pure-finds _ _ _)"
     assert line.enum
     wide, s = line.enum.width, snake(line.enum.name)
     if isinstance(kind, m.Array):

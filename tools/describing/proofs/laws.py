@@ -22,13 +22,13 @@ def line_lemmas(line: Line) -> list[str]:
 
 def goes(f: Format) -> list[str]:
     """Returns the lemma of the round trip."""
-    ok, term = "(Ok value)" if f.own else "value", "gives-back _"
+    ok, term = "(Ok value)" if f.own else "value", "pure-back _"
     for it in reversed(f.lines):
         term = back(f, it, term)
     return [
-        "-- what was written is read back",
+        "-- a written value is read back",
         f"pub {f.m}_goes : (o : Order) (value : {f.type}) → Fits value",
-        f"    → GoesBack ({f.m}_entry o) ({f.m}_writes o value) {ok}",
+        f"    → RoundTrip ({f.m}_decoder o) ({f.m}_writes o value) {ok}",
         f"{f.m}_goes o value fits =",
         *[f"    {line}" for it in f.lines for line in lets(f, it)],
         f"    {term}",
@@ -42,7 +42,7 @@ def packs(f: Format) -> list[str]:
     for it in reversed(f.lines):
         term = f"{'packs-part' if it.many else 'packs-more'} ({written(it)}) ({term})"
     return [
-        "-- each write is accepted, and so many bits are written",
+        "-- each write is accepted, and the value's size is the number of bits written",
         f"pub {f.m}_packs : (o : Order) (value : {f.type}) → Fits value",
         f"    → Packs ({f.m}_writes o value) ({f.m}_size o value)",
         f"{f.m}_packs o value fits =",
@@ -72,7 +72,7 @@ def told(f: Format) -> list[str]:
     return [
         "-- the bits, of which a search is to see no part",
         f"pub told : (value : {f.type})",
-        f"    → write_run ({f.m}_writes {f.o} value ++ align ∷ []) 0 ≡ {f.m}_bits value",
+        f"    → write_sequence ({f.m}_writes {f.o} value ++ align ∷ []) 0 ≡ {f.m}_bits value",
         f"unfolding {f.m}_bits",
         "told value = refl",
     ]

@@ -5,7 +5,7 @@ from describing import model as m
 from describing.layout import Format, Line
 from describing.proofs.loops import write_answers, write_invariants
 from describing.proofs.unfolds import opened
-from describing.specs.terms import item_entry, placed, stored, width
+from describing.specs.terms import item_decoder, placed, stored, width
 
 Answers = dict[str, list[str]]
 COUNTED = "let all : c.loop.counter ≡ c.args.count = omega (arith, c.loop-test.false, c.loop.auto.counter-end) in"
@@ -49,7 +49,7 @@ def pushed(item: m.Item) -> str:
 
 def list_answers(f: Format, line: Line, kind: m.List) -> list[str]:
     """Returns the answers of a list whose items are never refused."""
-    item = f"({placed(item_entry(f, line, kind.item), 'g.R.BitRead.source.order')})"
+    item = f"({placed(item_decoder(f, line, kind.item), 'g.R.BitRead.source.order')})"
     ok, err, residual = read_clause(kind.item, "ok"), read_clause(kind.item, "err"), "c.from_residual-in_err-push"
     return [
         "",
@@ -64,7 +64,7 @@ def list_answers(f: Format, line: Line, kind: m.List) -> list[str]:
         "pub returns-in_err-push : goal.returns-in_err-push",
         f"unfolding {opened(line)}",
         "returns-in_err-push g c =",
-        f"    rw (seen_err _ {residual}.result {residual}.ensures.1)",
+        f"    rw (map_err _ {residual}.result {residual}.ensures.1)",
         f"    (items-refused {item} _ c.args.count refl c.loop-test.true c.loop.invariant {ok})",
         "",
         "pub loop-preserved : goal.loop-preserved",
@@ -87,9 +87,9 @@ def own_read(item: m.Item, arm: str) -> str:
 
 def own_answers(f: Format, line: Line, kind: m.List) -> list[str]:
     """Returns the answers of a list whose items may be refused."""
-    item = f"({placed(item_entry(f, line, kind.item), 'g.R.BitRead.source.order')})"
+    item = f"({placed(item_decoder(f, line, kind.item), 'g.R.BitRead.source.order')})"
     ok, err = own_read(kind.item, "ok"), own_read(kind.item, "err")
-    stopped = "rw (own_seen_err _ c.{0}.result c.{0}.ensures.1)"
+    stopped = "rw (own_map_err _ c.{0}.result c.{0}.ensures.1)"
     return [
         "",
         "pub loop-init : goal.loop-init",

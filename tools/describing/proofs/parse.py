@@ -35,12 +35,12 @@ def back_term(f: Format) -> str:
     is_ = "is"
     if f.sized:
         is_ = f"(is ∙ ap (λ w. w ++ more) (sym (told value) ∙ packs-whole ({f.m}_packs {f.o} value fits) refl))"
-    back = f"c.{f.m}_goes_back.ensures.back {f.o} value 0 0 more fits"
-    front = f"(ap (({f.m}_entry {f.o}).reads 0) {is_} ∙ {back})"
+    back = f"c.{f.m}_round_trip.ensures.back {f.o} value 0 0 more fits"
+    front = f"(ap (({f.m}_decoder {f.o}).reads 0) {is_} ∙ {back})"
     if f.grows:
-        motive = f"(λ front. OwnAnswer {f.becomes_name} (λ answer. answer) (sure_answer front) c.read.result)"
+        motive = f"(λ prefix. OwnAnswer {f.becomes_name} (λ answer. answer) (sure_answer prefix) c.read.result)"
         return f"λ value more fits is.\n    {or_refused_term(f'subst {motive} {front} found')}"
-    return f"λ value more fits is.\n    {'own_' * f.own}front_answered {OVER} {front}"
+    return f"λ value more fits is.\n    {'own_' * f.own}prefix_answered {OVER} {front}"
 
 
 def or_refused_term(term: str, lack: str = "(is_error _ _ lack.0)") -> str:
@@ -65,7 +65,7 @@ def finds(f: Format) -> list[str]:
     """Returns what the reads find if nothing is refused, and at each line that may be refused."""
     bits = f"bits {f.o} packet"
     ok = f"Ok ({at_bits(f, bits)})" if f.own else at_bits(f, bits)
-    out = found(f, "found", f.tests, None, f"Ok ({ok})", "gives-finds _ _ _")
+    out = found(f, "found", f.tests, None, f"Ok ({ok})", "pure-finds _ _ _")
     for k, it in enumerate(f.tests):
         out += found(f, f"other_{it.index}", f.tests[:k], it, f"Ok (Err {it.error})", missed(it, f.o))
     return out
@@ -83,7 +83,7 @@ def found(f: Format, name: str, held: list[Line], failed: Line | None, answer: s
     fails_here = [fails(f, failed, bits)] if failed else []
     return [
         " → ".join([f"{name} : (packet : List ℕ)", *known_of(f, held, bits), *fails_here]),
-        f"    → Finds ({bits}) 0 ({f.m}_entry {f.o}) {total} ({answer})",
+        f"    → Finds ({bits}) 0 ({f.m}_decoder {f.o}) {total} ({answer})",
         f"{name} {' '.join(['packet', *given])} = {term}",
         "",
     ]
@@ -119,7 +119,7 @@ def short(f: Format) -> str:
         few = f"elim (cases_lt ({size}) {it.least()}) [ | inl less ↦ {other} | inr enough ↦ {enough} ]"
         tells = f"eqb_tells (const_at_{it.at} all) {it.kind.value}"
         term = f"elim ({tells}) [ | inl {names[k]} ↦ {term} | inr differs ↦ {few} ]"
-    found_type = f"Finds all 0 ({f.m}_entry {f.o}) n x"
+    found_type = f"Finds all 0 ({f.m}_decoder {f.o}) n x"
     return f"""λ few {' '.join(f'at_{it.index}' for it in f.tests)}.
     let all = bits {f.o} c.args.packet.now in
     let ended = λ (n : ℕ) (x : _) (found : {found_type}) (less : 8 * {size} < n). is_error _ _

@@ -16,7 +16,7 @@ Answers = dict[str, list[str]]
 
 def files(f: Format) -> dict[str, str]:
     """Returns the lemmas and the test vectors by their places in the crate."""
-    head = f"-- What was written of {article(f.type)} is read back, and how many bits it takes."
+    head = f"-- A written `{f.type}` is read back, and its number of bits."
     found = {f"proofs/{f.spec}Lemmas.antt": text(f, [head], lemmas(f), parts_lemmas(f))}
     if f.description.examples:
         out, unfolded = rows(f)
@@ -85,7 +85,7 @@ def law(f: Format) -> Answers:
     back = f"λ o value at from more fits. ({f.m}_goes o value fits).back at from more"
     size = f"λ o value at fits. ({f.m}_packs o value fits).size at"
     clauses = ("returns-clause-back", "c", back), ("returns-clause-size", "c", size)
-    return answer(f, f"{f.m}_goes_back", *clauses)
+    return answer(f, f"{f.m}_round_trip", *clauses)
 
 
 def traits(f: Format) -> Answers:

@@ -101,7 +101,7 @@ def refused_row(f: Format, k: int, said: str, unfolds: list[str]) -> list[str]:
     own = any(it.error == said for it in f.lines)
     answer = f"Ok (Err {said})" if own else f"Err {said}"
     return [
-        f"refused_{k} : sure_answer (({f.m}_entry {f.o}).reads 0 (bits {f.o} row_{k})) ≡ {answer}",
+        f"refused_{k} : sure_answer (({f.m}_decoder {f.o}).reads 0 (bits {f.o} row_{k})) ≡ {answer}",
         f"unfolding row_{k} {' '.join(unfolds)}",
         f"refused_{k} = refl",
         "",
@@ -117,9 +117,9 @@ def value_row(f: Format, k: int, said: dict[str, Value], unfolds: list[str]) -> 
         *[f"  {it.name} = {term(it, said[it.name])};" for it in f.fields],
         "}",
         "",
-        f"written_{k} : (write_run ({f.m}_writes {f.o} value_{k} ++ align ∷ []) 0 ≡ bits {f.o} row_{k})",
-        f"    × (({f.m}_entry {f.o}).reads 0 (bits {f.o} row_{k})",
-        f"    ≡ Takes (length (write_run ({f.m}_writes {f.o} value_{k}) 0)) {ok})",
+        f"written_{k} : (write_sequence ({f.m}_writes {f.o} value_{k} ++ align ∷ []) 0 ≡ bits {f.o} row_{k})",
+        f"    × (({f.m}_decoder {f.o}).reads 0 (bits {f.o} row_{k})",
+        f"    ≡ Done (length (write_sequence ({f.m}_writes {f.o} value_{k}) 0)) {ok})",
         f"unfolding row_{k} value_{k} {' '.join(unfolds)}",
         f"written_{k} = (refl, refl)",
         "",
@@ -128,7 +128,7 @@ def value_row(f: Format, k: int, said: dict[str, Value], unfolds: list[str]) -> 
 
 def rows(f: Format) -> tuple[list[str], Table]:
     """Returns the rows, and where the names come from that they compute through and that their parts have."""
-    wanted = {"chain", "digits", "digits_number"} | set(of_lines(f.lines))
+    wanted = {"and_then", "digits", "digits_number"} | set(of_lines(f.lines))
     found = modules_of(wanted)
     unfolds = [it for names in found.values() for it in names.split()] + sorted(it for it in wanted if it[:4] == "lib.")
     out = [line for k, it in enumerate(vectors(f.description)) for line in row(f, k, *it, unfolds)]

@@ -7,7 +7,7 @@ from describing import model as m
 from describing.layout import Line
 from describing.specs.terms import all_items, sign
 
-NUMBER = ("unsigned", "unsigned_entry")
+NUMBER = ("unsigned", "unsigned_decoder")
 
 
 def unfolds(line: Line) -> list[str]:
@@ -19,21 +19,21 @@ def unfolds(line: Line) -> list[str]:
         case m.Number():
             return of_integer(kind.integer)
         case m.NonZero():
-            return [*NUMBER, "non_zero", "non_zero_entry"]
+            return [*NUMBER, "non_zero", "non_zero_decoder"]
         case m.MaybeNonZero():
-            return [*NUMBER, "option_entry"]
+            return [*NUMBER, "option_decoder"]
         case m.Const():
-            return ["const_entry"]
+            return ["const_decoder"]
         case m.Skip():
-            return ["skip_entry"]
+            return ["skip_decoder"]
         case m.Enum() | m.Count():
             return [*NUMBER]
         case m.Unary():
-            return ["unary_entry"]
+            return ["unary_decoder"]
         case m.Groups():
-            return ["groups", "groups_at", "groups_entry", "signed_groups_entry"]
+            return ["groups", "groups_at", "groups_decoder", "signed_groups_decoder"]
         case m.Golomb():
-            return ["unary_entry", *NUMBER, "lib.Count.count_leading_zeros"]
+            return ["unary_decoder", *NUMBER, "lib.Count.count_leading_zeros"]
         case m.Array() | m.List():
             return of_items(line, kind)
         case m.Part() | m.Optional() | m.If():
@@ -43,18 +43,18 @@ def unfolds(line: Line) -> list[str]:
 
 def of_integer(integer: m.Integer) -> list[str]:
     """Returns the definitions for a number."""
-    return [sign(integer), f"{sign(integer)}_entry"]
+    return [sign(integer), f"{sign(integer)}_decoder"]
 
 
 def of_items(line: Line, kind: m.Array | m.List) -> list[str]:
     """Returns the definitions for an array or a list."""
     item = kind.item
-    many = all_items(line) if isinstance(kind, m.List) else "items_entry"
+    many = all_items(line) if isinstance(kind, m.List) else "items_decoder"
     match item:
         case m.Integer():
-            return [*of_integer(item), "items_entry"]
+            return [*of_integer(item), "items_decoder"]
         case m.Octet():
-            return ["bytes_entry", "bytes_of"]
+            return ["bytes_decoder", "bytes_of"]
         case m.EnumType():
             return [*NUMBER, many]
         case m.Use():
@@ -70,4 +70,4 @@ def of_lines(lines: Iterable[Line]) -> Iterator[str]:
 
 def opened(line: Line) -> str:
     """Returns the definitions that show that a reader that has failed reads no item."""
-    return " ".join(dict.fromkeys(["chain", *(it for it in unfolds(line) if it.endswith(("_entry", "_writes")))]))
+    return " ".join(dict.fromkeys(["and_then", *(it for it in unfolds(line) if it.endswith(("_decoder", "_writes")))]))

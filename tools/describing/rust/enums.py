@@ -28,7 +28,7 @@ def answer(f: Format, line: Line, code: str) -> str:
 def of_code(f: Format, line: Line, enum: m.EnumType) -> list[str]:
     """Returns the function from a number to its case."""
     out = [
-        "    /// Returns what a number says.",
+        "    /// Decodes a number.",
         f"    pub fn of(number: u{enum_bits(enum)}) -> {answer(f, line, enum.name)}",
         f"        ensures {{ result ≡ {snake(enum.name)}_of number }}",
         "    {",
@@ -45,7 +45,7 @@ def number_code(enum: m.EnumType) -> list[str]:
     arms = [f"            {enum.name}::{case} => {value}," for value, case in enum.cases]
     arms += [f"            {enum.name}::{enum.other}(number) => number,"] if enum.other else []
     return [
-        "    /// Returns its number.",
+        "    /// Returns the number of the case.",
         f"    pub fn number(self) -> u{enum_bits(enum)}",
         f"        ensures {{ result ≡ {snake(enum.name)}_number self }}",
         "    {",
@@ -61,7 +61,7 @@ def read_code(f: Format, line: Line, enum: m.EnumType) -> list[str]:
     """Returns the function that reads a case."""
     reads = f"ReadsOwn R.source becomes_{f.m}" if line.error else "Reads R.source"
     return [
-        "    /// Reads its number.",
+        f"    /// Reads a number of {enum.width} bits, and decodes it.",
         f"    pub fn read<R: BitRead>(reader: &mut R) -> Result<{enum.name}, {f.error if line.error else 'Error'}>",
         f"        ensures {{ {reads} ({snake(enum.name)}_read R.source.order) reader.old result reader.new }}",
         "    {",
@@ -81,8 +81,8 @@ def each_code(f: Format, line: Line, enum: m.EnumType, kind: m.Array, numbers: s
     """Returns the function from numbers to their cases."""
     first = enum.cases[0][1] if enum.cases else f"{enum.other}(0)"
     return [
-        "    /// Returns what each number says.",
-        *["    ///", "    /// # Errors", "    ///", f"    /// `{line.error}` if one of them says no case."]
+        "    /// Decodes each number.",
+        *["    ///", "    /// # Errors", "    ///", f"    /// `{line.error}` if one of them has no case."]
         * bool(line.error),
         f"    pub fn each(numbers: {numbers}) -> {answer(f, line, m.rust_type(kind))}",
         f"        ensures {{ result ≡ {snake(enum.name)}_each numbers }}",
@@ -100,14 +100,14 @@ def read_each_code(f: Format, line: Line, enum: m.EnumType, kind: m.Array, numbe
     """Returns the function that reads an array of cases."""
     reads = f"ReadsOwn R.source becomes_{f.m}" if line.error else "Reads R.source"
     each, error = f"{enum.name}::each(numbers)", f.error if line.error else "Error"
-    own = f"    /// `{line.error}` if one of them says no case: all of them are read then."
+    own = f"    /// `{line.error}` if one of them has no case: all of them are read then."
     return [
-        f"    /// Reads {kind.count} numbers of {enum.width} bits each, and then returns what they say.",
+        f"    /// Reads {kind.count} numbers of {enum.width} bits each, and then decodes them.",
         "    ///",
         "    /// # Errors",
         "    ///",
         *[own] * bool(line.error),
-        f"    /// {'Else those' if line.error else 'Those'} of the reader: after each of them it has failed.",
+        f"    /// {'Else the' if line.error else 'The'} errors of the reader: after each of them it has failed.",
         f"    pub fn read_each<R: BitRead>(reader: &mut R) -> Result<{m.rust_type(kind)}, {error}>",
         f"        ensures {{ {reads} ({snake(enum.name)}_read_each R.source.order) reader.old result reader.new }}",
         "    {",

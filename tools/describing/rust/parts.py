@@ -39,7 +39,7 @@ def optional_code(f: Format, line: Line, use: m.Use) -> list[str]:
 
 def read_code(f: Format, use: m.Use) -> list[str]:
     """Returns the function that reads a part if it is there."""
-    reads, entry, error = "Reads R.source", f"optional there ({use.module}_entry R.source.order)", "Error"
+    reads, entry, error = "Reads R.source", f"optional there ({use.module}_decoder R.source.order)", "Error"
     if use.description.error:
         reads, error = f"ReadsOwn R.source {f.becomes_name}", f.error
         entry = f"own_optional there ({use.module}_here R.source.order)"

@@ -2,6 +2,7 @@
 from __future__ import annotations
 
 import re
+import textwrap
 
 from describing import model as m
 from describing import picture
@@ -49,7 +50,7 @@ def code(f: Format) -> str:
     body = [*struct_code(f), *model_code(f), *error_code(f)]
     body += [line for it in f.lines for line in declares(f, it)]
     calls = [*read_code(f), *parse_code(f), *write_code(f), *pack_code(f)]
-    body += [f"impl {f.type} {{", *calls, "}", ""]
+    body += [f"impl {f.type} {{", *places_code(f), *calls, "}", ""]
     body += [*from_code(f), *to_code(f), *law_code(f)]
     text = "\n".join(body)
     return "\n".join([f"//! {f.doc}", "//!", f"//! {f.made}", *imported(f, text), "", text]) + "\n"
@@ -80,6 +81,18 @@ def struct_code(f: Format) -> list[str]:
     return [*out, "}", ""]
 
 
+def places_code(f: Format) -> list[str]:
+    """Returns the constant with the place of each line, if all of them are constant."""
+    places = [it.at for it in f.lines]
+    if None in places:
+        return []
+    head = f"    pub const PLACES: [u64; {len(places)}] = ["
+    whole = f"{head}{', '.join(map(str, places))}];"
+    rows = textwrap.wrap(", ".join(map(str, places)) + ",", 92, initial_indent="        ", subsequent_indent="        ")
+    said = "    /// The number of bits before each line of the description."
+    return [said, *([whole] if len(whole) <= 100 else [head, *rows, "    ];"]), ""]
+
+
 def model_code(f: Format) -> list[str]:
     """Returns what contracts see of a format with lists: its fields, and the items of the lists."""
     if not f.grows:
@@ -108,7 +121,7 @@ def error_code(f: Format) -> list[str]:
     firsts = {it.error: it for it in reversed(f.tests)}
     cases = [line for it in dict.fromkeys(it.error for it in f.tests) for line in error_case(firsts[it])]
     return [
-        f"/// Why {article(f.type)} is not read.",
+        f"/// The errors of reading {article(f.type)}.",
         "#[derive(Debug, Drop, thiserror::Error)]",
         f"pub enum {e} {{",
         "    /// An error of the reader.",

@@ -12,9 +12,9 @@ def read_code(f: Format) -> list[str]:
     outcome = f"ReadsOwn R.source {f.becomes_name}" if f.own else "Reads R.source"
     if f.grows:
         outcome = f"GrowsOwn R.source {f.becomes_name}"
-    own = [f"    /// {refusals(f)}behind the bits that say so."] * bool(f.error)
+    own = [f"    /// {refusals(f)}after the bits that are refused."] * bool(f.error)
     own += [
-        f"    /// `{of_reader(f, 'OutOfMemory')}` if memory for a list is refused, behind the items before."
+        f"    /// `{of_reader(f, 'OutOfMemory')}` if memory for a list is refused, after the items before."
     ] * f.grows
     return [
         "    /// Reads the fields in order.",
@@ -22,9 +22,9 @@ def read_code(f: Format) -> list[str]:
         "    /// # Errors",
         "    ///",
         *own,
-        f"    /// {'Else those' if f.own else 'Those'} of the reader: after each of them it has failed.",
+        f"    /// {'Else the' if f.own else 'The'} errors of the reader: after each of them it has failed.",
         f"    pub fn read<R: BitRead>(reader: &mut R{memory(f)}) -> Result<{f.type}, {f.e}>",
-        f"        ensures {{ {outcome} ({f.m}_entry R.source.order) reader.old result reader.new }}",
+        f"        ensures {{ {outcome} ({f.m}_decoder R.source.order) reader.old result reader.new }}",
         *read_body(f, 0),
         *later_reads(f, outcome),
     ]
@@ -61,10 +61,10 @@ def later_reads(f: Format, outcome: str) -> list[str]:
 def parse_code(f: Format) -> list[str]:
     """Returns the function that reads a slice."""
     m, t, o = f.m, f.type, f.o
-    answer = f"(sure_answer (({m}_entry {o}).reads 0 (bits {o} packet.now)))"
-    reached = f"MayAllocate ({m}_entry {o}) 0 (bits {o} packet.now)"
+    answer = f"(sure_answer (({m}_decoder {o}).reads 0 (bits {o} packet.now)))"
+    reached = f"MayAllocate ({m}_decoder {o}) 0 (bits {o} packet.now)"
     told = or_refused(f, f"OwnAnswer {f.becomes_name} (λ answer. answer)\n            {answer} result", reached)
-    bits, few = f"write_run ({m}_writes {o} value) 0", "if the bytes end before the fields do"
+    bits, few = f"write_sequence ({m}_writes {o} value) 0", "if the bytes end before the fields do"
     errors = dict.fromkeys(reader_errors(f.description.kinds))
     more = [f"    /// `{of_reader(f, error)}` {when}." for error, when in errors]
     more += [f"    /// `{of_reader(f, 'OutOfMemory')}` if memory for an item of a list is refused."] * f.grows
@@ -72,7 +72,7 @@ def parse_code(f: Format) -> list[str]:
         bits, few = f"{m}_bits value", f"for fewer than {f.bytes} bytes"
     end, behind = f"`{of_reader(f, 'EndOfInput')}`", "\n            " if f.grows else " "
     return [
-        "    /// Returns what bytes begin with.",
+        "    /// Parses the value at the start of `packet`.",
         "    ///",
         "    /// # Errors",
         "    ///",
@@ -84,7 +84,7 @@ def parse_code(f: Format) -> list[str]:
         f"        ensures back {{ (value : {t}) (more : List Bool) → Fits value",
         f"            → bits {o} packet.now ≡ {bits} ++ more{behind}→ {or_refused(f, 'result ≡ Ok value')} }}",
         "    {",
-        f"        {m}_goes_back();",
+        f"        {m}_round_trip();",
         f"        {t}::read(&mut BitReader::<_, {f.order}>::over(packet){', alloc' * f.grows})",
         "    }",
         "",

@@ -8,11 +8,11 @@ from describing.rust.clauses import memory
 def from_code(f: Format) -> list[str]:
     """Returns the impl of `FromBitStream`."""
     m, t, e = f.m, f.type, f.e
-    reads = f"{m}_entry" if f.own else f"λ o. plain_reads ({m}_entry o)"
+    reads = f"{m}_decoder" if f.own else f"λ o. plain_reads ({m}_decoder o)"
     context, grows = list[str](), list[str]()
     if f.grows:
         context, grows = ["    type Context = Global;", ""], ["    ghost grows = { true };", ""]
-        reads = f"λ o _. {m}_entry o"
+        reads = f"λ o _. {m}_decoder o"
     return [
         f"impl FromBitStream{'Using' * f.grows} for {t} {{",
         *context,
@@ -52,16 +52,16 @@ def to_code(f: Format) -> list[str]:
 def law_code(f: Format) -> list[str]:
     """Returns the law of the round trip."""
     m, ok = f.m, "Ok (Ok value)" if f.own else "Ok value"
-    how_many = f"{f.total} bits" if f.sized else f"as many as `{f.m}_size` says"
+    how_many = f"{f.total} bits" if f.sized else f"`{f.m}_size` is their number"
     size = f.total if f.sized else f"{m}_size o value"
     return [
-        "/// What fits its bits is read back as it was written, in either order of bits, wherever it stands.",
-        f"/// The read takes the bits that were written, and no more: {how_many}.",
-        f"pub fn {m}_goes_back()",
+        "/// A value that fits its bits is read back as it was written, in either order of bits, at any place.",
+        f"/// The read takes only the bits that were written: {how_many}.",
+        f"pub fn {m}_round_trip()",
         f"    ensures back {{ (o : Order) (value : {f.type}) (at from : ℕ) (more : List Bool) → Fits value",
-        f"        → let written = write_run ({m}_writes o value) at in",
-        f"        ({m}_entry o).reads from (written ++ more) ≡ Takes (length written) ({ok}) }}",
+        f"        → let written = write_sequence ({m}_writes o value) at in",
+        f"        ({m}_decoder o).reads from (written ++ more) ≡ Done (length written) ({ok}) }}",
         f"    ensures size {{ (o : Order) (value : {f.type}) (at : ℕ) → Fits value",
-        f"        → length (write_run ({m}_writes o value) at) ≡ {size} }}",
+        f"        → length (write_sequence ({m}_writes o value) at) ≡ {size} }}",
         "{}",
     ]

@@ -39,9 +39,9 @@ def case_specs(f: Format, line: Line, enum: m.EnumType) -> list[str]:
     s, strict = snake(enum.name), line.error
     cases = [(it, called(line, case)) for it, case in enum.cases]
     tests = "".join(f"if n == {it} then {f'Ok {case}' if strict else case} else " for it, case in cases)
-    out = ["-- what a number says", f"abbrev pub {s}_of : ℕ → {answer_type(f, line, enum.name)}"]
+    out = ["-- the case of a number", f"abbrev pub {s}_of : ℕ → {answer_type(f, line, enum.name)}"]
     out += [f"{s}_of n = {tests}{f'Err {strict}' if strict else f'{called(line, enum.other)} n'}", ""]
-    out += ["-- and back", f"abbrev pub {s}_number : {enum.name} → ℕ"]
+    out += ["-- the number of a case", f"abbrev pub {s}_number : {enum.name} → ℕ"]
     out += [f"{s}_number {case} = {value}" for value, case in cases]
     out += [f"{s}_number ({called(line, enum.other)} n) = n"] if enum.other else []
     return [*out, ""]
@@ -52,24 +52,24 @@ def read_specs(f: Format, line: Line, enum: m.EnumType) -> list[str]:
     if isinstance(line.kind, m.Array):
         return array_specs(f, line, enum, line.kind.count)
     s = snake(enum.name)
-    head = f"abbrev pub {s}_read : Order → ReadEntry {answer_type(f, line, enum.name)}"
-    read = f"chain (unsigned_entry o {enum_bits(enum)} {enum.width}) (λ v. gives ({s}_of v))"
-    return ["-- the read of its number", head, f"{s}_read o = {read}", ""]
+    head = f"abbrev pub {s}_read : Order → Decoder {answer_type(f, line, enum.name)}"
+    read = f"and_then (unsigned_decoder o {enum_bits(enum)} {enum.width}) (λ v. pure ({s}_of v))"
+    return ["-- the read of a case", head, f"{s}_read o = {read}", ""]
 
 
 def array_specs(f: Format, line: Line, enum: m.EnumType, count: int) -> list[str]:
     """Returns the definitions of the cases of an array of numbers, and of their read."""
     s = snake(enum.name)
     each, answer = f"map {s}_of numbers", answer_type(f, line, f"(List {enum.name})")
-    read = f"items_entry (unsigned_entry o {enum_bits(enum)} {enum.width}) {count}"
+    read = f"items_decoder (unsigned_decoder o {enum_bits(enum)} {enum.width}) {count}"
     return [
-        "-- what each number says",
+        "-- the cases of numbers",
         f"abbrev pub {s}_each : List ℕ → {answer}",
         f"{s}_each numbers = {f'all_ok ({each})' if line.error else each}",
         "",
         f"-- the read of {count} numbers",
-        f"abbrev pub {s}_read_each : Order → ReadEntry {answer}",
-        f"{s}_read_each o = chain ({read}) (λ v. gives ({s}_each v))",
+        f"abbrev pub {s}_read_each : Order → Decoder {answer}",
+        f"{s}_read_each o = and_then ({read}) (λ v. pure ({s}_each v))",
         "",
     ]
 
@@ -78,17 +78,17 @@ def mapped_specs(f: Format, line: Line, use: m.Use) -> list[str]:
     """Returns the definitions from the errors of a part to those of the format."""
     own, part, module = use.description.error, use.name, use.module
     theirs = own or "Error"
-    out = [f"-- an error of a `{part}`, as one of the type's"]
+    out = [f"-- an error of a `{part}`, as an error of the type"]
     out += [f"abbrev pub {module}_error : {theirs} → {f.error}"]
     out += [f"{module}_error {f'({part}Reader error)' if own else 'error'} = Reader error"]
     for case, held in part_cases(use):
         said = f"({part}{case} error)" if held else f"{part}{case}"
         out.append(f"{module}_error {said} = {line.error} {said}")
     answers = f"Result {part} {theirs} → Result {part} {f.error}"
-    out += ["", "-- and an answer", f"abbrev pub {module}_answer : {answers}"]
+    out += ["", "-- a result with these errors", f"abbrev pub {module}_answer : {answers}"]
     out += [f"{module}_answer (Ok value) = Ok value"]
     out += [f"{module}_answer (Err error) = Err ({module}_error error)"]
     out += ["", f"-- the reads of a `{part}`, with the errors of the type"]
-    out += [f"abbrev pub {module}_here : Order → ReadEntry (Result {part} {f.error})"]
-    here = f"chain ({module}_entry o) (λ answer. gives ({module}_answer answer))"
+    out += [f"abbrev pub {module}_here : Order → Decoder (Result {part} {f.error})"]
+    here = f"and_then ({module}_decoder o) (λ answer. pure ({module}_answer answer))"
     return [*out, f"{module}_here o = {here}", ""]

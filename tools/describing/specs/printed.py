@@ -34,7 +34,7 @@ def specs(f: Format) -> str:
 
 
 BITS_AT = [
-    "-- n bits behind the first k",
+    "-- n bits after the first k",
     "abbrev pub bits_at : ℕ → ℕ → List Bool → List Bool",
     "bits_at k n bits = take n (drop k bits)",
     "",
@@ -59,7 +59,7 @@ def entries(f: Format) -> list[str]:
     for k, part in enumerate(parts):
         more = ""
         if k:
-            more = f", behind {refused} that may be refused" if parts[k - 1][-1].error else ", the next of them"
+            more = f", after {refused} that may be refused" if parts[k - 1][-1].error else ", the next of them"
         out = [*entry_definition(f, k, part, seen, more), "", *out]
         seen = seen + [it for it in part if it.name]
         refused += bool(part and part[-1].error)
@@ -69,24 +69,24 @@ def entries(f: Format) -> list[str]:
 def entry_definition(f: Format, k: int, part: list[Line], seen: list[Line], more: str) -> list[str]:
     """Returns the definition of the reads of some lines, which takes the values of the `seen` ones."""
     args, kinds = "".join(f" {it.name}" for it in seen), "".join(f" {spec_type(it.kind)} →" for it in seen)
-    behind = f"{f.m}_entry_{k + 1} o" + "".join(f" {it.name}" for it in [*seen, *part] if it.name)
-    name = f"{f.m}_entry_{k}" if k else f"{f.m}_entry"
+    behind = f"{f.m}_decoder_{k + 1} o" + "".join(f" {it.name}" for it in [*seen, *part] if it.name)
+    name = f"{f.m}_decoder_{k}" if k else f"{f.m}_decoder"
     block = [binds(f, it, behind) for it in part]
     if k == len(f.entry_parts()) - 1:
         block.append(gives(f))
     elif not part[-1].stops:
         block.append(f"  {behind}")
     says = f"{name} o{args} = do"
-    if len(block) == 1 and block[0].startswith(("  chain", "  gives")):
+    if len(block) == 1 and block[0].startswith(("  and_then", "  pure")):
         says, block = f"{name} o{args} ={block[0][1:]}", []
-    head = [f"-- the reads, in order{more}", f"abbrev pub {name} : Order →{kinds} ReadEntry {f.result}"]
+    head = [f"-- the reads, in order{more}", f"abbrev pub {name} : Order →{kinds} Decoder {f.result}"]
     return [*head, says, *block]
 
 
 def gives(f: Format) -> str:
     """Returns the end of the reads: the record of what was read."""
     record = "record { " + "; ".join(f"{it.name} = {it.name}" for it in f.fields) + " }"
-    return f"  gives (Ok ({record}))" if f.own else f"  gives ({record})"
+    return f"  pure (Ok ({record}))" if f.own else f"  pure ({record})"
 
 
 def writes(f: Format) -> list[str]:
@@ -95,7 +95,7 @@ def writes(f: Format) -> list[str]:
     pieces = f.pieces()
     for k, piece in enumerate(pieces):
         name, more = (f"{f.m}_writes_{k + 1}", ", the next of them") if k else (f"{f.m}_writes", "")
-        head = [f"-- the writes, in order{more}", f"abbrev pub {name} : Order → {f.type} → List WriteEntry"]
+        head = [f"-- the writes, in order{more}", f"abbrev pub {name} : Order → {f.type} → List Encoder"]
         out = [*head, f"{name} o value =", *written_list(piece, after(f, k)), "", *out]
     return out
 
@@ -129,9 +129,9 @@ def written_list(lines: tuple[Line, ...], behind: str) -> list[str]:
 def fields_specs(f: Format) -> str:
     """Returns the text of the file of what contracts see of a format with lists."""
     name, fields = f"{f.type}Fields", [f"  pub {it.name} : {spec_type(it.kind)}" for it in f.fields]
-    out = ["-- its fields, and the items of its lists", f"pub record {name} : Type 0 where", *fields]
+    out = ["-- the fields, and the items of the lists", f"pub record {name} : Type 0 where", *fields]
     imports = uses("\n".join(out), types(f), parts_specs(f), SPECS)
-    head = f"-- What contracts see of {article(f.type)}."
+    head = f"-- The value of {article(f.type)} in contracts."
     return "\n".join([head, *imports, "", f"-- {f.made}", "", *out]) + "\n"
 
 
@@ -154,7 +154,7 @@ def all_bits(f: Format) -> list[str]:
     return [
         "-- the bits of all fields, up to a whole byte",
         f"unfoldable pub {f.m}_bits : {f.type} → List Bool",
-        f"{f.m}_bits value = write_run ({f.m}_writes {f.o} value ++ align ∷ []) 0",
+        f"{f.m}_bits value = write_sequence ({f.m}_writes {f.o} value ++ align ∷ []) 0",
         "",
     ]
 
@@ -164,7 +164,7 @@ def at_places(f: Format) -> list[str]:
     kinds = [it for it in f.tests if it.is_field]
     arrows, args = "".join(f"{spec_type(it.kind)} → " for it in kinds), "".join(f" {it.name}" for it in kinds)
     return [
-        "-- the fields that bits say, each by its place",
+        "-- the fields in bits, each by its place",
         f"abbrev pub {f.m}_at : {arrows}List Bool → {f.type}",
         f"{f.m}_at{args} bits = record {{",
         *[f"  {it.name} = {place(it, 'bits', f.o)};" for it in f.fields],

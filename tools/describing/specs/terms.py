@@ -143,88 +143,88 @@ def entry(f: Format, line: Line) -> str:
     kind = line.kind
     match kind:
         case m.Bool() | m.Flag():
-            return "bit_entry"
+            return "bit_decoder"
         case m.Number():
-            return f"{sign(kind.integer)}_entry {shape(kind.integer)}"
+            return f"{sign(kind.integer)}_decoder {shape(kind.integer)}"
         case m.NonZero():
-            return f"non_zero_{kind.integer.base}_entry o {kind.integer.width}"
+            return f"non_zero_{kind.integer.base}_decoder o {kind.integer.width}"
         case m.MaybeNonZero():
-            return f"option_entry non_zero_{kind.integer.base} {shape(kind.integer)}"
+            return f"option_decoder non_zero_{kind.integer.base} {shape(kind.integer)}"
         case m.Enum():
             return f"{snake(kind.enum.name)}_read o"
         case m.Array():
-            return array_entry(kind)
+            return array_decoder(kind)
         case m.Unary():
-            return f"unary_entry {bit(kind.stop)}"
+            return f"unary_decoder {bit(kind.stop)}"
         case m.Groups():
             limit = "" if kind.integer.signed else f" (2 ^ {kind.integer.width})"
-            return f"{groups_call(kind)}_entry o {kind.group} {kind.integer.width}{limit}"
+            return f"{groups_call(kind)}_decoder o {kind.group} {kind.integer.width}{limit}"
         case m.Golomb():
-            return f"{short(kind)}_entry o"
+            return f"{short(kind)}_decoder o"
         case m.Count():
-            return f"unsigned_entry o 64 {kind.width}"
+            return f"unsigned_decoder o 64 {kind.width}"
         case m.Part():
             return here(f, line)
         case m.Optional() | m.If():
             return if_there(f, line, when(f, kind))
         case m.List():
-            return list_entry(f, line, kind)
+            return list_decoder(f, line, kind)
         case m.Const():
-            return f"const_entry o {kind.width} {kind.value}"
+            return f"const_decoder o {kind.width} {kind.value}"
         case m.Skip():
-            return f"skip_entry {kind.width}"
+            return f"skip_decoder {kind.width}"
     assert_never(kind)
 
 
-def array_entry(kind: m.Array) -> str:
+def array_decoder(kind: m.Array) -> str:
     """Returns the read of an array."""
     item = kind.item
     match item:
         case m.Integer():
-            return f"items_entry ({sign(item)}_entry {shape(item)}) {kind.count}"
+            return f"items_decoder ({sign(item)}_decoder {shape(item)}) {kind.count}"
         case m.EnumType():
             return f"{snake(item.name)}_read_each o"
         case m.Octet():
-            return f"bytes_entry o {kind.count}"
+            return f"bytes_decoder o {kind.count}"
     assert_never(item)
 
 
-def item_entry(f: Format, line: Line, item: m.Item) -> str:
+def item_decoder(f: Format, line: Line, item: m.Item) -> str:
     """Returns the read of an item of a list."""
     match item:
         case m.Integer():
-            return f"{sign(item)}_entry {shape(item)}"
+            return f"{sign(item)}_decoder {shape(item)}"
         case m.EnumType():
             return f"{snake(item.name)}_read o"
         case m.Use():
             return here(f, line)
         case m.Octet():
-            return "unsigned_entry o 8 8"
+            return "unsigned_decoder o 8 8"
     assert_never(item)
 
 
 def all_items(line: Line) -> str:
     """Returns the read of a list: of items that may be refused, or of others."""
-    return "parts_entry" if line.error else "items_entry"
+    return "parts_decoder" if line.error else "items_decoder"
 
 
 def stored(f: Format, line: Line, kind: m.List) -> str:
     """Returns the read of an item as the read of a list takes it."""
-    one = item_entry(f, line, kind.item)
+    one = item_decoder(f, line, kind.item)
     return one if line.error else f"list_item ({one})"
 
 
-def list_entry(f: Format, line: Line, kind: m.List) -> str:
+def list_decoder(f: Format, line: Line, kind: m.List) -> str:
     """Returns the read of a list."""
     if isinstance(kind.item, m.Octet):
-        return f"vec_entry o {kind.name}_count"
+        return f"vec_decoder o {kind.name}_count"
     return f"{all_items(line)} ({stored(f, line, kind)}) {kind.name}_count"
 
 
 def here(f: Format, line: Line) -> str:
     """Returns the read of a part, with the errors of the format if there are any."""
     module = line.use.module if line.use else ""
-    return f"{module}_{'here' if f.mapped(line.kind) else 'entry'} o"
+    return f"{module}_{'here' if f.mapped(line.kind) else 'decoder'} o"
 
 
 def if_there(f: Format, line: Line, there: str) -> str:
@@ -258,12 +258,12 @@ def binds(f: Format, line: Line, behind: str) -> str:
     """Returns the line of a `do` block that reads a line; `behind` is the read of the lines after it."""
     kind = line.kind
     if isinstance(kind, m.Const):
-        test_ = f"if is_{line.index} then {behind} else gives (Err {kind.error})"
+        test_ = f"if is_{line.index} then {behind} else pure (Err {kind.error})"
         return f"  is_{line.index} ← {entry(f, line)}\n  {test_}"
     if isinstance(kind, m.Skip):
         return f"  skipped_{line.index} ← {entry(f, line)}"
     if line.stops:
-        return f"  chain ({entry(f, line)}) (part_then (λ {line.name}. {behind}))"
+        return f"  and_then ({entry(f, line)}) (part_then (λ {line.name}. {behind}))"
     return f"  {line.name} ← {entry(f, line)}"
 
 

@@ -71,7 +71,7 @@ impl<const MAX: u32> BitCount<MAX> {
         }
     }
 
-    /// Applies `f` to the number of bits, and returns a count of what it returns; or `None` if `f`
+    /// Applies `f` to the number of bits, and returns a count of the result; or `None` if `f`
     /// returns `None` or a number above NEW_MAX.
     pub fn try_map<const NEW_MAX: u32, F: FnOnce(u32) -> Option<u32>>(
         self,
@@ -106,9 +106,7 @@ impl<const MAX: u32> BitCount<MAX> {
     /// Returns the value 0 with this count.
     pub fn none<U: UnsignedInteger>(self) -> CheckedUnsigned<MAX, U>
         requires { self ≤ U.BITS_SIZE }
-        // The count is this one.
         ensures count { result.0 ≡ self.entry }
-        // The value is 0.
         ensures value { U.value result.1 ≡ 0 }
     {
         Checked::of(self, U::ZERO)
@@ -117,9 +115,8 @@ impl<const MAX: u32> BitCount<MAX> {
     /// Returns the greatest value of this number of bits, 2^n - 1, with this count.
     pub fn all<U: UnsignedInteger>(self) -> CheckedUnsigned<MAX, U>
         requires { self ≤ U.BITS_SIZE }
-        // The count is this one.
         ensures count { result.0 ≡ self.entry }
-        // Of n bits the value is 2^n - 1.
+        // For n bits, the value is 2^n - 1.
         ensures value { U.value result.1 ≡ 2 ^ self.entry - 1 }
     {
         Checked::of(self, lowest_bits(self.bits))
@@ -128,11 +125,9 @@ impl<const MAX: u32> BitCount<MAX> {
     /// Returns the range of the values of this number of bits: 0 to 2^n - 1, or all of U if n is
     /// its size or more.
     pub fn range<U: UnsignedInteger>(&self) -> RangeInclusive<U>
-        // The range begins at 0.
         ensures start { U.value result.start ≡ 0 }
-        // Of n bits it ends at 2^n - 1, or at U's greatest value if n is U's size or more.
+        // For n bits, the range ends at 2^n - 1, or at U's greatest value if n is U's size or more.
         ensures end { U.value result.end ≡ 2 ^ (min self.now U.BITS_SIZE) - 1 }
-        // No value was taken from it yet.
         ensures open { result.exhausted ≡ false }
     {
         let (_, end) = self.min(U::BITS_SIZE).all::<U>().into_count_value();
@@ -175,7 +170,7 @@ impl<const MAX: u32> TryFrom<u32> for BitCount<MAX> {
     ghost try_from_gives = { λ n r. MatchResult r
         (λ c. (n ≤ MAX) × (c ≡ n)) (λ e. (MAX < n) × (e ≡ n)) };
 
-    /// Returns a count of the given number of bits.
+    /// Returns a count of `bits` bits.
     ///
     /// # Errors
     ///

@@ -17,7 +17,7 @@ use std::marker::Model;
 /// A type of counts, and the values of type T that such a count holds: the bound of a function over
 /// any [`Checked`]. Only the four types of counts of this crate implement it.
 pub trait Holds<T>: Sealed {
-    // That a count holds a value.
+    // A count holds a value.
     ghost holds: { Self → T → Type 0 };
 }
 
@@ -94,9 +94,7 @@ impl<C: Holds<T>, T> Checked<C, T> {
     /// Returns the value with a count that holds it, which the caller proves.
     pub fn of(count: C, value: T) -> Self
         requires { C.holds count value }
-        // The count is the one given.
         ensures count { result.0 ≡ count }
-        // The value is the one given.
         ensures value { result.1 ≡ value }
     {
         Checked { count, value }
@@ -106,9 +104,7 @@ impl<C: Holds<T>, T> Checked<C, T> {
 impl<C: Holds<T> + Copy, T: Copy> Checked<C, T> {
     /// Returns the count and the value.
     pub fn into_count_value(self) -> (C, T)
-        // The count is the one kept here.
         ensures count { result.0 ≡ self.0 }
-        // The value is the one kept here.
         ensures value { result.1 ≡ self.1 }
         // The count holds the value.
         ensures holds { C.holds result.0 result.1 }
@@ -118,7 +114,6 @@ impl<C: Holds<T> + Copy, T: Copy> Checked<C, T> {
 
     /// Returns the value.
     pub fn into_value(self) -> T
-        // The value is the one kept here.
         ensures value { result ≡ self.1 }
         // The count kept with it holds it.
         ensures holds { C.holds self.0 result }
@@ -128,7 +123,6 @@ impl<C: Holds<T> + Copy, T: Copy> Checked<C, T> {
 
     /// Returns the value by reference.
     pub fn as_ref(&self) -> &T
-        // The value is the one kept here.
         ensures value { result.now ≡ self.now.1 }
         // The count kept with it holds it.
         ensures holds { C.holds self.now.0 result.now }
@@ -137,7 +131,7 @@ impl<C: Holds<T> + Copy, T: Copy> Checked<C, T> {
     }
 }
 
-/// Checks a value against a number of bits, and returns what is kept of it: at 0 bits any value is
+/// Checks a value against a number of bits, and returns the value to keep: at 0 bits any value is
 /// accepted, and 0 is kept.
 ///
 /// # Errors

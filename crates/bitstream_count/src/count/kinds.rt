@@ -16,12 +16,10 @@ pub trait Count: Sealed + Copy {
 
     /// Returns the number of bits.
     fn bits(self) -> u32
-        // The answer is the count's number.
         ensures value { result ≡ number self }
-        // It is at most `MAX`.
         ensures bound { result ≤ MAX };
 
-    /// Returns a count of the given number of bits, or `None` if that is above `MAX`.
+    /// Returns a count of `bits` bits, or `None` if that is above `MAX`.
     fn of(bits: u32) -> Option<Self>
         ensures { MatchOption result (MAX < bits) (λ n. (bits ≤ MAX) × (number n ≡ bits)) };
 }
@@ -37,14 +35,12 @@ pub trait SignedCount: Sealed + Copy {
 
     /// Returns the number of bits, the sign bit included.
     fn bits(self) -> u32
-        // The answer is the count's number.
         ensures value { result ≡ number self }
         // It is at least 1, since the sign bit is one of them.
         ensures some { 1 ≤ result }
-        // It is at most `MAX`.
         ensures bound { result ≤ MAX };
 
-    /// Returns a count of the given number of bits, or `None` if that is 0 or above `MAX`.
+    /// Returns a count of `bits` bits, or `None` if that is 0 or above `MAX`.
     fn of(bits: u32) -> Option<Self>
         ensures { MatchOption result (IsOutOfRange 1 MAX bits)
             (λ n. (1 ≤ bits) × (bits ≤ MAX) × (number n ≡ bits)) };

@@ -33,7 +33,7 @@ impl<const MAX: u32, U: UnsignedInteger> Model for LsbMask<MAX, U> {
     ghost invariant = { λ a. a.count ≤ U.BITS_SIZE };
 }
 
-/// Returns the number with the given number of lowest bits set, and no others.
+/// Returns the number whose lowest `bits` bits are 1 and whose other bits are 0.
 pub(crate) fn lowest_bits<U: UnsignedInteger>(bits: u32) -> U
     requires { bits ≤ U.BITS_SIZE }
     ensures { U.value result ≡ 2 ^ bits - 1 }

@@ -83,7 +83,7 @@ impl<const MAX: u32> SignedBitCount<MAX> {
         left.signed_count()
     }
 
-    /// Applies `f` to the number of bits, and returns a count of what it returns; or `None` if `f`
+    /// Applies `f` to the number of bits, and returns a count of the result; or `None` if `f`
     /// returns `None`, 0 or a number above NEW_MAX.
     pub fn try_map<const NEW_MAX: u32, F: FnOnce(u32) -> Option<u32>>(
         self,
@@ -121,11 +121,10 @@ impl<const MAX: u32> SignedBitCount<MAX> {
     /// Returns the range of the values of this number of bits: -2^(n-1) to 2^(n-1) - 1, or all of S
     /// if n is its size or more.
     pub fn range<S: SignedInteger>(&self) -> RangeInclusive<S>
-        // Of n bits it begins at -2^(n-1), or at S's least value if n is S's size or more.
+        // For n bits, the range begins at -2^(n-1), or at S's least value if n is S's size or more.
         ensures start { S.integer result.start ≡ pos 0 -ℤ pos (2 ^ (min self.now S.BITS_SIZE - 1)) }
         // It ends at 2^(n-1) - 1, or at S's greatest value then.
         ensures end { S.integer result.end ≡ pos (2 ^ (min self.now S.BITS_SIZE - 1) - 1) }
-        // No value was taken from it yet.
         ensures open { result.exhausted ≡ false }
     {
         let bits = self.count.min(S::BITS_SIZE).bits();
@@ -173,7 +172,7 @@ impl<const MAX: u32> TryFrom<u32> for SignedBitCount<MAX> {
     ghost try_from_gives = { λ n r. MatchResult r
         (λ c. (1 ≤ n) × (n ≤ MAX) × (c ≡ n)) (λ e. IsOutOfRange 1 MAX n × (e ≡ n)) };
 
-    /// Returns a count of the given number of bits.
+    /// Returns a count of `bits` bits.
     ///
     /// # Errors
     ///

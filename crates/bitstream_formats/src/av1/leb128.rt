@@ -1,8 +1,8 @@
-//! Numbers in groups of 7 bits, the lowest group first, also with groups of zeros at their end
-//! (section 4.10.5).
+//! Numbers in groups of 7 bits, the lowest group first. They may end in groups of zeros (section
+//! 4.10.5).
 ghost use Rattle.std.specs.Prelude.{◌≡◌, ◌++◌, ◌*◌, ◌<◌, ◌≤◌, ◌^◌, ℕ, Bool, List, Ok, length};
-ghost use Rattle.bitstream_io.specs.Callers.{Order, ReadsOwn, Takes, write_run};
-ghost use Rattle.bitstream_formats.specs.Leb128.{becomes_av1, groups_entry, leb128_entry, leb128_writes, small};
+ghost use Rattle.bitstream_io.specs.Callers.{Order, ReadsOwn, Done, write_sequence};
+ghost use Rattle.bitstream_formats.specs.Leb128.{becomes_av1, groups_decoder, leb128_decoder, leb128_writes, small};
 
 use super::Av1Error;
 use bitstream_io::{BitRead, BitReadExt, Bits};
@@ -11,10 +11,10 @@ use bitstream_io::{BitRead, BitReadExt, Bits};
 ///
 /// # Errors
 ///
-/// `TooLarge` for 2^32 and more: the number is read then. `TooLarge` if a ninth byte were to follow: eight
-/// bytes are read then. Else those of the reader.
+/// `TooLarge` for 2^32 and more: the number is read then. `TooLarge` if a ninth byte were to
+/// follow: eight bytes are read then. Else the errors of the reader.
 pub fn read_leb128<R: BitRead>(reader: &mut R) -> Result<u32, Av1Error>
-    ensures { ReadsOwn R.source becomes_av1 (leb128_entry R.source.order) reader.old result reader.new }
+    ensures { ReadsOwn R.source becomes_av1 (leb128_decoder R.source.order) reader.old result reader.new }
 {
     read_groups(reader, 8, 1, 0)
 }
@@ -29,7 +29,8 @@ fn small(value: u64) -> Result<u32, Av1Error>
     Ok(value as u32)
 }
 
-/// Reads at most `room` bytes after those of `value`. The bits of the first one count `place` times.
+/// Reads at most `room` bytes after the bytes of `value`. The bits of the first one count `place`
+/// times.
 fn read_groups<R: BitRead>(
     reader: &mut R,
     room: u32,
@@ -38,7 +39,7 @@ fn read_groups<R: BitRead>(
 ) -> Result<u32, Av1Error>
     requires room { place * 128 ^ room ≤ 2 ^ 56 }
     requires below { value < place }
-    ensures { ReadsOwn R.source becomes_av1 (groups_entry R.source.order room place value)
+    ensures { ReadsOwn R.source becomes_av1 (groups_decoder R.source.order room place value)
         reader.old result reader.new }
 {
     if room == 0 {
@@ -51,9 +52,9 @@ fn read_groups<R: BitRead>(
     read_groups(reader, room - 1, 128 * place, value + place * (byte - 128))
 }
 
-/// A number is read back as it was written, in either order of bits, wherever it stands.
-pub fn leb128_numbers_go_back()
+/// A number is read back as it was written, in either order of bits, at any place.
+pub fn leb128_numbers_round_trip()
     ensures { (o : Order) (value at from : ℕ) (more : List Bool) → value < 2 ^ 32
-        → let word = write_run (leb128_writes o value) at in
-        (leb128_entry o).reads from (word ++ more) ≡ Takes (length word) (Ok (Ok value)) }
+        → let word = write_sequence (leb128_writes o value) at in
+        (leb128_decoder o).reads from (word ++ more) ≡ Done (length word) (Ok (Ok value)) }
 {}

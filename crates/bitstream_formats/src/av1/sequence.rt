@@ -47,7 +47,8 @@ pub(super) fn read_sequence(syntax: &mut Obu<'_, '_, '_>) -> Result<(), Error> {
     Ok(())
 }
 
-/// Reads what stands of time. Answers the bits of a buffer's delay, if there is a model of the decoder.
+/// Reads the timing information. Returns the number of bits of a buffer's delay, if there is a
+/// decoder model.
 fn read_timing(syntax: &mut Obu<'_, '_, '_>) -> Result<Option<u32>, Error> {
     if !syntax.flag("timing_info_present_flag")? {
         return Ok(None);

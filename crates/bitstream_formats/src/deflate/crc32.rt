@@ -3,9 +3,9 @@
 /// The CRC-32, by the polynomial 0xedb88320, from the lowest bit on.
 #[derive(Clone, Copy, Debug)]
 pub(super) struct Crc32 {
-    // That of each byte.
+    // The CRC-32 of each byte.
     last: [u32; 256],
-    // That of each byte with one byte of zeros behind it, with two, and with three.
+    // The CRC-32 of each byte with one byte of zeros after it, with two, and with three.
     before: [[u32; 256]; 3],
 }
 
@@ -25,7 +25,8 @@ impl Crc32 {
         }
     }
 
-    /// Returns the CRC-32 of the bytes whose CRC-32 is `crc`, with more bytes after them. That of no bytes is 0.
+    /// Returns the CRC-32 of the bytes whose CRC-32 is `crc`, with more bytes after them. The
+    /// CRC-32 of no bytes is 0.
     pub(super) fn append(&self, crc: u32, bytes: &[u8]) -> u32 {
         let mut crc = !crc;
         let mut rest = bytes;
@@ -60,7 +61,7 @@ impl Crc32 {
     }
 }
 
-/// Returns the CRC-32 of each byte with a byte more of zeros behind it.
+/// Returns the CRC-32 of each byte with one more byte of zeros after it.
 fn with_zeros(last: &[u32; 256], crcs: &[u32; 256]) -> [u32; 256] {
     let mut more = *crcs;
     for crc in more.iter_mut() {

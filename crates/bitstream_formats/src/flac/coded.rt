@@ -1,7 +1,7 @@
 //! Numbers that are coded as UTF-8 codes characters, in up to 36 bits (section 9.1.5).
 ghost use Rattle.std.specs.Prelude.{◌≡◌, ◌++◌, ◌+◌, ◌*◌, ◌<◌, ◌≤◌, ◌^◌, ℕ, Bool, List, Ok, length};
-ghost use Rattle.bitstream_io.specs.Callers.{Order, ReadsOwn, Takes, write_run};
-ghost use Rattle.bitstream_formats.specs.Coded.{becomes_flac, coded_entry, coded_writes, least_of, rest_entry, shortest};
+ghost use Rattle.bitstream_io.specs.Callers.{Order, ReadsOwn, Done, write_sequence};
+ghost use Rattle.bitstream_formats.specs.Coded.{becomes_flac, coded_decoder, coded_writes, least_of, rest_decoder, shortest};
 
 use super::error::FlacError;
 use bitstream_io::{BitRead, BitReadExt, Bits};
@@ -10,12 +10,12 @@ use bitstream_io::{BitRead, BitReadExt, Bits};
 ///
 /// # Errors
 ///
-/// `NotCoded` for a first byte 0b10.., for a later byte that does not begin with 0b10, and for a run of
-/// more than 7 ones: the run is read up to its 0, also behind the first byte, so a first byte 0xff
-/// answers `EndOfInput` if no 0 comes. `LongCoded` for a number that fewer bytes code. Those of the
-/// reader. What shows the error is read.
+/// `NotCoded` for a first byte 0b10.., for a later byte that does not begin with 0b10, and for a
+/// run of more than 7 ones: the run is read up to its 0, also after the first byte, so a first byte
+/// 0xff returns `EndOfInput` if no 0 comes. `LongCoded` for a number that fewer bytes code. Else
+/// the errors of the reader. The faulty bits are read.
 pub fn read_coded<R: BitRead>(reader: &mut R) -> Result<u64, FlacError>
-    ensures { ReadsOwn R.source becomes_flac (coded_entry R.source.order) reader.old result reader.new }
+    ensures { ReadsOwn R.source becomes_flac (coded_decoder R.source.order) reader.old result reader.new }
 {
     let ones = reader.read_unary::<Bits<0>>()?;
     if ones == 0 {
@@ -32,7 +32,7 @@ pub fn read_coded<R: BitRead>(reader: &mut R) -> Result<u64, FlacError>
     read_rest(reader, least_of(ones), ones - 1, first)
 }
 
-/// Returns the least number that needs so many bytes.
+/// Returns the least number that needs `bytes` bytes.
 fn least_of(bytes: u32) -> u64
     requires two { 2 ≤ bytes }
     requires seven { bytes ≤ 7 }
@@ -55,7 +55,7 @@ fn shortest(least: u64, number: u64) -> Result<u64, FlacError>
     Ok(number)
 }
 
-/// Reads the bytes behind the bits `number`: six bits each.
+/// Reads the bytes after the bits of `number`, which have six bits each.
 fn read_rest<R: BitRead>(
     reader: &mut R,
     least: u64,
@@ -63,7 +63,7 @@ fn read_rest<R: BitRead>(
     number: u64,
 ) -> Result<u64, FlacError>
     requires { (number + 1) * 64 ^ bytes ≤ 2 ^ 42 }
-    ensures { ReadsOwn R.source becomes_flac (rest_entry R.source.order least bytes number)
+    ensures { ReadsOwn R.source becomes_flac (rest_decoder R.source.order least bytes number)
         reader.old result reader.new }
 {
     if bytes == 0 {
@@ -74,9 +74,9 @@ fn read_rest<R: BitRead>(
     read_rest(reader, least, bytes - 1, 64 * number + six)
 }
 
-/// A coded number is read back as it was written, in either order of bits, wherever it stands.
-pub fn coded_numbers_go_back()
+/// A coded number is read back as it was written, in either order of bits, at any place.
+pub fn coded_numbers_round_trip()
     ensures { (o : Order) (number at from : ℕ) (more : List Bool) → number < 2 ^ 36
-        → let word = write_run (coded_writes o number) at in
-        (coded_entry o).reads from (word ++ more) ≡ Takes (length word) (Ok (Ok number)) }
+        → let word = write_sequence (coded_writes o number) at in
+        (coded_decoder o).reads from (word ++ more) ≡ Done (length word) (Ok (Ok number)) }
 {}

@@ -16,8 +16,8 @@ use std::marker::Model;
 
 /// A file that is decoded frame by frame.
 ///
-/// It needs memory for one frame: up to 8 channels of 65536 samples, of 8 bytes each. With the MD5 of the
-/// samples it needs those of one frame again, of at most 4 bytes each.
+/// It needs memory for one frame: up to 8 channels of 65536 samples, of 8 bytes each. With the MD5
+/// of the samples it needs memory for one more frame, of at most 4 bytes a sample.
 #[derive(Drop)]
 pub struct Decoder<'a> {
     reader: SliceReader<'a, BE>,
@@ -29,7 +29,7 @@ pub struct Decoder<'a> {
     sum: Option<SampleSum>,
 }
 
-// What contracts see of a decoder is the STREAMINFO of its file.
+// Contracts see a decoder as the STREAMINFO of its file.
 impl<'a> Model for Decoder<'a> {
     ghost use Rattle.bitstream_formats.specs.declared.stream_info.StreamInfo.{StreamInfo};
 
@@ -61,7 +61,7 @@ impl<'a> Decoder<'a> {
     ///
     /// # Errors
     ///
-    /// `NoFlac`, `NoStreamInfo`, and those of the reader.
+    /// `NoFlac`, `NoStreamInfo`, and the errors of the reader.
     pub fn over(file: &'a [u8]) -> Result<Decoder<'a>, At<FlacError>> {
         let mut blocks = Blocks::over(file)?;
         let info = read_info(&mut blocks)?;
@@ -79,12 +79,13 @@ impl<'a> Decoder<'a> {
         })
     }
 
-    /// Reads the metadata of a file, and computes the MD5 of the samples as they are decoded. At the end of the
-    /// file it is compared with that of STREAMINFO, unless that is 0, which means unknown.
+    /// Reads the metadata of a file, and computes the MD5 of the samples as they are decoded. At
+    /// the end of the file it is compared with the MD5 in STREAMINFO, unless that is 0, which means
+    /// unknown.
     ///
     /// # Errors
     ///
-    /// Those of [`Decoder::over`].
+    /// The errors of [`Decoder::over`].
     pub fn with_md5(alloc: Global, file: &'a [u8]) -> Result<Decoder<'a>, At<FlacError>> {
         let mut decoder = Decoder::over(file)?;
         if decoder.info.checksum != [0; 16] {
@@ -109,9 +110,10 @@ impl<'a> Decoder<'a> {
     ///
     /// # Errors
     ///
-    /// Those of [`FlacError`]. `OtherChannels`, `OtherSampleSize` and `OtherSampleRate` for a frame that differs
-    /// from STREAMINFO, after its header. `SampleCount` and then `WrongMd5` at the end of the file: the number
-    /// of samples is refused at each call, the MD5 once. After another error no later frame is found.
+    /// The errors of [`FlacError`]. `OtherChannels`, `OtherSampleSize` and `OtherSampleRate` for a
+    /// frame that differs from STREAMINFO, after its header. `SampleCount` and then `WrongMd5` at
+    /// the end of the file: the number of samples is refused at each call, the MD5 once. After
+    /// another error no later frame is found.
     pub fn next_frame(&mut self, alloc: Global) -> Result<Option<Frame>, At<FlacError>>
         ensures of_file { IfOk result (λ frame. IfSome frame (IsOfFile self.old)) }
         ensures same { self.new ≡ self.old }
@@ -143,7 +145,7 @@ impl<'a> Decoder<'a> {
         Ok(Some(frame))
     }
 
-    /// Compares what was decoded with STREAMINFO, and returns no frame.
+    /// Compares the decoded samples with STREAMINFO, and returns no frame.
     fn finish(&mut self) -> Result<Option<Frame>, FlacError>
         ensures of_file { IfOk result (λ frame. IfSome frame (IsOfFile self.old)) }
         ensures same { self.new ≡ self.old }

@@ -1,9 +1,9 @@
-//! What is wrong with a FLAC file.
+//! The errors of a FLAC file.
 
 use bitstream_io::Error;
 use std::alloc::{AllocError, AllocFailed};
 
-/// Why a file is not decoded.
+/// The reasons that a file is not decoded.
 #[derive(Debug, Drop, thiserror::Error)]
 pub enum FlacError {
     /// The bits were not read, or memory was refused.
@@ -18,7 +18,7 @@ pub enum FlacError {
     /// No frame begins here.
     #[error("no frame begins here")]
     NoSync,
-    /// A bit that is to be 0 is 1.
+    /// A bit that must be 0 is 1.
     #[error("a reserved bit is set")]
     ReservedBit,
     /// The code of the block size is reserved.
@@ -39,10 +39,10 @@ pub enum FlacError {
     /// The coded number has more bytes than it needs.
     #[error("the coded number is longer than it has to be")]
     LongCoded,
-    /// The checksum of the frame's header is not that of its bytes.
+    /// The checksum of the frame's header differs from its bytes.
     #[error("the checksum of the frame's header is wrong")]
     HeaderChecksum,
-    /// The checksum of the frame is not that of its bytes.
+    /// The checksum of the frame differs from its bytes.
     #[error("the checksum of the frame is wrong")]
     FrameChecksum,
     /// The type of the subframe is reserved.
@@ -66,16 +66,16 @@ pub enum FlacError {
     /// The frame has another number of channels than STREAMINFO.
     #[error("the frame has {0} channels, and STREAMINFO has {1}")]
     OtherChannels(u8, u8),
-    /// The samples of the frame have another number of bits than those of STREAMINFO.
+    /// The number of bits of the frame's samples differs from STREAMINFO.
     #[error("the samples of the frame have {0} bits, and those of STREAMINFO have {1}")]
     OtherSampleSize(u8, u8),
     /// The frame has another sample rate than STREAMINFO.
     #[error("the frame has {0} samples a second, and STREAMINFO has {1}")]
     OtherSampleRate(u32, u32),
-    /// The file has another number of samples than its metadata says.
+    /// The number of samples differs from the metadata of the file.
     #[error("the number of samples is another than the metadata says")]
     SampleCount,
-    /// The MD5 of the samples is not that of STREAMINFO.
+    /// The MD5 of the samples differs from STREAMINFO.
     #[error("the MD5 of the samples is another than the metadata says")]
     WrongMd5,
 }

@@ -15,7 +15,7 @@ use std::alloc::{AllocError, Global};
 /// A frame that was decoded.
 #[derive(Debug, Drop)]
 pub struct Frame {
-    /// Its header.
+    /// The header.
     pub header: FrameHeader,
     /// The bits of a sample, 4 to 32.
     pub bits_per_sample: u8,
@@ -24,8 +24,8 @@ pub struct Frame {
 }
 
 impl Frame {
-    /// Appends the samples as whole bytes with a sign, the lowest byte first: the channels of a sample
-    /// stand behind each other.
+    /// Appends the samples as whole bytes with a sign, the lowest byte first: the channels of a
+    /// sample follow each other.
     ///
     /// # Errors
     ///
@@ -54,14 +54,15 @@ impl Frame {
     }
 }
 
-/// Returns the first bytes of some, up to those that stand behind them.
+/// Returns `bytes` without its suffix `rest`.
 fn bytes_before<'a>(bytes: &'a [u8], rest: &[u8]) -> &'a [u8] {
     bytes
         .get(..bytes.len().saturating_sub(rest.len()))
         .unwrap_or(bytes)
 }
 
-/// Compares the header of a frame with STREAMINFO. A sample size or a sample rate of 0 is that of STREAMINFO.
+/// Compares the header of a frame with STREAMINFO. A sample size or a sample rate of 0 means the
+/// one in STREAMINFO.
 fn check_header(header: &FrameHeader, info: &StreamInfo) -> Result<(), FlacError>
     ensures { IsOk result → channel_count header.now.channels ≡ non_zero_u8_get info.now.channels }
 {

@@ -7,10 +7,10 @@ use super::coded::read_coded;
 use super::error::FlacError;
 use bitstream_io::{BitRead, BitReadExt, Bits};
 
-/// How the channels of a frame are coded.
+/// The coding of the channels of a frame.
 #[derive(Clone, Copy, Debug, PartialEq, Eq)]
 pub enum Channels {
-    /// So many, each by itself.
+    /// This number of channels, each by itself.
     Independent(u8),
     /// The left one, and left less right.
     LeftSide,
@@ -21,7 +21,7 @@ pub enum Channels {
 }
 
 impl Channels {
-    /// Returns how many there are: 1 to 8 in a frame that was read.
+    /// Returns the number of channels: 1 to 8 in a frame that was read.
     pub fn count(self) -> u8
         ensures { result ≡ channel_count self }
     {
@@ -31,7 +31,7 @@ impl Channels {
         }
     }
 
-    /// Whether the channel of this number, from 0, is a difference, which has a bit more.
+    /// Returns true if the channel of this number, from 0, is a difference, which has a bit more.
     pub fn is_side(self, channel: u8) -> bool {
         match self {
             Channels::Independent(_) => false,
@@ -44,15 +44,15 @@ impl Channels {
 /// The header of a frame.
 #[derive(Clone, Copy, Debug, PartialEq, Eq)]
 pub struct FrameHeader {
-    /// Whether the number is that of the first sample, and not of the frame.
+    /// True if the number is the number of the first sample, and not of the frame.
     pub variable: bool,
     /// The samples of each channel, at most 65536.
     pub block_size: u32,
-    /// Samples a second, or 0 if only STREAMINFO says it.
+    /// Samples a second, or 0 if only STREAMINFO has the number.
     pub sample_rate: u32,
-    /// How the channels are coded.
+    /// The coding of the channels.
     pub channels: Channels,
-    /// The bits of a sample, or 0 if only STREAMINFO says it.
+    /// The bits of a sample, or 0 if only STREAMINFO has the number.
     pub bits_per_sample: u8,
     /// The number of the frame, or of its first sample.
     pub number: u64,

@@ -7,10 +7,10 @@ use bitstream_io::{BE, BitRead, BitReadExt, Bits, SliceReader};
 /// A block of metadata.
 #[derive(Clone, Copy, Debug)]
 pub struct Block<'a> {
-    /// Its type: 0 STREAMINFO, 1 padding, 2 of an application, 3 a table to seek by, 4 a Vorbis comment,
-    /// 5 a cue sheet, 6 a picture.
+    /// The type: 0 STREAMINFO, 1 padding, 2 of an application, 3 a table to seek by, 4 a Vorbis
+    /// comment, 5 a cue sheet, 6 a picture.
     pub kind: u8,
-    /// Its bytes, without its header.
+    /// The bytes, without the header.
     pub bytes: &'a [u8],
 }
 
@@ -26,7 +26,7 @@ impl<'a> Blocks<'a> {
     ///
     /// # Errors
     ///
-    /// `NoFlac`, and those of the reader.
+    /// `NoFlac`, and the errors of the reader.
     pub fn over(file: &'a [u8]) -> Result<Blocks<'a>, At<FlacError>> {
         let mut reader = SliceReader::over(file);
         match reader.read_const::<Bits<32>, Bits<0x664C_6143>, FlacError>(FlacError::NoFlac) {
@@ -38,11 +38,11 @@ impl<'a> Blocks<'a> {
         }
     }
 
-    /// Gives the next block, or `None` behind the last one.
+    /// Returns the next block, or `None` after the last one.
     ///
     /// # Errors
     ///
-    /// Those of the reader.
+    /// The errors of the reader.
     pub fn next_block(&mut self) -> Result<Option<Block<'a>>, At<FlacError>> {
         if self.done {
             return Ok(None);
@@ -59,7 +59,7 @@ impl<'a> Blocks<'a> {
         }
     }
 
-    /// Returns the reader behind the blocks that were given.
+    /// Returns the reader after the blocks that were returned.
     pub fn into_reader(self) -> SliceReader<'a, BE> {
         self.reader
     }

@@ -1,10 +1,10 @@
-//! Predictions: what the samples before one say of it (sections 9.2.5 and 9.2.6), and two channels of one
-//! frame (section 4.2).
+//! Predictions: a sample from the samples before it (sections 9.2.5 and 9.2.6), and two channels of
+//! one frame (section 4.2).
 
 use super::header::Channels;
 
-/// Adds to each residual behind the first samples what the samples before it predict. Numbers that a
-/// decoder of 64 bits does not hold wrap.
+/// Adds to each residual after the first samples the value that the samples before it predict.
+/// Numbers that do not fit in 64 bits wrap.
 pub(super) fn predict(samples: &mut [i64], coefficients: &[i64], shift: u32) {
     for at in coefficients.len()..samples.len() {
         let sum = weighted(&samples[..at], coefficients);

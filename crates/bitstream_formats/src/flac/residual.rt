@@ -1,11 +1,11 @@
-//! Residuals: what the samples are more than was predicted (section 9.2.7).
+//! Residuals: the differences between the samples and their predictions (section 9.2.7).
 ghost use Rattle.std.specs.Prelude.{◌<◌, IfOk, IfSome};
 
 use super::error::FlacError;
 use super::rice::read_rice;
 use bitstream_io::{BitRead, BitReadExt, Bits};
 
-/// Reads a residual behind the first `order` samples of a block, and appends it.
+/// Reads a residual after the first `order` samples of a block, and appends it.
 pub(super) fn read_residual<R: BitRead>(
     reader: &mut R,
     block: u32,

@@ -6,7 +6,7 @@ use super::residual::read_residual;
 use bitstream_io::{BitRead, BitReadExt, Bits};
 use std::alloc::Global;
 
-/// Reads a subframe of so many samples, of so many bits each.
+/// Reads a subframe of a number of samples, of `bits` bits each.
 pub(super) fn read_subframe<R: BitRead>(
     reader: &mut R,
     alloc: Global,
@@ -40,7 +40,7 @@ pub(super) fn read_subframe<R: BitRead>(
     Ok(samples)
 }
 
-/// Reads how many low bits of the samples are 0.
+/// Reads the number of low bits of the samples that are 0.
 fn read_wasted<R: BitRead>(reader: &mut R) -> Result<u32, FlacError> {
     if !reader.read_bit()? {
         return Ok(0);
@@ -49,7 +49,7 @@ fn read_wasted<R: BitRead>(reader: &mut R) -> Result<u32, FlacError> {
     more.checked_add(1).ok_or(FlacError::TooManyWastedBits)
 }
 
-/// Reads a sample that stands for all.
+/// Reads the value of all samples.
 fn read_constant<R: BitRead>(
     reader: &mut R,
     width: u32,
@@ -74,7 +74,7 @@ fn read_verbatim<R: BitRead>(
     Ok(())
 }
 
-/// Reads samples behind a fixed prediction from the `order` samples before.
+/// Reads samples with a fixed prediction from the `order` samples before.
 fn read_fixed<R: BitRead>(
     reader: &mut R,
     width: u32,
@@ -94,7 +94,7 @@ fn read_fixed<R: BitRead>(
     Ok(())
 }
 
-/// Reads samples behind a linear prediction from the `order` samples before.
+/// Reads samples with a linear prediction from the `order` samples before.
 fn read_linear<R: BitRead>(
     reader: &mut R,
     alloc: Global,

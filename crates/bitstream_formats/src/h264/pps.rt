@@ -58,7 +58,7 @@ fn read_common(syntax: &mut Syntax<'_, '_, '_, BE>) -> Result<(), H264Error> {
     Ok(())
 }
 
-/// Returns how many scaling lists a picture parameter set may have.
+/// Returns the number of scaling lists that a picture parameter set may have.
 fn lists_of(sequence: &SequenceSet, large_transform: bool) -> u32
     ensures { result ≡ lists_of_picture sequence.now.chroma_format large_transform }
 {

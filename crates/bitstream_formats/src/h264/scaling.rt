@@ -4,7 +4,7 @@ use crate::element::{Index, Syntax};
 use crate::nal::read_se;
 use bitstream_io::{BE, Error};
 
-/// Reads whether each of some scaling lists is there, and those that are.
+/// Reads a flag for each of some scaling lists, and the lists whose flag is set.
 pub(super) fn read_scaling_lists(
     syntax: &mut Syntax<'_, '_, '_, BE>,
     name: &'static str,

@@ -15,7 +15,7 @@ pub struct SequenceSet {
 pub struct PictureSet {
     /// The number of the sequence parameter set that it names.
     pub sequence: u32,
-    /// Whether the transform of 8x8 samples is used, `transform_8x8_mode_flag`.
+    /// True if the transform of 8x8 samples is used, `transform_8x8_mode_flag`.
     pub large_transform: bool,
 }
 

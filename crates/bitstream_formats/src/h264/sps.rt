@@ -8,7 +8,7 @@ use crate::element::{Index, Syntax};
 use crate::nal::{read_se, read_ue};
 use bitstream_io::{BE, Error};
 
-/// Whether the sets of a profile say how colors are coded.
+/// Returns true if the parameter sets of a profile have a chroma format.
 fn has_chroma(profile: u32) -> bool {
     matches!(
         profile,

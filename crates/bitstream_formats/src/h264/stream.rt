@@ -43,7 +43,7 @@ impl<'a> Stream<'a> {
         self.units.rest()
     }
 
-    /// Returns how many units were read or refused.
+    /// Returns the number of units that were read or refused.
     pub fn units_taken(&self) -> u64 {
         self.units.taken()
     }
@@ -57,7 +57,7 @@ impl<'a> Stream<'a> {
     ///
     /// # Errors
     ///
-    /// Those of [`read_unit`], with the place of the unit. The next call reads the next unit.
+    /// The errors of [`read_unit`], with the place of the unit. The next call reads the next unit.
     pub fn next_unit(
         &mut self,
         alloc: Global,

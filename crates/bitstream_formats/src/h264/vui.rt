@@ -53,7 +53,7 @@ fn read_hrd(syntax: &mut Syntax<'_, '_, '_, BE>) -> Result<(), H264Error> {
     Ok(())
 }
 
-/// Reads what a stream keeps to.
+/// Reads the restrictions of a stream.
 fn read_restriction(syntax: &mut Syntax<'_, '_, '_, BE>) -> Result<(), Error> {
     syntax.flag("motion_vectors_over_pic_boundaries_flag")?;
     read_ue(syntax, "max_bytes_per_pic_denom")?;

@@ -4,7 +4,7 @@ ghost use Rattle.bitstream_formats.specs.Emulation.{with_emulation, without_emul
 
 use std::alloc::{AllocError, Global};
 
-/// Returns how many zeros the last bytes are behind this one, but at most two.
+/// Returns the number of zeros at the end of the bytes after this one, but at most two.
 fn zeros_after(zeros: u8, byte: u8) -> u8
     ensures { result ≡ zeros_after zeros byte }
 {
@@ -38,8 +38,8 @@ pub fn remove_emulation(alloc: Global, unit: &[u8]) -> Result<Vec<u8>, AllocErro
     Ok(payload)
 }
 
-/// The removal gives bytes back as they were before a 3 was put between two zeros and each byte of at most
-/// 3 behind them.
-pub fn emulation_goes_back()
+/// The removal restores the bytes: a 3 was inserted between two zeros and each byte of at most 3
+/// after them.
+pub fn emulation_round_trip()
     ensures { (bytes : List ℕ) → without_emulation 0 (with_emulation 0 bytes) ≡ bytes }
 {}

@@ -5,7 +5,7 @@
 pub struct Units<'a> {
     // The bytes after the last start code that was found. `None` after the last unit.
     rest: Option<&'a [u8]>,
-    // How many bytes of the stream come before them.
+    // The number of bytes of the stream before them.
     before: usize,
     // How many units were returned.
     taken: u64,
@@ -20,7 +20,7 @@ struct StartCode {
     end: usize,
 }
 
-/// Finds the first start code, or returns how many bytes precede the zeros at the end.
+/// Finds the first start code, or returns the number of bytes before the zeros at the end.
 fn find_start(bytes: &[u8]) -> Result<StartCode, usize> {
     let mut zeros = 0usize;
     for (at, byte) in bytes.iter().enumerate() {

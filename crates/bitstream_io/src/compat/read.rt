@@ -1,10 +1,10 @@
 //! The older names of the calls of a reader of bits.
 ghost use Rattle.std.specs.Prelude.{◌≡◌, ◌%◌, ◌≤◌, ◌↔◌, true, false, length, Ok, IsTrue};
 ghost use Rattle.bitstream_order.specs.Parts.{value_bytes};
-ghost use Rattle.bitstream_order.specs.Moving.Gather.{seen};
+ghost use Rattle.bitstream_order.specs.Moving.Gather.{result_map};
 ghost use Rattle.bitstream_stream.specs.Reading.Reads.{BitSource, Reads, ReadsGrowing};
 ghost use Rattle.bitstream_value.specs.Grows.{OwnReads};
-ghost use Rattle.bitstream_stream.specs.Reading.ReadTable.{bit_entry, signed_entry, unary_entry, bytes_entry, skip_entry, align_entry};
+ghost use Rattle.bitstream_stream.specs.Reading.ReadTable.{bit_decoder, signed_decoder, unary_decoder, bytes_decoder, skip_decoder, align_decoder};
 
 use bitstream_count::error::Error;
 use bitstream_number::number::{Bits, Primitive, SignedInteger, Width};
@@ -17,12 +17,13 @@ use bitstream_value::read::BitReadExt;
 use std::alloc::Allocator;
 
 /// Reads bits, by the names of earlier versions. Every reader of bits has these calls. Code that
-/// uses them imports this trait in place of [`BitRead`] and [`BitReadExt`], since some of the names
+/// uses them imports this trait instead of [`BitRead`] and [`BitReadExt`], since some of the names
 /// are the same.
 ///
 /// # Errors
 ///
-/// Each call answers as the call of today that it names, and leaves the reader in the same state.
+/// Each call returns the result of the current call that it names, and leaves the reader in the
+/// same state.
 ///
 /// # Examples
 ///
@@ -36,14 +37,14 @@ use std::alloc::Allocator;
 /// assert!(rt; matches!(reader.read::<u32>(1), Err(Error::EndOfInput)));
 /// ```
 pub trait BitRead2 {
-    // What the states of the reader mean.
+    // The meaning of the reader's states.
     ghost source: { BitSource Self };
 
     /// Reads one bit, as [`BitRead::read_bit`].
     fn read_bit(&mut self) -> Result<bool, Error>
-        ensures reads { Reads source bit_entry self.old result self.new };
+        ensures reads { Reads source bit_decoder self.old result self.new };
 
-    /// Reads a value of the given number of bits, as [`BitReadExt::read_var`].
+    /// Reads a value of `bits` bits, as [`BitReadExt::read_var`].
     fn read<I: Integer>(&mut self, bits: u32) -> Result<I, Error>
         ensures reads { Reads source (I.reads source.order bits) self.old result self.new };
 
@@ -52,54 +53,54 @@ pub trait BitRead2 {
         requires { I.IsWidth B.BITS }
         ensures reads { Reads source (I.reads source.order B.BITS) self.old result self.new };
 
-    /// Reads a signed number of the given number of bits, as [`BitRead::read_signed_var`].
+    /// Reads a signed number of `bits` bits, as [`BitRead::read_signed_var`].
     fn read_signed<S: SignedInteger>(&mut self, bits: u32) -> Result<S, Error>
-        ensures reads { Reads source (signed_entry source.order S.BITS_SIZE bits)
-            self.old (seen S.integer result) self.new };
+        ensures reads { Reads source (signed_decoder source.order S.BITS_SIZE bits)
+            self.old (result_map S.integer result) self.new };
 
     /// Reads a signed number of `B::BITS` bits, as [`BitRead::read_signed`].
     fn read_signed_in<B: Width, S: SignedInteger>(&mut self) -> Result<S, Error>
         requires some { 1 ≤ B.BITS }
         requires within { B.BITS ≤ S.BITS_SIZE }
-        ensures reads { Reads source (signed_entry source.order S.BITS_SIZE B.BITS)
-            self.old (seen S.integer result) self.new };
+        ensures reads { Reads source (signed_decoder source.order S.BITS_SIZE B.BITS)
+            self.old (result_map S.integer result) self.new };
 
     /// Reads a value from its bytes, as [`BitRead::read_to`].
     fn read_to<V: Primitive>(&mut self) -> Result<V, Error>
-        ensures reads { Reads source (bytes_entry source.order V.BYTES) self.old
-            (seen (value_bytes source.order V.be_bytes V.le_bytes) result) self.new };
+        ensures reads { Reads source (bytes_decoder source.order V.BYTES) self.old
+            (result_map (value_bytes source.order V.be_bytes V.le_bytes) result) self.new };
 
     /// Reads a value from its bytes in the byte order F, as [`BitRead::read_as_to`].
     fn read_as_to<F: Endianness, V: Primitive>(&mut self) -> Result<V, Error>
-        ensures reads { Reads source (bytes_entry source.order V.BYTES) self.old
-            (seen (value_bytes F.order V.be_bytes V.le_bytes) result) self.new };
+        ensures reads { Reads source (bytes_decoder source.order V.BYTES) self.old
+            (result_map (value_bytes F.order V.be_bytes V.le_bytes) result) self.new };
 
-    /// Skips the given number of bits, as [`BitRead::skip`].
+    /// Skips `bits` bits, as [`BitRead::skip`].
     fn skip(&mut self, bits: u32) -> Result<(), Error>
-        ensures reads { Reads source (skip_entry bits) self.old result self.new };
+        ensures reads { Reads source (skip_decoder bits) self.old result self.new };
 
     /// Fills a buffer with bytes, as [`BitRead::read_bytes`].
     fn read_bytes(&mut self, buf: &mut [u8]) -> Result<(), Error>
-        ensures reads { Reads source (bytes_entry source.order (length buf.old))
-            self.old (seen (λ _. buf.new) result) self.new };
+        ensures reads { Reads source (bytes_decoder source.order (length buf.old))
+            self.old (result_map (λ _. buf.new) result) self.new };
 
     /// Reads the bytes of a V, as [`BitRead::read_to_bytes`].
     fn read_to_bytes<V: Primitive>(&mut self) -> Result<V::Bytes, Error>
-        ensures reads { Reads source (bytes_entry source.order V.BYTES)
-            self.old (seen V.Bytes.items result) self.new };
+        ensures reads { Reads source (bytes_decoder source.order V.BYTES)
+            self.old (result_map V.Bytes.items result) self.new };
 
-    /// Reads the given number of bytes into a vector, as [`BitRead::read_to_vec`].
+    /// Reads `bytes` bytes into a vector, as [`BitRead::read_to_vec`].
     fn read_to_vec<A: Allocator>(&mut self, alloc: A, bytes: usize) -> Result<Vec<u8, A>, Error>
-        ensures reads { ReadsGrowing source (bytes_entry source.order bytes)
-            self.old (seen (λ v. v.items) result) self.new };
+        ensures reads { ReadsGrowing source (bytes_decoder source.order bytes)
+            self.old (result_map (λ v. v.items) result) self.new };
 
     /// Reads the number of bits before the next 0, as [`BitRead::read_unary`] of `Bits<0>`.
     fn read_unary0(&mut self) -> Result<u32, Error>
-        ensures reads { Reads source (unary_entry false) self.old result self.new };
+        ensures reads { Reads source (unary_decoder false) self.old result self.new };
 
     /// Reads the number of bits before the next 1, as [`BitRead::read_unary`] of `Bits<1>`.
     fn read_unary1(&mut self) -> Result<u32, Error>
-        ensures reads { Reads source (unary_entry true) self.old result self.new };
+        ensures reads { Reads source (unary_decoder true) self.old result self.new };
 
     /// Returns whether the reader is at a byte boundary, as [`BitRead::byte_aligned`].
     fn byte_aligned(&self) -> bool
@@ -108,18 +109,18 @@ pub trait BitRead2 {
 
     /// Skips the bits up to the next byte boundary, as [`BitRead::byte_align`].
     fn byte_align(&mut self)
-        ensures reads { Reads source align_entry self.old (Ok tt) self.new };
+        ensures reads { Reads source align_decoder self.old (Ok tt) self.new };
 
     /// Reads the word of a symbol of a prefix code, as [`BitReadExt::read_huffman`].
     fn read_huffman<T: FromBits>(&mut self, code: &T) -> Result<T::Symbol, Error>
-        ensures reads { Reads source (T.entry code.now) self.old result self.new };
+        ensures reads { Reads source (T.decoder code.now) self.old result self.new };
 
-    /// Reads a value of a type that says how it is read, as [`BitReadExt::parse`].
+    /// Reads a value of a type that implements its own reads, as [`BitReadExt::parse`].
     fn parse<F: FromBitStream>(&mut self) -> Result<F, F::Error>
         ensures reads { OwnReads F.grows source F.becomes (F.reads source.order)
             self.old result self.new };
 
-    /// Reads a value of such a type, with a context that is lent, as [`BitReadExt::parse_with`].
+    /// Reads a value that needs a borrowed context, as [`BitReadExt::parse_with`].
     fn parse_with<F: FromBitStreamWith>(&mut self, context: &F::Context) -> Result<F, F::Error>
         ensures reads { OwnReads F.grows source F.becomes (F.reads source.order context.now)
             self.old result self.new };

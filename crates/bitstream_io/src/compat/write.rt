@@ -16,12 +16,13 @@ use bitstream_value::integer::Integer;
 use bitstream_value::write::BitWriteExt;
 
 /// Writes bits, by the names of earlier versions. Every sink of bits has these calls. Code that
-/// uses them imports this trait in place of [`BitWrite`] and [`BitWriteExt`], since some of the
+/// uses them imports this trait instead of [`BitWrite`] and [`BitWriteExt`], since some of the
 /// names are the same.
 ///
 /// # Errors
 ///
-/// Each call answers as the call of today that it names, and leaves the sink in the same state.
+/// Each call returns the result of the current call that it names, and leaves the sink in the same
+/// state.
 ///
 /// # Examples
 ///
@@ -37,14 +38,14 @@ use bitstream_value::write::BitWriteExt;
 /// assert_eq!(rt; writer.into_writer().as_slice(), [0xab, 0xe5].as_slice());
 /// ```
 pub trait BitWrite2 {
-    // What the states of the sink mean.
+    // The meaning of the sink's states.
     ghost sink: { Sink Self };
 
     /// Writes one bit, as [`BitWrite::write_bit`].
     fn write_bit(&mut self, bit: bool) -> Result<(), Error>
         ensures writes { Writes sink (one_bit bit) self.old result self.new };
 
-    /// Writes a value in the given number of bits, as [`BitWriteExt::write_var`].
+    /// Writes a value in `bits` bits, as [`BitWriteExt::write_var`].
     fn write<I: Integer>(&mut self, bits: u32, value: I) -> Result<(), Error>
         ensures writes { WritesAll sink (I.writes sink.order bits value)
             self.old result self.new };
@@ -55,8 +56,7 @@ pub trait BitWrite2 {
         ensures writes { WritesAll sink (I.writes sink.order B.BITS value)
             self.old result self.new };
 
-    /// Writes an unsigned number in the given number of bits, as
-    /// [`BitWrite::write_unsigned_var`].
+    /// Writes an unsigned number in `bits` bits, as [`BitWrite::write_unsigned_var`].
     fn write_unsigned<U: UnsignedInteger>(&mut self, bits: u32, value: U) -> Result<(), Error>
         ensures writes { Writes sink (unsigned sink.order U.BITS_SIZE bits (U.value value))
             self.old result self.new };
@@ -67,7 +67,7 @@ pub trait BitWrite2 {
         ensures writes { Writes sink (unsigned sink.order U.BITS_SIZE B.BITS (U.value value))
             self.old result self.new };
 
-    /// Writes a signed number in the given number of bits, as [`BitWrite::write_signed_var`].
+    /// Writes a signed number in `bits` bits, as [`BitWrite::write_signed_var`].
     fn write_signed<S: SignedInteger>(&mut self, bits: u32, value: S) -> Result<(), Error>
         ensures writes { Writes sink (signed sink.order S.BITS_SIZE bits (S.integer value))
             self.old result self.new };
@@ -91,7 +91,7 @@ pub trait BitWrite2 {
             (buffer sink.order (value_bytes F.order V.be_bytes V.le_bytes value))
             self.old result self.new };
 
-    /// Writes the given number of zeros, as [`BitWrite::pad`].
+    /// Writes `bits` bits of 0, as [`BitWrite::pad`].
     fn pad(&mut self, bits: u32) -> Result<(), Error>
         ensures writes { Writes sink (zeros bits) self.old result self.new };
 
@@ -99,11 +99,11 @@ pub trait BitWrite2 {
     fn write_bytes(&mut self, bytes: &[u8]) -> Result<(), Error>
         ensures writes { Writes sink (buffer sink.order bytes.now) self.old result self.new };
 
-    /// Writes the given number of ones, and then a 0, as [`BitWrite::write_unary`] of `Bits<0>`.
+    /// Writes `value` ones, and then a 0, as [`BitWrite::write_unary`] of `Bits<0>`.
     fn write_unary0(&mut self, value: u32) -> Result<(), Error>
         ensures writes { Writes sink (unary_word false value) self.old result self.new };
 
-    /// Writes the given number of zeros, and then a 1, as [`BitWrite::write_unary`] of `Bits<1>`.
+    /// Writes `value` zeros, and then a 1, as [`BitWrite::write_unary`] of `Bits<1>`.
     fn write_unary1(&mut self, value: u32) -> Result<(), Error>
         ensures writes { Writes sink (unary_word true value) self.old result self.new };
 
@@ -121,12 +121,12 @@ pub trait BitWrite2 {
         ensures writes { WritesAll sink (bit_by_bit (T.word code.now symbol))
             self.old result self.new };
 
-    /// Writes a value of a type that says how it is written, as [`BitWriteExt::build`].
+    /// Writes a value of a type that implements its own writes, as [`BitWriteExt::build`].
     fn build<T: ToBitStream>(&mut self, value: &T) -> Result<(), T::Error>
         ensures writes { WritesOwn sink T.becomes (T.writes sink.order value.now)
             (T.answers value.now) self.old result self.new };
 
-    /// Writes a value of such a type, with a context that is lent, as [`BitWriteExt::build_with`].
+    /// Writes a value that needs a borrowed context, as [`BitWriteExt::build_with`].
     fn build_with<T: ToBitStreamWith>(
         &mut self,
         value: &T,

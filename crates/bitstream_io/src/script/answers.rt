@@ -1,11 +1,11 @@
-//! The answer of a read call as a value.
+//! The result of a read call as a value.
 
 use crate::script::byte_list::ByteList;
 
-/// What a [`ReadCall`](crate::script::ReadCall) answers.
+/// The value that a [`ReadCall`](crate::script::ReadCall) returns.
 #[derive(Drop)]
 pub enum Answer {
-    /// The call has no value to answer.
+    /// The call returns no value.
     Done,
     /// One bit: `true` for 1.
     Bit(bool),

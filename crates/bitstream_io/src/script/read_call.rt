@@ -1,6 +1,6 @@
 //! A read call as a value.
 ghost use Rattle.bitstream_stream.specs.Reading.Reads.{ReadOutcome};
-ghost use Rattle.bitstream_io.specs.ReadScript.{read_entry, asks_memory};
+ghost use Rattle.bitstream_io.specs.ReadScript.{read_decoder, asks_memory};
 
 use crate::script::answers::Answer;
 use crate::script::byte_list::ByteList;
@@ -50,23 +50,23 @@ pub enum ReadCall {
     SignedVbr4,
     /// A signed number of variable width, in groups of 8 bits.
     SignedVbr8,
-    /// The given number of bytes.
+    /// A number of bytes.
     Bytes(usize),
-    /// The given number of bits, whatever they are.
+    /// A number of bits, whatever they are.
     Skip(u32),
     /// The bits up to the next byte boundary, whatever they are.
     Align,
 }
 
 impl ReadCall {
-    /// Makes the call. For `Bytes` alone memory is asked of the allocator.
+    /// Makes the call. Only `Bytes` asks the allocator for memory.
     ///
     /// # Errors
     ///
     /// As the call of [`BitRead`] has them.
     pub(crate) fn make<R: BitRead>(&self, alloc: Global, reader: &mut R) -> Result<Answer, Error>
         ensures reads { ReadOutcome R.source (asks_memory self.now)
-            (read_entry R.source.order self.now) reader.old result reader.new }
+            (read_decoder R.source.order self.now) reader.old result reader.new }
     {
         match self {
             ReadCall::Bit => reader.read_bit().map(Answer::Bit),

@@ -1,13 +1,13 @@
 //! A write call as a value.
 ghost use Rattle.bitstream_stream.specs.Writing.Sink.{Writes};
-ghost use Rattle.bitstream_io.specs.Script.{write_entry};
+ghost use Rattle.bitstream_io.specs.Script.{write_encoder};
 
 use crate::script::byte_list::ByteList;
 use bitstream_count::error::Error;
 use bitstream_number::number::Bits;
 use bitstream_stream::write::BitWrite;
 
-/// A write call with its arguments. A number comes behind its width in bits.
+/// A write call with its arguments. A number comes after its width in bits.
 #[derive(Drop)]
 pub enum WriteCall {
     /// One bit: 1 for `true`.
@@ -46,7 +46,7 @@ pub enum WriteCall {
     SignedVbr8(i64),
     /// Bytes.
     Bytes(ByteList),
-    /// The given number of zeros.
+    /// A number of zeros.
     Pad(u32),
     /// Zeros up to a multiple of 8 bits.
     Align,
@@ -59,7 +59,7 @@ impl WriteCall {
     ///
     /// As the call of [`BitWrite`] has them.
     pub(crate) fn make<W: BitWrite>(&self, writer: &mut W) -> Result<(), Error>
-        ensures writes { Writes W.sink (write_entry W.sink.order self.now)
+        ensures writes { Writes W.sink (write_encoder W.sink.order self.now)
             writer.old result writer.new }
     {
         match self {

@@ -1,26 +1,27 @@
 //! A list of write calls on any sink.
 ghost use Rattle.std.specs.Prelude.{◌≡◌, length, None};
 ghost use Rattle.bitstream_number.specs.Word.{Order};
-ghost use Rattle.bitstream_io.specs.Script.{write_entries, WritesRun, Counts};
+ghost use Rattle.bitstream_io.specs.Script.{write_encoders, WritesSequence, Counts};
 
 use crate::script::write_call::WriteCall;
 use bitstream_count::error::Error;
 use bitstream_stream::write::BitWrite;
 
-/// Makes all calls in their order, also behind one that was refused, and puts the answer of each
-/// into its place: `None` if it was accepted, and else its error.
+/// Makes all calls in order, even after one that was refused, and puts the result of each into its
+/// place: `None` if it was accepted, else its error.
 ///
-/// The words of the accepted calls are appended, each at the length that is reached before it. A
-/// call that is rejected for its width or value, or that would pass a counter's limit, appends
-/// nothing, and the calls behind it go on. If a request is refused, that call answers the error of
-/// the refusal, and each call behind it answers `Failed`.
+/// The words of the accepted calls are appended, each at the length reached before it. A call that
+/// is rejected for its width or value, or that would pass a counter's limit, appends nothing, and
+/// the later calls are still made. If a request is refused, that call returns the error of the
+/// refusal, and each later call returns `Failed`.
 pub fn write_calls<W: BitWrite>(writer: &mut W, calls: &[WriteCall], answers: &mut [Option<Error>])
     requires { length answers.old ≡ length calls.now }
-    // The write run of the calls is appended, up to the first refused request.
-    ensures appends { WritesRun W.sink (write_entries W.sink.limit W.sink.order calls.now)
+    // The write sequence of the calls is appended, up to the first refused request.
+    ensures appends { WritesSequence W.sink (write_encoders W.sink.limit W.sink.order calls.now)
         writer.old answers.new writer.new }
-    // In either order of bits the answers and the number of bits are the same, if the limit holds the sum.
-    ensures counts { (o : Order) → Counts W.sink (write_entries None o calls.now)
+    // In either order of bits the results and the number of bits are the same, if the limit holds
+    // the sum.
+    ensures counts { (o : Order) → Counts W.sink (write_encoders None o calls.now)
         writer.old answers.new writer.new }
 {
     for (i, call) in calls.iter().enumerate() {

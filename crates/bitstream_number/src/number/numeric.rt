@@ -49,7 +49,8 @@ pub trait Numeric: Primitive
 
     ghost wrap: { ℤ → ℤ };
 
-    /// Does nothing at run time. Its contract says that the value's number is in the type's range.
+    /// Does nothing at run time. Its contract states that the value's number is in the type's
+    /// range.
     fn known(self)
         ensures { fits (integer self) };
 
@@ -103,7 +104,7 @@ pub trait Numeric: Primitive
     ghost rem_law: { (a b r : Self) → Self.rem_gives a b r
         → integer r ≡ int_rem (integer a) (integer b) };
 
-    // An assigning operator (`<<=`, ..) requires and gives what the plain one does.
+    // An assigning operator (`<<=` and so on) has the clauses of the plain one.
     ghost can_shl_assign_law: { (a : Self) (k : ℕ) → Self.can_shl a k → Self.can_shl_assign a k };
 
     ghost shl_assign_law: { (a : Self) (k : ℕ) (r : Self) → Self.shl_assign_gives a k r

@@ -64,14 +64,12 @@ pub trait Primitive: Sized {
     fn to_be_bytes(self) -> Self::Bytes
         // The buffer holds the big-endian bytes of the value.
         ensures bytes { Self.Bytes.items result ≡ be_bytes self }
-        // There are `BYTES` of them.
         ensures len { length (Self.Bytes.items result) ≡ BYTES };
 
     /// Returns the bytes of the value, least significant byte first (little-endian).
     fn to_le_bytes(self) -> Self::Bytes
         // The buffer holds the little-endian bytes of the value.
         ensures bytes { Self.Bytes.items result ≡ le_bytes self }
-        // There are `BYTES` of them.
         ensures len { length (Self.Bytes.items result) ≡ BYTES };
 
     /// Returns the value with these bytes, most significant byte first (big-endian).

@@ -22,8 +22,8 @@ pub trait SignedInteger: Numeric {
         requires { pos 0 ≤ℤ Self.integer self }
         ensures { pos (Self.Unsigned.value result) ≡ Self.integer self };
 
-    /// Returns the two's complement of a negative number in the given number of bits, without its
-    /// sign bit: the number plus 2^(bits - 1).
+    /// Returns the two's complement of a negative number in `bits` bits, without its sign bit: the
+    /// number plus 2^(bits - 1).
     fn as_negative(self, bits: u32) -> Self::Unsigned
         requires some { 1 ≤ bits }
         requires within { bits ≤ Self.BITS_SIZE }
@@ -57,7 +57,7 @@ pub trait SignedInteger: Numeric {
     ghost shr_law: { (a : Self) (k : ℕ) (r : Self) → Self.shr_gives a k r
         → Self.integer r ≡ int.int_shr (Self.integer a) k };
 
-    // The bytes are those of the number modulo 2^BITS_SIZE.
+    // The bytes encode the number modulo 2^BITS_SIZE.
     ghost be_law: { (x : Self) → Self.fits (Self.integer x)
         → Self.be_bytes x ≡ bytes High Self.BYTES (residue Self.BITS_SIZE (Self.integer x)) };
 

@@ -55,7 +55,7 @@ pub trait UnsignedInteger: Numeric {
         requires { value self < 2 ^ (Self.BITS_SIZE - 1) }
         ensures { signed result ≡ pos (value self) };
 
-    /// Sets the sign bit of a two's complement of so many bits: returns `self` - 2^(bits - 1).
+    /// Sets the sign bit of a two's complement of `bits` bits: returns `self` - 2^(bits - 1).
     fn as_negative(self, bits: u32) -> Self::Signed
         requires some { 1 ≤ bits }
         requires within { bits ≤ Self.BITS_SIZE }

@@ -9,7 +9,7 @@ use Rattle.std.proofs.lemmas.Bool.{cases_lt}
 use Rattle.std.proofs.lemmas.Bool.Decides.{eqb_tells}
 use Rattle.std.proofs.lemmas.List.{length-drop, length-take-le}
 use Rattle.bitstream_count.specs.Unary.{unary, lead}
-use Rattle.bitstream_count.proofs.UnaryLemmas.{lead_le, others-split, unary-split, take_others, front_is_unary}
+use Rattle.bitstream_count.proofs.UnaryLemmas.{lead_le, others-split, unary-split, take_others, prefix_is_unary}
 use Rattle.bitstream_count.specs.declared.error.Error.{Error}
 use Rattle.bitstream_number.specs.Word.{Order, High, Low, digits, word, bits}
 use Rattle.bitstream_number.proofs.WordLemmas.{length-word, bits-append}
@@ -177,11 +177,11 @@ module _ (o : Order) (stop : Bool) (x : List Bool) (old : PortState) where
       let parts : left ≡ r + (1 + k) = omega arith in
       let found : lead stop w < length w = omega (arith, is, length-word o 8 byte) in
       let next : r + 1 ≡ suc (lead stop w) = omega (arith, is) in
-      let front : take (r + 1) w ≡ unary stop r = ap (λ n. take n w) next ∙ front_is_unary stop w found
+      let prefix : take (r + 1) w ≡ unary stop r = ap (λ n. take n w) next ∙ prefix_is_unary stop w found
       ∙ ap (unary stop) (sym is) in
       let held : word o left (first_part o byte 8 left) ≡ unary stop r ++ behind =
       held_bits o byte left le ∙ ap (λ n. take n w) parts ∙ rest_twice o byte r q z first then k (omega arith)
-      ∙ ap (λ l. l ++ behind) front in
+      ∙ ap (λ l. l ++ behind) prefix in
       between_as o x (replicate count (not stop)) (word o left (first_part o byte 8 left)) (unary stop more) behind old
       p
       (ap (λ l. replicate count (not stop) ++ l) held ∙ sym
@@ -198,7 +198,7 @@ module _ (o : Order) (stop : Bool) (x : List Bool) (old : PortState) where
       let m = 2 ^ 32 - count in
       let held = take left w in
       let size : length held ≡ left = length-take-le left w (omega (arith, length-word o 8 byte)) in
-      let front : take m held ≡ replicate m (not stop) = take_less m left w (omega (arith, size))
+      let prefix : take m held ≡ replicate m (not stop) = take_less m left w (omega (arith, size))
       ∙ take_others stop m w (omega arith) in
       record {
         count = count + m;
@@ -208,7 +208,7 @@ module _ (o : Order) (stop : Bool) (x : List Bool) (old : PortState) where
         takes = between_as o x (replicate count (not stop)) (word o left (first_part o byte 8 left))
             (replicate (count + m) (not stop)) (drop m held) old p
             (ap (λ l. replicate count (not stop) ++ l) (held_bits o byte left le ∙ sym (take-append-drop m held)
-            ∙ ap (λ l. l ++ drop m held) front)
+            ∙ ap (λ l. l ++ drop m held) prefix)
             ∙ sym (append_assoc (replicate count (not stop)) (replicate m (not stop)) (drop m held))
             ∙ ap (λ l. l ++ drop m held) (sym (others-split stop count m (count + m) refl))) h;
       }

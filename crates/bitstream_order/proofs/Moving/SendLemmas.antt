@@ -1,4 +1,4 @@
--- What the kernels send to a port.
+-- The bits that the kernels send to a port.
 use Rattle.std.proofs.Common.{◌≡◌, ℕ, ◌+◌, ◌-◌, ◌*◌, ◌/◌, ◌^◌, ◌<◌, ◌≤◌, Bool, List, ◌++◌, length, take, drop, sym, ap, ap₂, ◌∙◌, subst, arith, length-append, length-take-le, mod-lt}
 use Rattle.std.proofs.Math.Seq.{take-length, take-append-add}
 use Rattle.std.proofs.lemmas.List.{take-append-drop}
@@ -10,13 +10,13 @@ use Rattle.bitstream_order.specs.Parts.{piece}
 use Rattle.bitstream_order.specs.Moving.Send.{SendsBits}
 use Rattle.bitstream_order.specs.Port.{PortState, Sent, SendRefused}
 use Rattle.bitstream_order.specs.Refusal.{Refusal}
-use Rattle.bitstream_order.proofs.Moving.PieceLemmas.{piece_more, take_less, front_bits}
+use Rattle.bitstream_order.proofs.Moving.PieceLemmas.{piece_more, take_less, prefix_bits}
 
 pub piece_below : (o : Order) (n v at k : ℕ) → piece o n v at k < 2 ^ k
 piece_below High n v at k = mod-lt (v / 2 ^ (n - (at + k))) (pow_pos k)
 piece_below Low n v at k = mod-lt (v / 2 ^ at) (pow_pos k)
 
--- the bits of a word in front, and the rest of them
+-- the first bits of a word, and the rest of them
 pub piece_last : (o : Order) (n v at : ℕ) → at ≤ n → word o n v ≡ take at (word o n v)
     ++ word o (n - at) (piece o n v at (n - at))
 piece_last o n v at le =
@@ -39,13 +39,13 @@ sends_bytes o x y bs old new h is = record {
 
 -- the bytes of a queue and of as many bits of a word behind it as fill bytes, by a value whose bits are those of the
 -- queue and, behind them, the first bits of another
-pub front_bytes : (o : Order) (queued queue n v size m t : ℕ) (bytes : List ℕ) → queued < 8 → 8 ≤ queued + n → n ≤ size
+pub prefix_bytes : (o : Order) (queued queue n v size m t : ℕ) (bytes : List ℕ) → queued < 8 → 8 ≤ queued + n → n ≤ size
     → size ≡ 8 * length bytes
     → take n (word o size t) ≡ word o n v → word o size m ≡ word o queued queue ++ take (size - queued) (word o size t)
     → bits o bytes ≡ word o size m
     → word o queued queue ++ take (8 * ((queued + n) / 8) - queued) (word o n v)
     ≡ bits o (take ((queued + n) / 8) bytes)
-front_bytes o queued queue n v size m t bytes few full room long front both is =
+prefix_bytes o queued queue n v size m t bytes few full room long prefix both is =
     let count = (queued + n) / 8 in
     let k = 8 * count - queued in
     let q = word o queued queue in
@@ -58,12 +58,12 @@ front_bytes o queued queue n v size m t bytes few full room long front both is =
     let q_len = length-word o queued queue in
     let sum : 8 * count ≡ length q + k = omega arith in
     let bits_are : bits o r ≡ take (8 * count) (bits o bytes) =
-    sym (ap (λ i. take (8 * i) (bits o (r ++ drop count bytes))) (sym r_len) ∙ front_bits o r (drop count bytes))
+    sym (ap (λ i. take (8 * i) (bits o (r ++ drop count bytes))) (sym r_len) ∙ prefix_bits o r (drop count bytes))
     ∙ ap (λ x. take (8 * count) (bits o x)) (take-append-drop count bytes) in
     let whole : take (8 * count) (bits o bytes) ≡ q ++ take k (take (size - queued) b) = ap₂ take sum (is ∙ both)
     ∙ take-append-add q (take (size - queued) b) k in
     let word_is : take k (take (size - queued) b) ≡ take k (word o n v) =
-    take_less k (size - queued) b (omega arith) ∙ sym (take_less k n b (omega arith)) ∙ ap (take k) front in
+    take_less k (size - queued) b (omega arith) ∙ sym (take_less k n b (omega arith)) ∙ ap (take k) prefix in
     sym (bits_are ∙ whole ∙ ap (λ x. q ++ x) word_is)
 
 -- a refused request for the bytes that a queue and a word fill

@@ -1,13 +1,13 @@
--- What the kernels take from a port.
+-- The bits that the kernels take from a port.
 use Rattle.std.proofs.KnownBytes.{Consumes-nil}
 use Rattle.std.proofs.Common.{◌≡◌, ℕ, ◌+◌, ◌*◌, ◌/◌, ◌^◌, ◌<◌, ◌≤◌, List, [], ◌++◌, length, take, refl, sym, ap, ap₂, ◌∙◌, subst, arith, append_assoc, append-nil, length-append}
 use Rattle.bitstream_number.specs.Word.{Order, High, Low, digits, word, bits}
 use Rattle.bitstream_number.proofs.WordLemmas.{length-word, length-bits}
 use Rattle.bitstream_order.specs.Parts.{first_part, put_number, piece}
 use Rattle.bitstream_order.specs.Port.{PortState, Fetched}
-use Rattle.bitstream_order.specs.Moving.Gather.{TakesWord, unused}
+use Rattle.bitstream_order.specs.Moving.Gather.{TakesWord, padding_bits}
 use Rattle.bitstream_order.proofs.PartLemmas.{put_word, put_below, first_below}
-use Rattle.bitstream_order.proofs.Moving.PieceLemmas.{piece_more, first_bits, front_bits}
+use Rattle.bitstream_order.proofs.Moving.PieceLemmas.{piece_more, first_bits, prefix_bits}
 
 pub word-none : (o : Order) (v : ℕ) → word o 0 v ≡ []
 unfolding digits
@@ -52,17 +52,17 @@ takes_queue o left byte n k v q p below le sum first rest = record {
 pub takes_bits : (o : Order) (done acc n size w f v q : ℕ) (bs z : List ℕ) (old new : PortState) → acc < 2 ^ done
     → w < 2 ^ size → length bs ≡ (n + 7) / 8 → 8 * ((n + 7) / 8) ≤ size → Fetched old bs new
     → word o size w ≡ bits o (bs ++ z) → f ≡ first_part o w size n → v ≡ put_number o acc done f n → q
-    ≡ piece o size w n (unused n)
-    → TakesWord o done acc old (done + n) v (unused n) q new
+    ≡ piece o size w n (padding_bits n)
+    → TakesWord o done acc old (done + n) v (padding_bits n) q new
 takes_bits o done acc n size w f v q bs z old new below small len fits h is first put cut =
     let f_below : f < 2 ^ n = subst (λ x. x < 2 ^ n) (sym first) (first_below o w size n small (omega arith)) in
-    let all : 8 * length bs ≡ n + unused n = omega arith in
-    let two : bits o bs ≡ word o n f ++ word o (unused n) q =
-    sym (front_bits o bs z) ∙ ap (take (8 * length bs)) (sym is) ∙ ap (λ k. take k (word o size w)) all
-    ∙ piece_more o size w n (unused n) (omega arith)
-    ∙ ap₂ (λ a b. a ++ word o (unused n) b) (first_bits o w size n (omega arith) ∙ ap (word o n) (sym first)) (sym cut)
+    let all : 8 * length bs ≡ n + padding_bits n = omega arith in
+    let two : bits o bs ≡ word o n f ++ word o (padding_bits n) q =
+    sym (prefix_bits o bs z) ∙ ap (take (8 * length bs)) (sym is) ∙ ap (λ k. take k (word o size w)) all
+    ∙ piece_more o size w n (padding_bits n) (omega arith)
+    ∙ ap₂ (λ a b. a ++ word o (padding_bits n) b) (first_bits o w size n (omega arith) ∙ ap (word o n) (sym first)) (sym cut)
     in
-    let front_is : word o (done + n) v ≡ word o done acc ++ word o n f = ap (word o (done + n)) put
+    let prefix_is : word o (done + n) v ≡ word o done acc ++ word o n f = ap (word o (done + n)) put
     ∙ put_word o acc done f n below f_below in
     record {
       bytes = bs;
@@ -71,7 +71,7 @@ takes_bits o done acc n size w f v q bs z old new below small len fits h is firs
       refusals = h.refusals;
       references = h.references;
       word = ap (λ x. word o done acc ++ x) two ∙ sym (append_assoc (word o done acc) (word o n f)
-          (word o (unused n) q)) ∙ ap (λ x. x ++ word o (unused n) q) (sym front_is);
+          (word o (padding_bits n) q)) ∙ ap (λ x. x ++ word o (padding_bits n) q) (sym prefix_is);
       below = subst (λ x. x < 2 ^ (done + n)) (sym put) (put_below o acc done f n below f_below);
     }
 

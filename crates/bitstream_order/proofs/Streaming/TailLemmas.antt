@@ -5,18 +5,18 @@ use Rattle.std.proofs.lemmas.List.{length-drop, length-take-le}
 use Rattle.bitstream_order.specs.Streaming.Tail.{IsTail}
 
 -- bytes behind some others are the last of both
-behind : (front bytes : List ℕ) → IsTail bytes (front ++ bytes)
-behind front bytes =
-    let size : length (front ++ bytes) - length bytes ≡ length front = omega (arith, length-append front bytes) in
-    sym (ap (λ k. take k (front ++ bytes) ++ bytes) size ∙ ap (λ xs. xs ++ bytes) (take-append_seam front bytes))
+behind : (prefix bytes : List ℕ) → IsTail bytes (prefix ++ bytes)
+behind prefix bytes =
+    let size : length (prefix ++ bytes) - length bytes ≡ length prefix = omega (arith, length-append prefix bytes) in
+    sym (ap (λ k. take k (prefix ++ bytes) ++ bytes) size ∙ ap (λ xs. xs ++ bytes) (take-append_seam prefix bytes))
 
 pub tail_part : (n : ℕ) (bytes all back : List ℕ) → IsTail bytes all → back ≡ drop n bytes → IsTail back all
 tail_part n bytes all back tail cut =
-    let front = take (length all - length bytes) all in
-    let parts : (front ++ take n bytes) ++ back ≡ all =
-    ap (λ xs. (front ++ take n bytes) ++ xs) cut ∙ append_assoc front (take n bytes) (drop n bytes)
-    ∙ ap (λ xs. front ++ xs) (take-append-drop n bytes) ∙ sym tail in
-    subst (λ xs. IsTail back xs) parts (behind (front ++ take n bytes) back)
+    let prefix = take (length all - length bytes) all in
+    let parts : (prefix ++ take n bytes) ++ back ≡ all =
+    ap (λ xs. (prefix ++ take n bytes) ++ xs) cut ∙ append_assoc prefix (take n bytes) (drop n bytes)
+    ∙ ap (λ xs. prefix ++ xs) (take-append-drop n bytes) ∙ sym tail in
+    subst (λ xs. IsTail back xs) parts (behind (prefix ++ take n bytes) back)
 
 pub none_left : (n : ℕ) (bytes back : List ℕ) → bytes ≡ [] → back ≡ drop n bytes → back ≡ []
 none_left n bytes back none cut = cut ∙ ap (λ xs. drop n xs) none ∙ drop-nil n
@@ -32,16 +32,16 @@ none_past (suc k) bytes ended =
 pub behind_place : (past : ℕ) (bytes all : List ℕ) → IsTail bytes all → (0 < past → bytes ≡ [])
     → drop ((length all - length bytes) + past) all ≡ bytes
 behind_place past bytes all tail ended =
-    let front = take (length all - length bytes) all in
-    let size : length front ≡ length all - length bytes =
+    let prefix = take (length all - length bytes) all in
+    let size : length prefix ≡ length all - length bytes =
     length-take-le (length all - length bytes) all (omega arith) in
-    ap₂ (λ n xs. drop (n + past) xs) (sym size) tail ∙ drop-append-add front bytes past ∙ none_past past bytes ended
+    ap₂ (λ n xs. drop (n + past) xs) (sym size) tail ∙ drop-append-add prefix bytes past ∙ none_past past bytes ended
 
 -- behind the first of the last bytes the place is as many further on
 pub place_behind : (n past : ℕ) (bytes all back : List ℕ) → IsTail bytes all → back ≡ drop n bytes → n ≤ length bytes
     → (length all - length back) + past ≡ ((length all - length bytes) + past) + n
 place_behind n past bytes all back tail cut enough =
-    let front = take (length all - length bytes) all in
-    let whole : length all ≡ length front + length bytes = ap length tail ∙ length-append front bytes in
+    let prefix = take (length all - length bytes) all in
+    let whole : length all ≡ length prefix + length bytes = ap length tail ∙ length-append prefix bytes in
     let left : length back ≡ length bytes - n = ap length cut ∙ length-drop n bytes in
     omega arith

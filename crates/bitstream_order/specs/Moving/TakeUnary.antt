@@ -1,4 +1,4 @@
--- What is taken from a port up to a stop bit.
+-- The bits that are taken from a port up to a stop bit.
 use Rattle.std.specs.Prelude.{◌≡◌, ℕ, ◌+◌, ◌^◌, ◌<◌, ◌++◌, Bool, not, List, [], ◌∷◌, length, replicate, Option, Some, None, Result, Ok, Err}
 use Rattle.std.specs.Io.KnownBytes.{Consumes}
 use Rattle.bitstream_count.specs.declared.error.Error.{Error}
@@ -14,7 +14,7 @@ abbrev pub FetchesByte : (Refusal → Type 0) → PortState → Result ℕ Error
 FetchesByte may old (Ok byte) new = Fetched old (byte ∷ []) new
 FetchesByte may old (Err error) new = FetchRefused may error old 1 new
 
--- From a port with the bits x in front of it to one with the bits y: the bits w between them were taken.
+-- From a port with the bits x before it to one with the bits y: the bits w between them were taken.
 pub record TakesBetween (o : Order) (x : List Bool) (old : PortState) (w y : List Bool) (new : PortState) : Type 0 where
   pub bytes : List ℕ
   pub loses : Consumes old.bytes new.bytes bytes
@@ -23,7 +23,7 @@ pub record TakesBetween (o : Order) (x : List Bool) (old : PortState) (w y : Lis
   pub references : new.references ≡ old.references
   pub word : x ++ bits o bytes ≡ w ++ y
 
--- a run was too long: its 2^32 bits were taken, and fewer than 8 bits are left behind them
+-- a run was too long: its 2^32 bits were taken, and fewer than 8 bits are left after them
 pub record TakesLongUnary (o : Order) (stop : Bool) (x : List Bool) (old new : PortState) : Type 0 where
   pub count : ℕ
   pub long : count ≡ 2 ^ 32
@@ -31,7 +31,7 @@ pub record TakesLongUnary (o : Order) (stop : Bool) (x : List Bool) (old new : P
   pub few : length left < 8
   pub takes : TakesBetween o x old (replicate count (not stop)) left new
 
--- a byte was refused behind bits that are not the stop bit
+-- a byte was refused after bits that are not the stop bit
 pub record RefusesUnary (may : Refusal → Type 0) (o : Order) (stop : Bool) (x : List Bool) (old : PortState)
     (error : Error) (new : PortState) : Type 0 where
   pub count : ℕ
@@ -40,8 +40,8 @@ pub record RefusesUnary (may : Refusal → Type 0) (o : Order) (stop : Bool) (x 
   pub takes : TakesBetween o x old (replicate count (not stop)) [] mid
   pub refused : FetchRefused may error mid 1 new
 
--- A unary read with the bits x in front: its word was taken, and the bits behind it are left; or the run was too long;
--- or a byte was refused.
+-- A unary read, with the bits x before the port. Its word was taken, and the bits after it are left; or the run
+-- was too long; or a byte was refused.
 abbrev pub TakesUnary : (Refusal → Type 0) → Order → Bool → List Bool → PortState → Result (Option TakenUnary) Error
     → PortState → Type 0
 TakesUnary may o stop x old (Ok (Some r)) new =

@@ -1,10 +1,11 @@
--- What a stream tells that a function borrows.
+-- The properties of a stream that a function borrows.
 use Rattle.std.specs.Prelude.{◌∷◌}
 use Rattle.bitstream_order.specs.Reference.{by_name}
 use Rattle.bitstream_order.specs.Streams.{InputStream, OutputStream}
 use Rattle.bitstream_order.specs.declared.streams.lent.Lent.{Lent}
 
--- a source that is lent tells what the one behind the reference tells, and is reached through the reference too
+-- a borrowed source has the properties of the source that the reference points to, and is reached through the
+-- reference too
 abbrev pub lent_input : {S : Type 0} → InputStream S → InputStream (Lent S)
 lent_input I = record {
   remaining = λ lent. I.remaining lent.at.now;
@@ -13,7 +14,7 @@ lent_input I = record {
   takes = λ before count after. I.takes before.at.now count after.at.now;
 }
 
--- the same of a target
+-- the same for a target
 abbrev pub lent_output : {S : Type 0} → OutputStream S → OutputStream (Lent S)
 lent_output O = record {
   contents = λ lent. O.contents lent.at.now;

@@ -1,4 +1,4 @@
--- How bytes in memory are read, and their places.
+-- Reads of bytes in memory, and their positions.
 use Rattle.std.specs.Prelude.{◌≡◌, ℕ, ℤ, pos, ◌+◌, ◌-◌, ◌<◌, ◌+ℤ◌, List, [], length, Option, Some}
 use Rattle.std.specs.Int.{FitsUnsigned, w64}
 use Rattle.std.specs.declared.io.ErrorKind.{ErrorKind}
@@ -16,6 +16,10 @@ slice_remaining s = Some s.bytes.now
 abbrev pub slice_bytes : Slice → List ℕ
 slice_bytes s = s.all.now
 
+-- the bytes that are left
+abbrev pub slice_left : Slice → List ℕ
+slice_left s = s.bytes.now
+
 -- the place in bytes, which may lie past the end
 abbrev pub slice_place : Slice → ℕ
 slice_place s = (length s.all.now - length s.bytes.now) + s.past
@@ -25,12 +29,12 @@ abbrev pub slice_refuses : Slice → ℕ → ErrorKind → Slice → Type 0
 slice_refuses before wanted kind after = (kind ≡ UnexpectedEof) × (length before.bytes.now < wanted)
     × (after ≡ before)
 
--- a request that took some bytes moved the place by as many, among the same bytes
+-- a request moved the place by the number of bytes that it took, among the same bytes
 abbrev pub slice_takes : Slice → ℕ → Slice → Type 0
 slice_takes before count after = (slice_bytes after ≡ slice_bytes before)
     × (slice_place after ≡ slice_place before + count)
 
--- what bytes in memory tell as a source
+-- bytes in memory as a source
 abbrev pub slice_stream : InputStream Slice
 slice_stream = record {
   remaining = slice_remaining;
@@ -39,7 +43,7 @@ slice_stream = record {
   takes = slice_takes;
 }
 
--- the byte that is meant, of bytes of this length that stand at this place
+-- the position that a seek means, for bytes of this length at this place
 abbrev pub byte_meant : ℕ → ℕ → SeekFrom → ℤ
 byte_meant place len (Start n) = pos n
 byte_meant place len (End offset) = pos len +ℤ offset

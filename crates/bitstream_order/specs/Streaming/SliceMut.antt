@@ -1,4 +1,4 @@
--- How bytes in memory are written.
+-- Writes to bytes in memory.
 use Rattle.std.specs.Prelude.{◌≡◌, ℕ, ◌+◌, ◌<◌, List, [], ◌∷◌, ◌++◌, length, take, drop, Option, Some}
 use Rattle.std.specs.Borrow.{GName}
 use Rattle.std.specs.declared.io.ErrorKind.{ErrorKind}
@@ -11,11 +11,11 @@ use Rattle.bitstream_order.specs.declared.streams.slice_mut.SliceMut.{SliceMut}
 abbrev pub written_bytes : SliceMut → List ℕ
 written_bytes s = take s.written s.bytes.now
 
--- the same, as what a target tells of its bytes
+-- the bytes of a vector, as the known contents of a target
 abbrev pub written_contents : SliceMut → Option (List ℕ)
 written_contents s = Some (written_bytes s)
 
--- how many bytes there are, written or free
+-- the number of bytes, written or free
 abbrev pub slice_capacity : SliceMut → ℕ
 slice_capacity s = length s.bytes.now
 
@@ -31,7 +31,7 @@ slice_was s = s.was.list
 abbrev pub slice_name : SliceMut → GName
 slice_name s = s.bytes.ghost_name
 
--- the reference to the bytes, with what they were
+-- the reference to the bytes, with their old values
 abbrev pub slice_reference : SliceMut → Reference
 slice_reference s = to_slice (slice_name s) (slice_was s)
 
@@ -46,7 +46,7 @@ abbrev pub slice_refuses_write : SliceMut → ℕ → ErrorKind → SliceMut →
 slice_refuses_write before wanted kind after = (kind ≡ WriteZero)
     × (slice_capacity before < length (written_bytes before) + wanted) × (after ≡ before)
 
--- what bytes in memory tell as a target: a flush changes nothing
+-- bytes in memory as a target: a flush changes nothing
 abbrev pub slice_mut_stream : OutputStream SliceMut
 slice_mut_stream = record {
   contents = written_contents;

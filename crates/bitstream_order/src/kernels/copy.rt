@@ -11,8 +11,8 @@ fn copy_all<const N: usize>(to: &mut [u8], from: &[u8])
     to[..N].copy_from_slice(&from[..N]);
 }
 
-/// Copies bytes. Up to 16, as many as a word may have, are copied by a constant length, so without
-/// a call.
+/// Copies bytes. Up to 16 bytes, the most that a word has, are copied with a constant length, so
+/// without a call.
 #[inline(always)]
 pub(crate) fn copy(to: &mut [u8], from: &[u8])
     requires { length to.old ≡ length from.now }
@@ -39,17 +39,15 @@ pub(crate) fn copy(to: &mut [u8], from: &[u8])
     }
 }
 
-/// Copies the first `count` bytes to the front of a buffer, if there are so many, and returns whether
-/// there are. The rest of the buffer is unspecified: it may be overwritten, because a copy of constant
-/// length is faster.
+/// Copies the first `count` bytes to the start of a buffer, if there are `count`, and returns true
+/// if there are. The rest of the buffer is unspecified: it may be overwritten, because a copy of
+/// constant length is faster.
 #[inline(always)]
-pub(crate) fn copy_front(to: &mut [u8], from: &[u8], count: usize) -> bool
+pub(crate) fn copy_prefix(to: &mut [u8], from: &[u8], count: usize) -> bool
     requires { count ≤ length to.old }
-    // The buffer keeps its length.
     ensures len { length to.new ≡ length to.old }
-    // Answers `true` exactly if there are `count` bytes.
     ensures enough { IsTrue result ↔ (count ≤ length from.now) }
-    // If it does, the buffer begins with the first `count` bytes.
+    // If there are enough, the buffer begins with the first `count` bytes.
     ensures copied { IsTrue result → take count to.new ≡ take count from.now }
 {
     // There are enough bytes for the whole buffer, whose length is mostly a constant.

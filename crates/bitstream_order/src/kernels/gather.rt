@@ -2,7 +2,7 @@
 ghost use Rattle.std.specs.Prelude.{◌≡◌, ℕ, ◌+◌, ◌^◌, ◌<◌, ◌≤◌};
 ghost use Rattle.bitstream_order.specs.Refusal.{MayRefuseRead};
 ghost use Rattle.bitstream_order.specs.Port.{source_state, requests_count};
-ghost use Rattle.bitstream_order.specs.Moving.Gather.{TakesBits, unused, seen};
+ghost use Rattle.bitstream_order.specs.Moving.Gather.{TakesBits, padding_bits, result_map};
 
 use crate::order::Endianness;
 use crate::port::Port;
@@ -13,14 +13,14 @@ use bitstream_number::number::{Numeric, Primitive, UnsignedInteger};
 /// Returns the number of padding bits (0 to 7) when n bits are stored in whole bytes.
 #[inline(always)]
 pub fn unused_bits(n: u32) -> u32
-    ensures { result ≡ unused n }
+    ensures { result ≡ padding_bits n }
 {
     (8 - n % 8) % 8
 }
 
-/// Takes the next n bits of the stream by one request, for their bytes. Returns the number of the
-/// `done` bits of `acc` and then these, and a byte whose first bits are those left of the last
-/// byte. `constant` tells whether n is known as the program is compiled (see [`Port::fetch_front`]).
+/// Takes the next n bits of the stream by one request, for their bytes. Returns the number whose
+/// word is the `done` bits of `acc` and then these n bits, and a byte whose first bits are the rest
+/// of the last byte. `constant` is true if n is known at compile time (see [`Port::fetch_prefix`]).
 ///
 /// # Errors
 ///
@@ -36,23 +36,23 @@ pub fn take_bits<S: Source, E: Endianness, U: UnsignedInteger>(
     requires below { U.value acc < 2 ^ done }
     requires some { 1 ≤ n }
     requires room { done + n ≤ U.BITS_SIZE }
-    // The next n bits of the stream follow the `done` bits, and those left of the last byte are
-    // answered beside. Or the request is refused.
+    // The next n bits of the stream follow the `done` bits, and the rest of the last byte is
+    // returned too. Or the request is refused.
     ensures takes { TakesBits (MayRefuseRead S.stream) E.order done (U.value acc) n
-        (source_state S.stream port.old) (seen (λ p. (U.value p.0, p.1)) result)
+        (source_state S.stream port.old) (result_map (λ p. (U.value p.0, p.1)) result)
         (source_state S.stream port.new) }
-    // Exactly one request is made, whether it is refused or not.
     ensures requests { requests_count port.new ≡ requests_count port.old + 1 }
 {
     let mut bytes = U::buffer();
     // Only the bytes that hold these bits are asked for.
     let count = (n + 7) / 8;
-    match port.fetch_front(U::as_bytes_mut(&mut bytes), count as usize, constant) {
+    match port.fetch_prefix(U::as_bytes_mut(&mut bytes), count as usize, constant) {
         Ok(()) => {
-            // The bytes as one value: its first n bits are the word, and those behind them are left.
+            // The bytes as one value: its first n bits are the word, and the bits after them are
+            // left.
             let value = E::of_bytes::<U>(bytes);
             let left = E::byte_behind(value, n);
-            Ok((E::put(acc, done, E::front(value, n), n), left))
+            Ok((E::put(acc, done, E::prefix(value, n), n), left))
         }
         Err(error) => Err(error),
     }

@@ -3,7 +3,7 @@ ghost use Rattle.std.specs.Prelude.{◌≡◌, ℕ, ◌+◌, ◌^◌, ◌<◌, �
 ghost use Rattle.bitstream_order.specs.Refusal.{MayRefuseWrite};
 ghost use Rattle.bitstream_number.specs.Word.{word};
 ghost use Rattle.bitstream_order.specs.Port.{target_state, requests_count};
-ghost use Rattle.bitstream_order.specs.Moving.Send.{SendsFront};
+ghost use Rattle.bitstream_order.specs.Moving.Send.{SendsPrefix};
 
 use crate::order::Endianness;
 use crate::port::Port;
@@ -11,14 +11,14 @@ use crate::streams::target::Target;
 use bitstream_count::error::Error;
 use bitstream_number::number::{Numeric, Primitive, UnsignedInteger};
 
-/// Sends the whole bytes that a queue of bits and then the n bits of a value make, by one request.
-/// Returns how many of the n bits were sent: all but fewer than 8.
+/// Sends the whole bytes of a queue of bits and the n bits of a value after it, by one request.
+/// Returns the number of the n bits that were sent: all but fewer than 8.
 ///
 /// # Errors
 ///
 /// As [`Port::send`]. None of these bits is counted as sent then.
 #[inline(always)]
-pub fn send_front<T: Target, E: Endianness, U: UnsignedInteger>(
+pub fn send_prefix<T: Target, E: Endianness, U: UnsignedInteger>(
     port: &mut Port<T>,
     queue: u8,
     queued: u32,
@@ -29,22 +29,21 @@ pub fn send_front<T: Target, E: Endianness, U: UnsignedInteger>(
     requires small { queue < 2 ^ queued }
     requires full { 8 ≤ queued + n }
     requires room { n ≤ U.BITS_SIZE }
-    // The queue and as many first bits of the word as answered are sent, or the request is refused.
-    ensures sends { SendsFront (MayRefuseWrite T.stream) E.order
+    // The queue is sent, and then the number of bits of the word that the result says; or the
+    // request is refused.
+    ensures sends { SendsPrefix (MayRefuseWrite T.stream) E.order
         (word E.order queued queue) (word E.order n (U.value value))
         (target_state T.stream port.old) result (target_state T.stream port.new) }
-    // If it succeeds, the answer is at most n.
     ensures within { IfOk result (λ done. done ≤ n) }
     // If it succeeds, fewer than 8 of the n bits are left.
     ensures rest { IfOk result (λ done. n < done + 8) }
-    // Exactly one request is made, whether it is refused or not.
     ensures requests { requests_count port.new ≡ requests_count port.old + 1 }
 {
     // The queue and then the word, as the first bits of one value. Its first bytes are the full ones.
     let bytes = E::to_bytes(E::behind(queue, queued, E::to_front(value, n)));
     let count = (queued + n) / 8;
     match port.send(&U::as_bytes(&bytes)[..count as usize]) {
-        // Of the bits sent, the first ones were the queue's.
+        // The first of the bits sent were the queue's.
         Ok(()) => Ok(8 * count - queued),
         Err(error) => Err(error),
     }

@@ -1,4 +1,4 @@
-//! Shifts bytes behind a queue of bits.
+//! Shifts bytes to make room for queued bits before them.
 ghost use Rattle.std.specs.Prelude.{◌≡◌, ◌+◌, ◌-◌, ◌^◌, ◌<◌, ◌≤◌, length, take, drop};
 ghost use Rattle.bitstream_number.specs.Word.{bits};
 ghost use Rattle.bitstream_order.specs.Moving.Shift.{Shifts};
@@ -6,10 +6,10 @@ ghost use Rattle.bitstream_order.specs.Moving.Shift.{Shifts};
 use crate::order::Endianness;
 use bitstream_number::number::{Numeric, Primitive, UnsignedInteger};
 
-/// Shifts bytes in place behind a queue of bits, a value of type U at a time, and leaves the last
-/// bytes, which are fewer than U has. Returns how many bytes were shifted, and the bits that are
-/// left over, as many as were queued. Each turn carries the whole value of the turn before, of
-/// which the last bits count.
+/// Prepends the queued bits to bytes in place, one value of type U at a time, and leaves the last
+/// bytes, fewer than a U has. Returns the number of bytes shifted, and the bits left over, whose
+/// number is `queued`. Each iteration carries the whole value of the iteration before; only its
+/// last bits count.
 #[inline(always)]
 fn shift_values<E: Endianness, U: UnsignedInteger>(
     queue: u8,
@@ -22,18 +22,16 @@ fn shift_values<E: Endianness, U: UnsignedInteger>(
     // The queue and the old bits of the shifted bytes are their new bits and the bits left over.
     ensures shifts { Shifts E.order queued queue (bits E.order (take result.0 bytes.old))
         (bits E.order (take result.0 bytes.new)) result.1 }
-    // The bits left over are as many as were queued.
+    // The bits left over are `queued` bits.
     ensures small { result.1 < 2 ^ queued }
-    // The bytes behind the shifted ones stay as they were.
     ensures rest { drop result.0 bytes.new ≡ drop result.0 bytes.old }
     // No more bytes are shifted than there are.
     ensures within { result.0 ≤ length bytes.old }
     // Fewer bytes than U has are left unshifted.
     ensures most { length bytes.old < result.0 + U.BYTES }
-    // The number of bytes stays the same.
     ensures len { length bytes.new ≡ length bytes.old }
 {
-    // The queue stands as the last bits of a value before the first one.
+    // The queue is the last bits of a value before the first one.
     let rest = U::BITS_SIZE - queued;
     let mut before = E::put(U::ZERO, rest, U::from_u8(queue), queued);
     let mut at = 0;
@@ -52,8 +50,8 @@ fn shift_values<E: Endianness, U: UnsignedInteger>(
     (at, E::cut(before, U::BITS_SIZE, rest, queued))
 }
 
-/// Shifts bytes in place behind a queue of bits, and returns the bits that are left over, as many
-/// as were queued.
+/// Prepends the queued bits to bytes in place, and returns the bits left over, whose number is
+/// `queued`.
 #[inline(always)]
 pub fn shift<E: Endianness>(queue: u8, queued: u32, bytes: &mut [u8]) -> u8
     requires some { 1 ≤ queued }
@@ -62,9 +60,8 @@ pub fn shift<E: Endianness>(queue: u8, queued: u32, bytes: &mut [u8]) -> u8
     // The queue and the old bits of the bytes are their new bits and the bits left over.
     ensures shifts { Shifts E.order queued queue (bits E.order bytes.old)
         (bits E.order bytes.new) result }
-    // The bits left over are as many as were queued.
+    // The bits left over are `queued` bits.
     ensures small { result < 2 ^ queued }
-    // The number of bytes stays the same.
     ensures len { length bytes.new ≡ length bytes.old }
 {
     let (at, left) = shift_values::<E, u64>(queue, queued, bytes);

@@ -27,19 +27,19 @@ fn fetch_byte<S: Source>(port: &mut Port<S>) -> Result<u8, Error>
     Ok(byte[0])
 }
 
-/// A unary word that was taken, and what is left of the byte that holds its stop bit.
+/// A unary word that was taken, and the rest of the byte that holds its stop bit.
 #[derive(Clone, Copy, Drop)]
 pub struct TakenUnary {
     /// The number of bits before the stop bit.
     pub count: u32,
-    /// A byte whose first bits are those left.
+    /// A byte whose first bits are the bits left.
     pub left: u8,
     /// The number of bits left.
     pub queued: u32,
 }
 
-/// Takes bits up to and with the first one that is `stop`: the first `queued` bits of a byte, and
-/// then those of the bytes of the stream, one byte a turn. Returns `None` if 2^32 bits come before
+/// Takes bits up to and including the first one that is `stop`: the first `queued` bits of a byte,
+/// and then the bits of the stream, one byte an iteration. Returns `None` if 2^32 bits come before
 /// any stop bit.
 ///
 /// # Errors
@@ -59,14 +59,15 @@ pub fn take_unary<S: Source, E: Endianness>(
     ensures takes { TakesUnary (MayRefuseRead S.stream) E.order stop
         (word E.order queued (first_part E.order queue 8 queued))
         (source_state S.stream port.old) result (source_state S.stream port.new) }
-    // If a word was taken, fewer than 8 bits are left behind it.
+    // If a word was taken, fewer than 8 bits are left after it.
     ensures few { IfOk result (λ answer. IfSome answer (λ run. run.queued < 8)) }
-    // Unless a request is refused, it takes one turn more than it fetches bytes.
+    // Unless a request is refused, it takes one iteration more than the number of bytes that it
+    // fetches.
     ensures turns { OnOk result (turns.new.count
         ≡ turns.old.count + (fetched_count port.new - fetched_count port.old) + 1) }
 {
-    // The first turn is the queue. The bits behind the queued ones mean nothing, so a stop bit there
-    // is none.
+    // The first iteration reads the queue. The bits after the queued ones mean nothing, so a stop
+    // bit there does not count.
     turns.add(1);
     let first = E::run_length(queue, stop);
     // The stop bit is in the queue, so no byte is needed.
@@ -88,7 +89,7 @@ pub fn take_unary<S: Source, E: Endianness>(
         let Some(more) = count.checked_add(lead) else {
             return Ok(None);
         };
-        // The stop bit is in this byte, and the bits behind it are left.
+        // The stop bit is in this byte, and the bits after it are left.
         if lead < 8 {
             return Ok(Some(TakenUnary {
                 count: more,

@@ -7,9 +7,10 @@ use std::alloc::{AllocError, Allocator};
 use std::io;
 use std::io::ErrorKind;
 
-/// A vector of bytes, which are written to its end. A request is refused if and only if the vector
-/// needs memory and gets none, always as `OutOfMemory`, and the bytes stay as they are then. So a
-/// writer over it knows what a refusal left, which std does not tell of a `Vec` that is written to.
+/// A vector of bytes, with writes appended to it. A request is refused if and only if the vector
+/// needs memory and gets none, always as `OutOfMemory`, and then the bytes are unchanged. So the
+/// state after a refusal is known to a writer over it. (std's contract does not state this for a
+/// `Vec` as a stream.)
 ///
 /// # Examples
 ///
@@ -29,7 +30,7 @@ pub struct Growing<A: Allocator> {
 impl<A: Allocator> Growing<A> {
     ghost use Rattle.bitstream_order.specs.Streaming.Growing.{growing_bytes};
 
-    /// Returns a target that writes behind the bytes of a vector.
+    /// Returns a target that appends to the bytes of a vector.
     pub fn new(bytes: Vec<u8, A>) -> Growing<A>
         ensures { growing_bytes result ≡ bytes.items }
     {
@@ -58,7 +59,7 @@ impl<A: Allocator> Growing<A> {
     }
 }
 
-/// Puts N bytes behind those of a vector.
+/// Appends N bytes to a vector.
 #[inline(always)]
 fn extend_by<const N: usize, A: Allocator>(
     vec: &mut Vec<u8, A>,
@@ -70,8 +71,8 @@ fn extend_by<const N: usize, A: Allocator>(
     vec.extend_from_slice(&bytes[..N])
 }
 
-/// Puts bytes behind those of a vector. Up to 8, as many as most words fill, are copied by a constant
-/// length, so without a call.
+/// Appends bytes to a vector. Up to 8 bytes, which is enough for most words, are copied with a
+/// constant length, so without a call.
 #[inline(always)]
 fn extend<A: Allocator>(vec: &mut Vec<u8, A>, bytes: &[u8]) -> Result<(), AllocError>
     ensures { IsExtended vec.old bytes.now result vec.new }

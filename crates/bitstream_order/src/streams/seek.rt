@@ -13,30 +13,31 @@ use std::io::{Read, Seek, SeekFrom};
 
 /// A source that can seek: any `Read + Seek`, or such a source that is [`Lent`].
 pub trait SeekSource: Source {
-    // The position in bytes, if the source tells it.
+    // The position in bytes, if it is known.
     ghost position: { Self → Option ℕ };
 
-    // All bytes from position 0 on, if the source tells them.
+    // All bytes from position 0 on, if they are known.
     ghost bytes: { Self → Option (List ℕ) };
 
-    // How a seek may be refused, and with which kind. Of a `Read + Seek` std tells nothing.
+    // The ways in which a seek may be refused, and the kinds. std's contract does not state this
+    // for a `Read + Seek`.
     ghost refuses_seek: { Self → SeekFrom → ErrorKind → Self → Type 0 };
 
     /// Seeks by one request, and returns the new position in bytes.
     ///
     /// # Errors
     ///
-    /// The source's own, as [`Seek::seek`] has them. The position stays as it was then.
+    /// The errors of [`Seek::seek`] of the source. The position is unchanged then.
     fn seek(&mut self, to: SeekFrom) -> io::Result<u64>
-        // If the source tells its position, that becomes the answer, or stays if the seek is
-        // refused. If it tells its bytes too, the answer is the place meant.
+        // If the source's position is known, it becomes the result, or stays if the seek is
+        // refused. If its bytes are known too, the result is the place meant.
         ensures moves { SeekMoves (position self.old) (position self.new)
             (bytes self.old) to result }
-        // All bytes of the source stay the same, if it tells them.
+        // All bytes of the source stay the same, if they are known.
         ensures bytes { Keeps (bytes self.old) (bytes self.new) }
         // The source is reached by the same references as before.
         ensures references { Self.stream.references self.new ≡ Self.stream.references self.old }
-        // An error is one by which the source says that it may refuse this seek.
+        // The source may refuse this seek by this error.
         ensures refused { IfErr result (λ e. refuses_seek self.old to (error_kind e) self.new) };
 }
 

@@ -4,15 +4,15 @@ ghost use Rattle.std.specs.Int.{FitsUnsigned, w64};
 ghost use Rattle.std.specs.Option.{SomeIff};
 ghost use Rattle.bitstream_order.specs.Streaming.Tail.{IsTail};
 
-use crate::kernels::copy::{copy, copy_front};
+use crate::kernels::copy::{copy, copy_prefix};
 use crate::streams::seek::SeekSource;
 use crate::streams::source::Source;
 use std::io;
 use std::io::{ErrorKind, SeekFrom};
 
-/// Bytes in memory, which are read from their front. A read is refused exactly if fewer bytes are
-/// left than it asks for: with `UnexpectedEof`, and without taking any. So the bytes alone decide
-/// what a reader over it answers. (Of a `&[u8]` that is read as a stream std does not tell this.)
+/// Bytes in memory, read from their start. A read is refused exactly if fewer bytes are left than
+/// it asks for: with `UnexpectedEof`, and without taking any. So the bytes alone decide the results
+/// of a reader over it. (std's contract does not state this for a `&[u8]` as a stream.)
 ///
 /// It seeks as std's `Cursor` does. A place past the end is allowed, and no byte is left there. A
 /// seek is refused exactly if its place is below 0 or above 2^64 - 1: with `InvalidInput`, and
@@ -29,10 +29,10 @@ use std::io::{ErrorKind, SeekFrom};
 /// ```
 #[derive(Drop)]
 pub struct Slice<'a> {
-    // Those left.
+    // The bytes left.
     bytes: &'a [u8],
     all: &'a [u8],
-    // How many bytes the place lies past the end.
+    // The number of bytes between the end and a place past it.
     past: u64,
     ghost tail: { IsTail bytes.now all.now },
     ghost ended: { 0 < past → bytes.now ≡ [] },
@@ -40,15 +40,14 @@ pub struct Slice<'a> {
 }
 
 impl<'a> Slice<'a> {
-    ghost use Rattle.bitstream_order.specs.Streaming.Slice.{byte_meant, slice_bytes, slice_place, slice_remaining};
+    ghost use Rattle.bitstream_order.specs.Streaming.Slice.{byte_meant, slice_bytes, slice_left, slice_place, slice_remaining};
 
     /// Returns a source of these bytes, at their start.
     pub fn new(bytes: &'a [u8]) -> Slice<'a>
         // All these bytes are left.
-        ensures bytes { result.bytes.now ≡ bytes.now }
+        ensures bytes { slice_left result ≡ bytes.now }
         // They are all its bytes, from place 0 on.
         ensures all { slice_bytes result ≡ bytes.now }
-        // It stands at place 0.
         ensures place { slice_place result ≡ 0 }
     {
         Slice {
@@ -87,15 +86,14 @@ impl<'a> Slice<'a> {
 
     /// Goes to a place in bytes.
     fn go_to(&mut self, place: u64)
-        // It stands at that place, even past the end.
+        // The place may be past the end.
         ensures place { slice_place self.new ≡ place }
-        // Its bytes are the same as before.
         ensures all { slice_bytes self.new ≡ slice_bytes self.old }
     {
         let all = self.all;
-        let front = place.min(all.len() as u64);
-        self.bytes = &all[front as usize..];
-        self.past = place - front;
+        let prefix = place.min(all.len() as u64);
+        self.bytes = &all[prefix as usize..];
+        self.past = place - prefix;
     }
 }
 
@@ -110,21 +108,21 @@ impl<'a> Source for Slice<'a> {
         if bytes.len() < buf.len() {
             return Err(io::Error::from(ErrorKind::UnexpectedEof));
         }
-        let (front, back) = bytes.split_at(buf.len());
-        copy(buf, front);
+        let (prefix, back) = bytes.split_at(buf.len());
+        copy(buf, prefix);
         self.bytes = back;
         Ok(())
     }
 
-    /// Copies as many bytes as the buffer holds, if there are so many, and takes the first `count`. If
-    /// that number is known as the program is compiled, it copies only these.
+    /// Copies the first bytes that fill the buffer, if there are enough, and takes the first
+    /// `count`. If `count` is known at compile time, it copies only these.
     #[inline(always)]
-    fn read_front(&mut self, buf: &mut [u8], count: usize, constant: bool) -> io::Result<()> {
+    fn read_prefix(&mut self, buf: &mut [u8], count: usize, constant: bool) -> io::Result<()> {
         if constant {
             return self.read_exact(&mut buf[..count]);
         }
         let bytes = self.bytes;
-        if !copy_front(buf, bytes, count) {
+        if !copy_prefix(buf, bytes, count) {
             return Err(io::Error::from(ErrorKind::UnexpectedEof));
         }
         let (_, rest) = bytes.split_at(count);

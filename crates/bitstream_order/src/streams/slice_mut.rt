@@ -7,11 +7,10 @@ use crate::streams::target::Target;
 use std::io;
 use std::io::ErrorKind;
 
-/// Bytes in memory, which are written from their front. Bytes that are not written yet stay as they
-/// were. A request is refused exactly if fewer bytes are free than it has: as `WriteZero`, and without
-/// writing any. So a program packs into a buffer of
-/// its own, with no allocator, and its writer fails for want of room alone. (Of a `&mut [u8]` that is
-/// written to as a stream std does not tell this.)
+/// Bytes in memory, written from their start. Bytes not yet written keep their values. A request is
+/// refused exactly if fewer bytes are free than it has: as `WriteZero`, and without writing any. So
+/// a program packs into a buffer of its own, with no allocator, and its writer fails only for want
+/// of room. (std's contract does not state this for a `&mut [u8]` as a stream.)
 ///
 /// # Examples
 ///
@@ -29,7 +28,7 @@ use std::io::ErrorKind;
 #[derive(Drop)]
 pub struct SliceMut<'a> {
     bytes: &'a mut [u8],
-    // How many of them are written.
+    // The number of bytes written.
     written: usize,
     // The bytes as they were at first.
     was: GhostBytes,
@@ -41,11 +40,10 @@ pub struct SliceMut<'a> {
 impl<'a> SliceMut<'a> {
     ghost use Rattle.bitstream_order.specs.Streaming.SliceMut.{slice_bytes, slice_capacity, slice_name, slice_was, written_bytes};
 
-    /// Returns a target that writes to these bytes, from their front.
+    /// Returns a target that writes to these bytes, from their first byte on.
     pub fn new(bytes: &'a mut [u8]) -> SliceMut<'a>
         // No byte is written yet.
         ensures written { written_bytes result ≡ [] }
-        // It can hold as many bytes as the slice has.
         ensures capacity { slice_capacity result ≡ length bytes.old }
         // The bytes of the slice are as they were.
         ensures bytes { slice_bytes result ≡ bytes.old }
@@ -69,7 +67,7 @@ impl<'a> SliceMut<'a> {
         &self.bytes[..self.written]
     }
 
-    /// Returns how many bytes are free.
+    /// Returns the number of free bytes.
     pub fn free(&self) -> usize
         ensures { result ≡ slice_capacity self.now - length (written_bytes self.now) }
     {

@@ -11,50 +11,52 @@ use std::io::Read;
 
 /// A source of bytes: any `Read`, or a source that is [`Lent`].
 pub trait Source {
-    // What the source tells: the bytes left, if it tells them; the references through which it is
-    // reached, which a request keeps; how it may refuse a request, and with which kind; and what a
-    // request that took bytes did besides. Of a `Read` std tells neither of the last two.
+    // The properties of the source: the bytes left, if they are known; the references through which
+    // it is reached, which a request keeps; the ways in which it may refuse a request, and the
+    // kinds; and the other effects of a request that took bytes. std's contract states neither of
+    // the last two for a `Read`.
     ghost stream: { InputStream Self };
 
     /// Fills the whole buffer by one request.
     ///
     /// # Errors
     ///
-    /// The source's own, as [`Read::read_exact`] has them. The source need not tell which bytes it
-    /// took then.
+    /// Reads bytes as [`Read::read_exact`] of the source does. After an error, the bytes that it
+    /// took may be unknown.
     fn read_exact(&mut self, buf: &mut [u8]) -> io::Result<()>
-        // If it succeeds, the buffer has taken the next bytes, if the source tells what is left.
+        // If it succeeds, the buffer has taken the next bytes, if the bytes left are known.
         ensures bytes { OnOk result (Consumes (stream.remaining self.old) (stream.remaining self.new) buf.new) }
-        // If it succeeds, it did what the source says of a request that takes so many bytes.
+        // If it succeeds, its effect is the one that the source states for a request of this
+        // length.
         ensures takes { OnOk result (stream.takes self.old (length buf.old) self.new) }
         // The source is reached by the same references as before.
         ensures references { stream.references self.new ≡ stream.references self.old }
-        // An error is one by which the source says that it may refuse a request for so many bytes.
+        // The source may refuse a request of this length by this error.
         ensures refused { IfErr result
             (λ e. stream.refuses self.old (length buf.old) (error_kind e) self.new) };
 
-    /// Fills the first `count` bytes of the buffer, which has as many or more, by one request, for these
-    /// bytes alone. The rest of the buffer is unspecified: a source in memory may fill it too, since a
-    /// copy of constant length is cheaper. `constant` tells whether `count` is a compile-time constant, and
-    /// changes speed only.
+    /// Fills the first `count` bytes of the buffer, which has at least `count`, by one request for
+    /// these bytes alone. The rest of the buffer is unspecified: a source in memory may fill it
+    /// too, since a copy of constant length is cheaper. `constant` is true if `count` is a
+    /// compile-time constant, and changes speed only.
     ///
     /// # Errors
     ///
     /// As [`read_exact`](Source::read_exact).
     #[inline(always)]
-    fn read_front(&mut self, buf: &mut [u8], count: usize, _constant: bool) -> io::Result<()>
+    fn read_prefix(&mut self, buf: &mut [u8], count: usize, _constant: bool) -> io::Result<()>
         requires { count ≤ length buf.old }
-        // If it succeeds, the buffer's front has taken the next `count` bytes, if the source tells
-        // what is left.
+        // If it succeeds, the first `count` bytes of the buffer are the next bytes, if the bytes
+        // left are known.
         ensures bytes { OnOk result
             (Consumes (stream.remaining self.old) (stream.remaining self.new) (take count buf.new)) }
-        // The buffer keeps its length.
         ensures len { length buf.new ≡ length buf.old }
-        // If it succeeds, it did what the source says of a request that takes so many bytes.
+        // If it succeeds, its effect is the one that the source states for a request of this
+        // length.
         ensures takes { OnOk result (stream.takes self.old count self.new) }
         // The source is reached by the same references as before.
         ensures references { stream.references self.new ≡ stream.references self.old }
-        // An error is one by which the source says that it may refuse a request for so many bytes.
+        // The source may refuse a request of this length by this error.
         ensures refused { IfErr result (λ e. stream.refuses self.old count (error_kind e) self.new) }
     {
         self.read_exact(&mut buf[..count])
@@ -84,7 +86,7 @@ impl<'a, S: Source> Source for Lent<'a, S> {
     }
 
     #[inline(always)]
-    fn read_front(&mut self, buf: &mut [u8], count: usize, constant: bool) -> io::Result<()> {
-        Source::read_front(&mut *self.at, buf, count, constant)
+    fn read_prefix(&mut self, buf: &mut [u8], count: usize, constant: bool) -> io::Result<()> {
+        Source::read_prefix(&mut *self.at, buf, count, constant)
     }
 }

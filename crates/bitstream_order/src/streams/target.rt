@@ -11,23 +11,24 @@ use std::io::Write;
 
 /// A target of bytes: any `Write`, or a target that is [`Lent`].
 pub trait Target {
-    // What the target tells: the bytes that it holds, if it tells them; the references through which
-    // it is reached, which a request keeps; how it may refuse a request, and with which kind; and
-    // what a flush that succeeded did. Of a `Write` std tells neither of the last two.
+    // The properties of the target: the bytes that it holds, if they are known; the references
+    // through which it is reached, which a request keeps; the ways in which it may refuse a
+    // request, and the kinds; and the effect of a flush that succeeded. std's contract states
+    // neither of the last two for a `Write`.
     ghost stream: { OutputStream Self };
 
     /// Writes all bytes by one request.
     ///
     /// # Errors
     ///
-    /// The target's own, as [`Write::write_all`] has them. The target need not tell which bytes
-    /// went then.
+    /// Writes bytes as [`Write::write_all`] of the target does. After an error, the bytes written
+    /// may be unknown.
     fn write_all(&mut self, bytes: &[u8]) -> io::Result<()>
-        // If it succeeds, the bytes stand behind those held before, if the target tells them.
+        // If it succeeds, the bytes are appended to the contents, if they are known.
         ensures bytes { OnOk result (Appends (stream.contents self.old) (stream.contents self.new) bytes.now) }
         // The target is reached by the same references as before.
         ensures references { stream.references self.new ≡ stream.references self.old }
-        // An error is one by which the target says that it may refuse a request of so many bytes.
+        // The target may refuse a request of this length by this error.
         ensures refused { IfErr result
             (λ e. stream.refuses self.old (length bytes.now) (error_kind e) self.new) };
 
@@ -38,13 +39,13 @@ pub trait Target {
     ///
     /// The target's own, as [`Write::flush`] has them.
     fn flush(&mut self) -> io::Result<()>
-        // The target holds the same bytes as before, if it tells them.
+        // The target holds the same bytes as before, if they are known.
         ensures bytes { Keeps (stream.contents self.old) (stream.contents self.new) }
-        // If it succeeds, the target did what it says that a flush does.
+        // If it succeeds, its effect is the one that the target states for a flush.
         ensures flushed { OnOk result (stream.flushes self.old self.new) }
         // The target is reached by the same references as before.
         ensures references { stream.references self.new ≡ stream.references self.old }
-        // An error is one by which the target says that it may refuse a request of no bytes.
+        // The target may refuse a request of no bytes by this error.
         ensures refused { IfErr result (λ e. stream.refuses self.old 0 (error_kind e) self.new) };
 }
 

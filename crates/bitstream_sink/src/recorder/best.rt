@@ -16,7 +16,7 @@ pub trait Recorder: BitWrite + Sized {
     // Nothing was recorded, and nothing refused.
     ghost is_empty: { Self → Type 0 };
 
-    /// Forgets what was recorded, and a failure.
+    /// Forgets the recorded bits, and a failure.
     fn begin_anew(&mut self)
         ensures { is_empty self.new };
 
@@ -31,8 +31,8 @@ pub trait Recorder: BitWrite + Sized {
     ///
     /// # Errors
     ///
-    /// Those of the function: the candidate stays as the function left it then, and this recorder is
-    /// lost.
+    /// The errors of the function: the candidate stays as the function left it then, and this
+    /// recorder is lost.
     final fn best<F, X>(self, candidate: &mut Self, f: X) -> Result<Self, F>
     where
         Self: Drop,

@@ -1,4 +1,4 @@
-//! What holds of recordings.
+//! The laws of recordings.
 //!
 //! Each function states a law by its contract, and has nothing to do.
 ghost use Rattle.std.specs.Prelude.{◌≡◌, ◌++◌, List, Bool, length};
@@ -12,10 +12,10 @@ use bitstream_order::order::Endianness;
 use bitstream_stream::write::BitWrite;
 use std::alloc::Allocator;
 
-/// What is appended to a recorder stands behind the bits that were recorded before, and the recorder's
-/// length is their number.
+/// Bits appended to a recorder follow the bits that were recorded before, and the recorder's length
+/// is their number.
 pub fn recordings_grow<N, E: Endianness, A: Allocator>()
-    // What is appended stands behind the bits that were recorded before.
+    // The bits appended follow the bits that were recorded before.
     ensures grow { (old new : BitRecorder N E A) (x : List Bool) →
         ⟦<BitRecorder<N, E, A> as BitWrite>⟧.sink.appends old x new
         → recorded_bits E.order new ≡ recorded_bits E.order old ++ x }

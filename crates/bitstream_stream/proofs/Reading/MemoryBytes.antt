@@ -10,32 +10,32 @@ use Rattle.bitstream_order.specs.Parts.{first_part, piece}
 use Rattle.bitstream_order.specs.Moving.Shift.{Shifts}
 use Rattle.bitstream_order.proofs.Moving.PieceLemmas.{first_bits}
 use Rattle.bitstream_stream.specs.Reading.Reads.{Reads, was_done}
-use Rattle.bitstream_stream.specs.Reading.ReadTable.{bytes_entry}
+use Rattle.bitstream_stream.specs.Reading.ReadTable.{bytes_decoder}
 use Rattle.bitstream_stream.specs.Reading.Memory.{rest_bits}
 use Rattle.bitstream_stream.specs.Reading.MemorySource.{memory_source}
 use Rattle.bitstream_stream.specs.Reading.MemoryTakes.{GoesOn, FailsAtEnd}
 use Rattle.bitstream_stream.specs.declared.read.slice_reader.SliceReader.{SliceReader}
 use Rattle.bitstream_stream.proofs.Reading.MemoryWindows.{bits-take}
-use Rattle.bitstream_stream.proofs.Reading.MemoryLemmas.{front_done, went_on, takes_refused}
+use Rattle.bitstream_stream.proofs.Reading.MemoryLemmas.{prefix_done, went_on, takes_refused}
 use Rattle.bitstream_stream.proofs.Reading.MemoryRuns.{first_parts}
 
 pub bytes_read : {E : Type 0} (o : Order) (n : ℕ) (made : List ℕ) (old new : SliceReader E) → old.failed ≡ false
     → AreBytes made → length made ≡ n → bits o made ≡ take (8 * n) (rest_bits o old.bytes.now old.bit)
-    → GoesOn (8 * n) old new → Reads (memory_source o) (bytes_entry o n) old (Ok made) new
-unfolding bytes_entry
+    → GoesOn (8 * n) old new → Reads (memory_source o) (bytes_decoder o n) old (Ok made) new
+unfolding bytes_decoder
 bytes_read {E = E} o n made old new fine are len is h =
     let s = memory_source {E = E} o in
     let w = take (8 * n) (rest_bits o old.bytes.now old.bit) in
     let size : length w ≡ 8 * n = ap (λ l. length l) (sym is) ∙ length-bits o made ∙ ap (λ k. 8 * k) len in
     let back : bytes_of o n w ≡ made =
     ap₂ (λ k l. bytes_of o k l) (sym len) (sym is) ∙ bytes_of-bits o made are in
-    was_done (front_done o (bytes_entry o n) (8 * n) (λ l. Ok (bytes_of o n l)) made w (s.state old) (s.state new)
+    was_done (prefix_done o (bytes_decoder o n) (8 * n) (λ l. Ok (bytes_of o n l)) made w (s.state old) (s.state new)
     (λ l. refl) size (ap Ok back) (went_on o (8 * n) old new fine h))
 
 pub bytes_refused : {E : Type 0} (o : Order) (n : ℕ) (old new : SliceReader E) → old.failed ≡ false
     → 8 * length old.bytes.now < old.bit + 8 * n → FailsAtEnd old new
-    → Reads (memory_source o) (bytes_entry o n) old (Err EndOfInput) new
-unfolding bytes_entry
+    → Reads (memory_source o) (bytes_decoder o n) old (Err EndOfInput) new
+unfolding bytes_decoder
 bytes_refused o n old new fine short h = takes_refused o (8 * n) (λ l. Ok (bytes_of o n l)) old new fine short h
 
 -- bytes at a boundary

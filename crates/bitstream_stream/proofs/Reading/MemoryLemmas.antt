@@ -8,18 +8,18 @@ use Rattle.std.proofs.Math.Seq.{take-add}
 use Rattle.bitstream_count.specs.declared.error.Error.TheVariants.{EndOfInput, Failed, RunTooLong}
 use Rattle.bitstream_count.specs.declared.error.Error.{Error}
 use Rattle.bitstream_count.specs.Unary.{unary, lead}
-use Rattle.bitstream_count.proofs.UnaryLemmas.{begins_unary, begins_others, others_long, short_front, read_unary-unary, front_is_unary, take_others, lead_le}
-use Rattle.bitstream_count.specs.Entry.{ReadEntry, TooFew, Takes, takes, word_front}
+use Rattle.bitstream_count.proofs.UnaryLemmas.{begins_unary, begins_others, others_long, short_prefix, read_unary-unary, prefix_is_unary, take_others, lead_le}
+use Rattle.bitstream_count.specs.Codec.{Decoder, Incomplete, Done, consume, word_prefix}
 use Rattle.bitstream_number.specs.Word.{Order, word, bits, number}
 use Rattle.bitstream_number.proofs.WordLemmas.{length-bits, bits-append, length-word, number-word}
 use Rattle.bitstream_order.specs.Refusal.{Refusal, TrueEnds}
 use Rattle.bitstream_order.specs.Streaming.Tail.{IsTail}
 use Rattle.bitstream_stream.specs.Reading.Reads.{ReaderState, Reads, ReadDone, Took, had_failed, was_done, was_refused, bits_left, failed_reader}
-use Rattle.bitstream_stream.specs.Reading.ReadTable.{unsigned_entry, unary_entry, skip_entry, align_entry, whole_bytes_entry}
+use Rattle.bitstream_stream.specs.Reading.ReadTable.{unsigned_decoder, unary_decoder, skip_decoder, align_decoder, whole_bytes_decoder}
 use Rattle.bitstream_stream.specs.Alignment.{to_boundary}
 use Rattle.bitstream_stream.specs.Reading.Reader.{new_reader_state}
-use Rattle.bitstream_stream.proofs.Reading.EntryLemmas.{word_front-some, word_front-none, word_needs}
-use Rattle.bitstream_stream.proofs.Reading.ReadsLemmas.{Took-too_long, Reads-chain-ok}
+use Rattle.bitstream_stream.proofs.Reading.CodecLemmas.{word_prefix-some, word_prefix-none, word_needs}
+use Rattle.bitstream_stream.proofs.Reading.ReadsLemmas.{Took-too_long, Reads-and_then-ok}
 use Rattle.bitstream_stream.proofs.Reading.TableLemmas.{unsigned-takes}
 use Rattle.bitstream_stream.specs.Reading.Memory.{held, rest_bits, taken_bits, memory_state, EndsInMemory}
 use Rattle.bitstream_stream.specs.Reading.MemoryState.{held_there, none_or_some}
@@ -48,14 +48,14 @@ parted o bytes bit n h g done bit2 h2 few there place last within =
     ap (bits o) (sym (take-append-drop (h + g) bytes)) ∙ bits-append o c (drop (h + g) bytes) in
     let rest : rest_bits o bytes bit ≡ drop bit whole ++ bits o (drop (h + g) bytes) =
     ap (drop bit) parts ∙ drop-append-le bit whole (bits o (drop (h + g) bytes)) (omega (arith, long)) in
-    let front : take n (rest_bits o bytes bit) ≡ take n (drop bit whole) =
+    let prefix : take n (rest_bits o bytes bit) ≡ take n (drop bit whole) =
     ap (take n) rest ∙ take-append-le n (drop bit whole) (bits o (drop (h + g) bytes))
     (omega (arith, long, length-drop bit whole)) in
     let back : rest_bits o (take h2 (drop done bytes)) bit2 ≡ drop n (drop bit whole) =
     ap (λ l. drop bit2 (bits o l)) (sym (drop-take done h2 bytes) ∙ ap (λ k. drop done (take k bytes)) last)
     ∙ ap (drop bit2) (bits-drop o done c (omega (arith, length-take-le (h + g) bytes there)))
     ∙ drop-drop bit2 (8 * done) whole ∙ ap (λ k. drop k whole) (sym place) ∙ sym (drop-drop n bit whole) in
-    left ∙ sym (take-append-drop n (drop bit whole)) ∙ ap₂ (λ x y. x ++ y) (sym front) (sym back)
+    left ∙ sym (take-append-drop n (drop bit whole)) ∙ ap₂ (λ x y. x ++ y) (sym prefix) (sym back)
 
 -- n bits are taken
 pub moved : (o : Order) (all bytes back : List ℕ) (bit n : ℕ) (failed : Bool) (refusals : List Refusal) → failed ≡ false
@@ -96,7 +96,7 @@ tail_le bytes all tail =
     let size = ap (λ l. length l) tail ∙ length-append (take (length all - length bytes) all) bytes in
     omega (arith, size)
 
--- a reader that goes on takes the bits in front
+-- a reader that goes on takes the first bits
 pub went_on : {E : Type 0} (o : Order) (n : ℕ) (old new : SliceReader E) → old.failed ≡ false → GoesOn n old new
     → Took o ((memory_source o).state old) (take n (rest_bits o old.bytes.now old.bit)) ((memory_source o).state new)
 went_on o n old new fine h =
@@ -106,7 +106,7 @@ went_on o n old new fine h =
 
 -- a word that was taken is a number that was read
 pub number_done : (o : Order) (size n v : ℕ) (s t : ReaderState) → n ≤ size → v < 2 ^ n → Took o s (word o n v) t
-    → ReadDone o (unsigned_entry o size n) s (Ok v) t
+    → ReadDone o (unsigned_decoder o size n) s (Ok v) t
 number_done o size n v s t le below h =
     rw (unsigned-takes o size n le) (record {
       fine = h.fine;
@@ -114,7 +114,7 @@ number_done o size n v s t le below h =
       decides = λ more.
           let len = length-word o n v in
           let value : number o (word o n v) ≡ v = number-word o n v ∙ mod-eq_of_lt below in
-          word_front-some n (λ w. Ok (number o w)) (word o n v) more len ∙ ap₂ (λ k x. Takes k (Ok x)) (sym len) value;
+          word_prefix-some n (λ w. Ok (number o w)) (word o n v) more len ∙ ap₂ (λ k x. Done k (Ok x)) (sym len) value;
       needs = word_needs n (λ w. Ok (number o w)) (word o n v) (length-word o n v);
       gone = h.gone;
       loses = h.loses;
@@ -129,7 +129,7 @@ number_done o size n v s t le below h =
     })
 
 pub number_read : {E : Type 0} (o : Order) (size n v : ℕ) (old new : SliceReader E) → old.failed ≡ false → n ≤ size
-    → TakesNumber o n v old new → Reads (memory_source o) (unsigned_entry o size n) old (Ok v) new
+    → TakesNumber o n v old new → Reads (memory_source o) (unsigned_decoder o size n) old (Ok v) new
 number_read o size n v old new fine le h =
     let k = memory_source o in
     was_done (number_done o size n v (k.state old) (k.state new) le h.below
@@ -159,17 +159,17 @@ rest_size o r = length-drop r.bit (bits o r.bytes.now) ∙ ap (λ k. k - r.bit) 
 pub memory_ends : TrueEnds EndsInMemory
 memory_ends refusal h = record { left = h.left; kind = h.kind; told = h.before; few = h.few }
 
--- a call that has no front of the bits left is refused
-pub refused : {E A : Type 0} (o : Order) (entry : ReadEntry A) (old new : SliceReader E) → old.failed ≡ false
-    → ((front back : List Bool) → front ++ back ≡ rest_bits o old.bytes.now old.bit
-    → entry.reads (taken_bits old.all.now old.bytes.now old.bit) front ≡ TooFew)
-    → FailsAtEnd old new → Reads (memory_source o) entry old (Err EndOfInput) new
-refused {E = E} o entry old new fine none h =
+-- a call that has no prefix of the bits left is refused
+pub refused : {E A : Type 0} (o : Order) (decoder : Decoder A) (old new : SliceReader E) → old.failed ≡ false
+    → ((prefix back : List Bool) → prefix ++ back ≡ rest_bits o old.bytes.now old.bit
+    → decoder.reads (taken_bits old.all.now old.bytes.now old.bit) prefix ≡ Incomplete)
+    → FailsAtEnd old new → Reads (memory_source o) decoder old (Err EndOfInput) new
+refused {E = E} o decoder old new fine none h =
     let s = (memory_source {E = E} o).state old in
     let ahead = bits_ahead o old.bytes.now old.bit old.few old.some in
     let queue = rest_bits o (take (held old.bit) old.bytes.now) old.bit in
     let is : s.queue ≡ queue = rw fine refl in
-    let first : entry.reads s.taken s.queue ≡ TooFew = rw is (none queue (bits o (drop (held old.bit) old.bytes.now)) ahead) in
+    let first : decoder.reads s.taken s.queue ≡ Incomplete = rw is (none queue (bits o (drop (held old.bit) old.bytes.now)) ahead) in
     was_refused (record {
       fine = fine;
       refusal = h.refusal;
@@ -193,34 +193,34 @@ refused {E = E} o entry old new fine none h =
 -- a reader that has too few bits for a word
 pub takes_refused : {E A : Type 0} (o : Order) (n : ℕ) (g : List Bool → Result A Error) (old new : SliceReader E)
     → old.failed ≡ false → 8 * length old.bytes.now < old.bit + n → FailsAtEnd old new
-    → Reads (memory_source o) (takes n g) old (Err EndOfInput) new
+    → Reads (memory_source o) (consume n g) old (Err EndOfInput) new
 takes_refused o n g old new fine short h =
     let there = held_there old.bytes.now old.bit old.few old.some in
     let within : old.bit ≤ 8 * length old.bytes.now = omega (arith, there, old.few) in
-    refused o (takes n g) old new fine
-    (λ front back parts.
-    let few = length-append front back in
+    refused o (consume n g) old new fine
+    (λ prefix back parts.
+    let few = length-append prefix back in
     let same = ap (λ l. length l) parts in
-    word_front-none n g front (omega (arith, short, few, same, within, rest_size o old))) h
+    word_prefix-none n g prefix (omega (arith, short, few, same, within, rest_size o old))) h
 
 pub word_refused : {E : Type 0} (o : Order) (size n : ℕ) (old new : SliceReader E) → old.failed ≡ false → n ≤ size
     → 8 * length old.bytes.now < old.bit + n → FailsAtEnd old new
-    → Reads (memory_source o) (unsigned_entry o size n) old (Err EndOfInput) new
+    → Reads (memory_source o) (unsigned_decoder o size n) old (Err EndOfInput) new
 word_refused o size n old new fine le short h =
     rw (unsigned-takes o size n le) (takes_refused o n (λ w. Ok (number o w)) old new fine short h)
 
 -- ---- bits, whatever they are
 
--- a word that was taken is the front of a call
-pub front_done : {A : Type 0} (o : Order) (entry : ReadEntry A) (n : ℕ) (g : List Bool → Result A Error) (a : A)
-    (w : List Bool) (s t : ReaderState) → ((bits : List Bool) → entry.reads s.taken bits ≡ word_front n g bits)
-    → length w ≡ n → g w ≡ Ok a → Took o s w t → ReadDone o entry s (Ok a) t
-front_done o entry n g a w s t is len answer h = record {
+-- a word that was taken is the prefix of a call
+pub prefix_done : {A : Type 0} (o : Order) (decoder : Decoder A) (n : ℕ) (g : List Bool → Result A Error) (a : A)
+    (w : List Bool) (s t : ReaderState) → ((bits : List Bool) → decoder.reads s.taken bits ≡ word_prefix n g bits)
+    → length w ≡ n → g w ≡ Ok a → Took o s w t → ReadDone o decoder s (Ok a) t
+prefix_done o decoder n g a w s t is len answer h = record {
   fine = h.fine;
   word = w;
   decides = λ more.
-      is (w ++ more) ∙ word_front-some n g w more len ∙ ap₂ (λ k x. Takes k x) (sym len) answer;
-  needs = λ front b back parts. is front ∙ word_needs n g w len front b back parts;
+      is (w ++ more) ∙ word_prefix-some n g w more len ∙ ap₂ (λ k x. Done k x) (sym len) answer;
+  needs = λ prefix b back parts. is prefix ∙ word_needs n g w len prefix b back parts;
   gone = h.gone;
   loses = h.loses;
   rest = t.queue;
@@ -238,38 +238,38 @@ word_length : {E : Type 0} (o : Order) (n : ℕ) (r : SliceReader E) → r.bit +
 word_length o n r there = length-take-le n (rest_bits o r.bytes.now r.bit) (omega (arith, rest_size o r))
 
 pub skipped : {E : Type 0} (o : Order) (n : ℕ) (old new : SliceReader E) → old.failed ≡ false → GoesOn n old new
-    → Reads (memory_source o) (skip_entry n) old (Ok tt) new
-unfolding skip_entry
+    → Reads (memory_source o) (skip_decoder n) old (Ok tt) new
+unfolding skip_decoder
 skipped o n old new fine h =
-    was_done (front_done o (skip_entry n) n (λ _. Ok tt) tt (take n (rest_bits o old.bytes.now old.bit))
+    was_done (prefix_done o (skip_decoder n) n (λ _. Ok tt) tt (take n (rest_bits o old.bytes.now old.bit))
     ((memory_source o).state old) ((memory_source o).state new) (λ bits. refl) (word_length o n old h.enough) refl
     (went_on o n old new fine h))
 
 pub skip_refused : {E : Type 0} (o : Order) (n : ℕ) (old new : SliceReader E) → old.failed ≡ false
     → 8 * length old.bytes.now < old.bit + n → FailsAtEnd old new
-    → Reads (memory_source o) (skip_entry n) old (Err EndOfInput) new
-unfolding skip_entry
+    → Reads (memory_source o) (skip_decoder n) old (Err EndOfInput) new
+unfolding skip_decoder
 skip_refused o n old new fine short h = takes_refused o n (λ _. Ok tt) old new fine short h
 
 pub skip_failed : {E : Type 0} (o : Order) (n : ℕ) (r : SliceReader E) → r.failed ≡ true
-    → Reads (memory_source o) (skip_entry n) r (Err Failed) r
-unfolding skip_entry
+    → Reads (memory_source o) (skip_decoder n) r (Err Failed) r
+unfolding skip_decoder
 skip_failed o n r failed = had_failed (record { failed = failed; answer = refl; same = refl })
 
 pub aligned : {E : Type 0} (o : Order) (n : ℕ) (old new : SliceReader E) → old.failed ≡ false → n ≡ (8 - old.bit) % 8
-    → GoesOn n old new → Reads (memory_source o) align_entry old (Ok tt) new
-unfolding align_entry
+    → GoesOn n old new → Reads (memory_source o) align_decoder old (Ok tt) new
+unfolding align_decoder
 aligned {E = E} o n old new fine is h =
     let p = ((memory_source {E = E} o).state old).taken in
     let gap : to_boundary p ≡ n = omega (arith, is, old.few) in
-    was_done (front_done o align_entry n (λ _. Ok tt) tt (take n (rest_bits o old.bytes.now old.bit))
+    was_done (prefix_done o align_decoder n (λ _. Ok tt) tt (take n (rest_bits o old.bytes.now old.bit))
     ((memory_source o).state old) ((memory_source o).state new)
-    (λ bits. ap (λ k. word_front k (λ _. Ok tt) bits) gap) (word_length o n old h.enough) refl
+    (λ bits. ap (λ k. word_prefix k (λ _. Ok tt) bits) gap) (word_length o n old h.enough) refl
     (went_on o n old new fine h))
 
 pub align_failed : {E : Type 0} (o : Order) (r : SliceReader E) → r.failed ≡ true
-    → Reads (memory_source o) align_entry r (Ok tt) r
-unfolding align_entry
+    → Reads (memory_source o) align_decoder r (Ok tt) r
+unfolding align_decoder
 align_failed o r failed = had_failed (record { failed = failed; answer = refl; same = refl })
 
 -- how many bits are left
@@ -337,8 +337,8 @@ new_state o bytes =
 -- a run that ends is taken, with its stop bit
 pub run_read : {E : Type 0} (o : Order) (stop : Bool) (k : ℕ) (old new : SliceReader E) → old.failed ≡ false
     → k ≡ lead stop (rest_bits o old.bytes.now old.bit) → k < 2 ^ 32 → GoesOn (k + 1) old new
-    → Reads (memory_source o) (unary_entry stop) old (Ok k) new
-unfolding unary_entry
+    → Reads (memory_source o) (unary_decoder stop) old (Ok k) new
+unfolding unary_decoder
 run_read {E = E} o stop k old new fine is small h =
     let b = rest_bits o old.bytes.now old.bit in
     let s = memory_source {E = E} o in
@@ -346,13 +346,13 @@ run_read {E = E} o stop k old new fine is small h =
     let found : lead stop b < length b = omega (arith, is, rest_size o old) in
     let next : k + 1 ≡ suc (lead stop b) = omega (arith, is) in
     let word : take (k + 1) b ≡ unary stop k =
-    ap (λ n. take n b) next ∙ front_is_unary stop b found ∙ ap (unary stop) (sym is) in
+    ap (λ n. take n b) next ∙ prefix_is_unary stop b found ∙ ap (unary stop) (sym is) in
     let t = subst (λ w. Took o (s.state old) w (s.state new)) word (went_on o (k + 1) old new fine h) in
     was_done (record {
       fine = fine;
       word = unary stop k;
       decides = λ more. read_unary-unary stop k more small;
-      needs = λ front c back parts. begins_unary stop k front c back small parts;
+      needs = λ prefix c back parts. begins_unary stop k prefix c back small parts;
       gone = t.gone;
       loses = t.loses;
       rest = (s.state new).queue;
@@ -368,59 +368,59 @@ run_read {E = E} o stop k old new fine is small h =
 -- a run that does not end is refused
 pub run_refused : {E : Type 0} (o : Order) (stop : Bool) (k : ℕ) (old new : SliceReader E) → old.failed ≡ false
     → k ≡ lead stop (rest_bits o old.bytes.now old.bit) → k < 2 ^ 32 → 8 * length old.bytes.now ≤ old.bit + k
-    → FailsAtEnd old new → Reads (memory_source o) (unary_entry stop) old (Err EndOfInput) new
-unfolding unary_entry
+    → FailsAtEnd old new → Reads (memory_source o) (unary_decoder stop) old (Err EndOfInput) new
+unfolding unary_decoder
 run_refused o stop k old new fine is small none h =
-    refused o (unary_entry stop) old new fine
-    (λ front back parts.
-    let few = length-append front back in
+    refused o (unary_decoder stop) old new fine
+    (λ prefix back parts.
+    let few = length-append prefix back in
     let same = ap (λ l. length l) parts in
     let run = ap (lead stop) parts in
     let size = rest_size o old in
-    let all : length front ≤ lead stop (front ++ back) = omega (arith, is, none, few, same, run, size) in
-    let most : lead stop (front ++ back) ≤ length (front ++ back) = lead_le stop (front ++ back) in
-    short_front stop front back all (omega (arith, is, small, all, run))) h
+    let all : length prefix ≤ lead stop (prefix ++ back) = omega (arith, is, none, few, same, run, size) in
+    let most : lead stop (prefix ++ back) ≤ length (prefix ++ back) = lead_le stop (prefix ++ back) in
+    short_prefix stop prefix back all (omega (arith, is, small, all, run))) h
 
 pub run_failed : {E : Type 0} (o : Order) (stop : Bool) (r : SliceReader E) → r.failed ≡ true
-    → Reads (memory_source o) (unary_entry stop) r (Err Failed) r
-unfolding unary_entry
+    → Reads (memory_source o) (unary_decoder stop) r (Err Failed) r
+unfolding unary_decoder
 run_failed o stop r failed = had_failed (record { failed = failed; answer = refl; same = refl })
 
 -- a run that is too long
 pub run_long : {E : Type 0} (o : Order) (stop : Bool) (old mid new : SliceReader E) → old.failed ≡ false
     → 2 ^ 32 ≤ lead stop (rest_bits o old.bytes.now old.bit) → GoesOn (2 ^ 32) old mid
     → (memory_source o).state new ≡ failed_reader ((memory_source o).state mid)
-    → Reads (memory_source o) (unary_entry stop) old (Err RunTooLong) new
-unfolding unary_entry
+    → Reads (memory_source o) (unary_decoder stop) old (Err RunTooLong) new
+unfolding unary_decoder
 run_long {E = E} o stop old mid new fine long h broken =
     let b = rest_bits o old.bytes.now old.bit in
     let s = memory_source {E = E} o in
     let n = 2 ^ 32 in
     let word : take n b ≡ replicate n (not stop) = take_others stop n b long in
     let t = subst (λ w. Took o (s.state old) w (s.state mid)) word (went_on o n old mid fine h) in
-    was_done (Took-too_long o (unary_entry stop) (replicate n (not stop)) (s.state old) (s.state mid) (s.state new) t
+    was_done (Took-too_long o (unary_decoder stop) (replicate n (not stop)) (s.state old) (s.state mid) (s.state new) t
     broken (λ more. others_long stop n more refl)
-    (λ front c back parts. begins_others stop n front c back (omega arith) parts))
+    (λ prefix c back parts. begins_others stop n prefix c back (omega arith) parts))
 
 -- whole bytes that are taken behind the end of a byte
 pub whole_failed : {E : Type 0} (o : Order) (n : ℕ) (r : SliceReader E) → r.failed ≡ true
-    → Reads (memory_source o) (whole_bytes_entry n) r (Err Failed) r
+    → Reads (memory_source o) (whole_bytes_decoder n) r (Err Failed) r
 whole_failed o n r failed =
-    Reads-chain-ok align_entry (λ _. skip_entry (8 * n)) (align_failed o r failed) (skip_failed o (8 * n) r failed)
+    Reads-and_then-ok align_decoder (λ _. skip_decoder (8 * n)) (align_failed o r failed) (skip_failed o (8 * n) r failed)
 
 pub whole_read : {E : Type 0} (o : Order) (n : ℕ) (old mid new : SliceReader E) → old.failed ≡ false
     → GoesOn ((8 - old.bit) % 8) old mid → GoesOn (8 * n) mid new
-    → Reads (memory_source o) (whole_bytes_entry n) old (Ok tt) new
+    → Reads (memory_source o) (whole_bytes_decoder n) old (Ok tt) new
 whole_read o n old mid new fine h k =
-    Reads-chain-ok align_entry (λ _. skip_entry (8 * n)) (aligned o ((8 - old.bit) % 8) old mid fine refl h)
+    Reads-and_then-ok align_decoder (λ _. skip_decoder (8 * n)) (aligned o ((8 - old.bit) % 8) old mid fine refl h)
     (skipped o (8 * n) mid new (h.failed ∙ fine) k)
 
 pub whole_refused : {E : Type 0} (o : Order) (n : ℕ) (old mid new : SliceReader E) → old.failed ≡ false
     → GoesOn ((8 - old.bit) % 8) old mid → length mid.bytes.now < n → FailsAtEnd mid new
-    → Reads (memory_source o) (whole_bytes_entry n) old (Err EndOfInput) new
+    → Reads (memory_source o) (whole_bytes_decoder n) old (Err EndOfInput) new
 whole_refused o n old mid new fine h short k =
     let whole : mid.bit ≡ 0 = omega (arith, h.bit, old.few) in
-    Reads-chain-ok align_entry (λ _. skip_entry (8 * n)) (aligned o ((8 - old.bit) % 8) old mid fine refl h)
+    Reads-and_then-ok align_decoder (λ _. skip_decoder (8 * n)) (aligned o ((8 - old.bit) % 8) old mid fine refl h)
     (skip_refused o (8 * n) mid new (h.failed ∙ fine) (omega (arith, whole, short)) k)
 
 -- the bytes behind the end of a byte are those of which no bit is taken

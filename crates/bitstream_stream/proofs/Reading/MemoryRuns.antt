@@ -6,7 +6,7 @@ use Rattle.bitstream_count.proofs.UnaryLemmas.{lead-others, lead_le, take_others
 use Rattle.bitstream_number.specs.Word.{Order, High, Low, digits, word, bits}
 use Rattle.bitstream_number.proofs.WordLemmas.{length-word, length-bits, bits-append}
 use Rattle.bitstream_stream.specs.Reading.Memory.{rest_bits}
-use Rattle.bitstream_order.proofs.WindowLemmas.{lead-front, lead-longer, rest_long}
+use Rattle.bitstream_order.proofs.WindowLemmas.{lead-prefix, lead-longer, rest_long}
 use Rattle.bitstream_stream.proofs.Reading.MemoryWindows.{middle_word}
 use Rattle.bitstream_order.specs.Parts.{piece, first_part}
 use Rattle.bitstream_order.proofs.Moving.PieceLemmas.{first_bits}
@@ -109,7 +109,7 @@ first_ends o stop bytes bit r n few there law is less =
     let y = drop (8 - bit) (word o 8 r) in
     let long : length x ≡ 8 - bit = length-take-le (8 - bit) (word o 8 r) (omega (arith, length-word o 8 r)) in
     let parts = ap (lead stop) (take-append-drop (8 - bit) (word o 8 r)) in
-    let run : lead stop x ≡ lead stop (x ++ y) = lead-front stop x y (omega (arith, parts, is, less, long)) in
+    let run : lead stop x ≡ lead stop (x ++ y) = lead-prefix stop x y (omega (arith, parts, is, less, long)) in
     is ∙ sym parts ∙ sym run
     ∙ sym (ap (lead stop) (first_parts o bytes bit r few there law)
     ∙ lead-longer stop x (bits o (drop 1 bytes)) (omega (arith, run, parts, is, less, long)))

@@ -26,9 +26,9 @@ left_is o r fine = ap Some (rw fine (bits_ahead o r.bytes.now r.bit r.few r.some
 
 tail_is : (bytes all : List ℕ) → IsTail bytes all → drop (length all - length bytes) all ≡ bytes
 tail_is bytes all tail =
-    let front = take (length all - length bytes) all in
-    let size : length front ≡ length all - length bytes = length-take-le (length all - length bytes) all (omega arith) in
-    ap (drop (length all - length bytes)) tail ∙ ap (λ n. drop n (front ++ bytes)) (sym size) ∙ drop-append_seam front bytes
+    let prefix = take (length all - length bytes) all in
+    let size : length prefix ≡ length all - length bytes = length-take-le (length all - length bytes) all (omega arith) in
+    ap (drop (length all - length bytes)) tail ∙ ap (λ n. drop n (prefix ++ bytes)) (sym size) ∙ drop-append_seam prefix bytes
 
 pub bytes_behind : {E : Type 0} (o : Order) (r : SliceReader E)
     → ((memory_source o).state r).bytes ≡ Some (drop ((memory_source o).state r).fetched (memory_bytes r))

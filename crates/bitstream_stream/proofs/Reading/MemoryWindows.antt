@@ -6,47 +6,47 @@ use Rattle.std.proofs.Math.Seq.{drop-append_seam}
 use Rattle.bitstream_number.specs.Word.{Order, word, bits}
 use Rattle.bitstream_number.proofs.WordLemmas.{length-word, length-bits, bits-append}
 use Rattle.bitstream_order.specs.Parts.{piece}
-use Rattle.bitstream_order.proofs.Moving.PieceLemmas.{front_bits, piece_more, take_less}
+use Rattle.bitstream_order.proofs.Moving.PieceLemmas.{prefix_bits, piece_more, take_less}
 
 -- the bits of the first bytes, and of those behind them
 pub bits-take : (o : Order) (k : ℕ) (xs : List ℕ) → k ≤ length xs → bits o (take k xs) ≡ take (8 * k) (bits o xs)
 bits-take o k xs le =
-    sym (front_bits o (take k xs) (drop k xs))
+    sym (prefix_bits o (take k xs) (drop k xs))
     ∙ ap₂ (λ j l. take (8 * j) (bits o l)) (length-take-le k xs le) (take-append-drop k xs)
 
 pub bits-drop : (o : Order) (k : ℕ) (xs : List ℕ) → k ≤ length xs → bits o (drop k xs) ≡ drop (8 * k) (bits o xs)
 bits-drop o k xs le =
-    let front = bits o (take k xs) in
-    let long : length front ≡ 8 * k = length-bits o (take k xs) ∙ ap (λ j. 8 * j) (length-take-le k xs le) in
+    let prefix = bits o (take k xs) in
+    let long : length prefix ≡ 8 * k = length-bits o (take k xs) ∙ ap (λ j. 8 * j) (length-take-le k xs le) in
     sym (ap₂ drop (sym long) (ap (bits o) (sym (take-append-drop k xs)) ∙ bits-append o (take k xs) (drop k xs))
-    ∙ drop-append_seam front (bits o (drop k xs)))
+    ∙ drop-append_seam prefix (bits o (drop k xs)))
 
 -- a number whose bytes begin with some
-pub front_window : (o : Order) (bytes buf z : List ℕ) (w : ℕ) → word o 64 w ≡ bits o buf → buf ≡ bytes ++ z
+pub prefix_window : (o : Order) (bytes buf z : List ℕ) (w : ℕ) → word o 64 w ≡ bits o buf → buf ≡ bytes ++ z
     → take (8 * length bytes) (word o 64 w) ≡ bits o bytes
-front_window o bytes buf z w e is =
-    ap (take (8 * length bytes)) (e ∙ ap (bits o) is) ∙ front_bits o bytes z
+prefix_window o bytes buf z w e is =
+    ap (take (8 * length bytes)) (e ∙ ap (bits o) is) ∙ prefix_bits o bytes z
 
 -- some bits in the midst of those of a number
 pub middle_word : (o : Order) (size w at k : ℕ) → at + k ≤ size
     → drop at (take (at + k) (word o size w)) ≡ word o k (piece o size w at k)
 middle_word o size w at k le =
-    let front = take at (word o size w) in
-    let long : length front ≡ at = length-take-le at (word o size w) (omega (arith, length-word o size w)) in
-    ap₂ drop (sym long) (piece_more o size w at k le) ∙ drop-append_seam front (word o k (piece o size w at k))
+    let prefix = take at (word o size w) in
+    let long : length prefix ≡ at = length-take-le at (word o size w) (omega (arith, length-word o size w)) in
+    ap₂ drop (sym long) (piece_more o size w at k le) ∙ drop-append_seam prefix (word o k (piece o size w at k))
 
 -- fewer than eight bytes, with others behind them
-pub padded_window : (o : Order) (bytes front z : List ℕ) (w : ℕ) → length bytes ≤ 8 → word o 64 w ≡ bits o (front ++ z)
-    → front ≡ bytes → take (8 * length (take 8 bytes)) (word o 64 w) ≡ bits o (take 8 bytes)
-padded_window o bytes front z w few e is =
-    rw (take_all 8 bytes few) (front_window o bytes (front ++ z) z w e (ap (λ x. x ++ z) is))
+pub padded_window : (o : Order) (bytes prefix z : List ℕ) (w : ℕ) → length bytes ≤ 8 → word o 64 w ≡ bits o (prefix ++ z)
+    → prefix ≡ bytes → take (8 * length (take 8 bytes)) (word o 64 w) ≡ bits o (take 8 bytes)
+padded_window o bytes prefix z w few e is =
+    rw (take_all 8 bytes few) (prefix_window o bytes (prefix ++ z) z w e (ap (λ x. x ++ z) is))
 
 -- the first bytes, with others behind them
-pub first_window : (o : Order) (bytes front z : List ℕ) (n w : ℕ) → n ≤ length bytes → word o 64 w ≡ bits o (front ++ z)
-    → front ≡ take n bytes → take (8 * n) (word o 64 w) ≡ bits o (take n bytes)
-first_window o bytes front z n w there e is =
+pub first_window : (o : Order) (bytes prefix z : List ℕ) (n w : ℕ) → n ≤ length bytes → word o 64 w ≡ bits o (prefix ++ z)
+    → prefix ≡ take n bytes → take (8 * n) (word o 64 w) ≡ bits o (take n bytes)
+first_window o bytes prefix z n w there e is =
     ap (λ k. take (8 * k) (word o 64 w)) (sym (length-take-le n bytes there))
-    ∙ front_window o (take n bytes) (front ++ z) z w e (ap (λ x. x ++ z) is)
+    ∙ prefix_window o (take n bytes) (prefix ++ z) z w e (ap (λ x. x ++ z) is)
 
 -- the first bits of both
 pub first_agree : (o : Order) (bytes : List ℕ) (n total w : ℕ) → n ≤ length bytes → total ≤ 8 * n → 8 * n ≤ 64

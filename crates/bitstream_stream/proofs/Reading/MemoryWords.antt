@@ -1,35 +1,31 @@
 -- Numbers that are taken from bytes in memory.
-use Rattle.std.proofs.Common.{◌≡◌, ℕ, ◌+◌, ◌-◌, ◌*◌, ◌/◌, ◌^◌, ◌<◌, ◌≤◌, List, ◌++◌, length, take, drop, sym, ap, ap₂, ◌∙◌, subst, arith, take-append-drop, mod-lt, inl, inr}
+use Rattle.std.proofs.Common.{◌≡◌, ℕ, ◌+◌, ◌-◌, ◌*◌, ◌/◌, ◌^◌, ◌<◌, ◌≤◌, List, ◌++◌, length, take, drop, sym, ap, ap₂, ◌∙◌, subst, arith, take-append-drop, inl, inr}
 use Rattle.std.proofs.lemmas.Bool.{cases_lt}
-use Rattle.std.proofs.lemmas.Nat.{pow_pos}
 use Rattle.std.proofs.Math.Nat.{pow-le-pow_right}
 use Rattle.std.proofs.lemmas.List.{length-take-le, take_all, length-drop, drop-take, drop-drop, take-append-le}
 use Rattle.std.proofs.Math.Seq.{take-add}
-use Rattle.bitstream_number.specs.Word.{Order, High, Low, word, bits}
+use Rattle.bitstream_number.specs.Word.{Order, word, bits}
 use Rattle.bitstream_number.proofs.WordLemmas.{length-bits, bits-append}
 use Rattle.bitstream_order.specs.Parts.{piece, put_number}
 use Rattle.bitstream_order.proofs.PartLemmas.{put_word, put_below}
 use Rattle.bitstream_order.proofs.Moving.PieceLemmas.{take_less}
+use Rattle.bitstream_order.proofs.Moving.SendLemmas.{piece_below}
 use Rattle.bitstream_stream.specs.Reading.Memory.{rest_bits}
 use Rattle.bitstream_stream.specs.Reading.MemoryTakes.{GoesOn, TakesNumber}
 use Rattle.bitstream_stream.specs.declared.read.slice_reader.SliceReader.{SliceReader}
 use Rattle.bitstream_stream.proofs.Reading.MemoryWindows.{bits-drop, middle_word}
-
-piece_below : (o : Order) (n v at k : ℕ) → piece o n v at k < 2 ^ k
-piece_below High n v at k = mod-lt (v / 2 ^ (n - (at + k))) (pow_pos k)
-piece_below Low n v at k = mod-lt (v / 2 ^ at) (pow_pos k)
 
 -- some bits by a window of eight bytes
 windowed : (o : Order) (bytes : List ℕ) (bit n w : ℕ) → bit + n ≤ 8 * length (take 8 bytes) → bit + n ≤ 64
     → take (8 * length (take 8 bytes)) (word o 64 w) ≡ bits o (take 8 bytes)
     → take n (rest_bits o bytes bit) ≡ word o n (piece o 64 w bit n)
 windowed o bytes bit n w there few window =
-    let front = bits o (take 8 bytes) in
-    let size : length front ≡ 8 * length (take 8 bytes) = length-bits o (take 8 bytes) in
-    let parts : bits o bytes ≡ front ++ bits o (drop 8 bytes) =
+    let prefix = bits o (take 8 bytes) in
+    let size : length prefix ≡ 8 * length (take 8 bytes) = length-bits o (take 8 bytes) in
+    let parts : bits o bytes ≡ prefix ++ bits o (drop 8 bytes) =
     ap (bits o) (sym (take-append-drop 8 bytes)) ∙ bits-append o (take 8 bytes) (drop 8 bytes) in
     let whole : take (bit + n) (bits o bytes) ≡ take (bit + n) (word o 64 w) =
-    ap (take (bit + n)) parts ∙ take-append-le (bit + n) front (bits o (drop 8 bytes)) (omega (arith, size))
+    ap (take (bit + n)) parts ∙ take-append-le (bit + n) prefix (bits o (drop 8 bytes)) (omega (arith, size))
     ∙ ap (take (bit + n)) (sym window)
     ∙ take_less (bit + n) (8 * length (take 8 bytes)) (word o 64 w)
     (omega (arith, ap (λ l. length l) window, size)) in

@@ -7,7 +7,7 @@ use Rattle.std.proofs.Math.Nat.{mod-eq_of_lt}
 use Rattle.std.proofs.lemmas.Bool.{lt-leb}
 use Rattle.bitstream_count.specs.declared.error.Error.{Error}
 use Rattle.bitstream_count.specs.declared.error.Error.TheVariants.{ReadBits, Failed}
-use Rattle.bitstream_count.specs.Entry.{Takes}
+use Rattle.bitstream_count.specs.Codec.{Done}
 use Rattle.bitstream_number.specs.Word.{Order, word, bits, number}
 use Rattle.bitstream_number.proofs.WordLemmas.{length-word, length-bits, number-word}
 use Rattle.bitstream_order.specs.Moving.Gather.{TakesWord}
@@ -18,28 +18,28 @@ use Rattle.bitstream_order.proofs.Streaming.FaultLemmas.{end_few}
 use Rattle.bitstream_stream.specs.Reading.Reads.{BitSource, Reads, ReadDone, ReadRefused, had_failed}
 use Rattle.bitstream_stream.specs.Reading.Reader.{reader_state, new_reader_state}
 use Rattle.bitstream_stream.specs.Alignment.{to_boundary}
-use Rattle.bitstream_stream.specs.Reading.ReadTable.{unsigned_entry, align_entry}
-use Rattle.bitstream_stream.proofs.Reading.EntryLemmas.{word_front-some, word_front-none, word_needs}
+use Rattle.bitstream_stream.specs.Reading.ReadTable.{unsigned_decoder, align_decoder}
+use Rattle.bitstream_stream.proofs.Reading.CodecLemmas.{word_prefix-some, word_prefix-none, word_needs}
 use Rattle.bitstream_stream.proofs.Reading.ReadsLemmas.{Reads-nothing, Consumes-known}
 use Rattle.bitstream_stream.proofs.Reading.TableLemmas.{unsigned-takes}
 
 -- ---- reading
 
 pub unsigned-failed : {R : Type 0} {K : BitSource R} (o : Order) (size n : ℕ) (s : R) → (K.state s).failed ≡ true
-    → Reads K (unsigned_entry o size n) s (Err Failed) s
-unfolding unsigned_entry
+    → Reads K (unsigned_decoder o size n) s (Err Failed) s
+unfolding unsigned_decoder
 unsigned-failed o size n s h = had_failed (record { failed = h; answer = refl; same = refl })
 
 pub unsigned-refused : {R : Type 0} {K : BitSource R} (o : Order) (size n : ℕ) (s : R) → (K.state s).failed ≡ false
-    → size < n → Reads K (unsigned_entry o size n) s (Err ReadBits) s
-unfolding unsigned_entry
-unsigned-refused o size n s h wide = Reads-nothing (unsigned_entry o size n) (Err ReadBits) s h refl
+    → size < n → Reads K (unsigned_decoder o size n) s (Err ReadBits) s
+unfolding unsigned_decoder
+unsigned-refused o size n s h wide = Reads-nothing (unsigned_decoder o size n) (Err ReadBits) s h refl
     (λ more. rw (lt-leb n size wide) refl)
 
 pub answered : (o : Order) (size queued queue n v l q before_taken after_taken : ℕ) (before after : Bool)
     (old new : PortState) → before ≡ false → after ≡ false → n ≤ size → after_taken ≡ before_taken + n
     → TakesWord o queued queue old n v l q new
-    → ReadDone o (unsigned_entry o size n) (reader_state o old queue queued before_taken before) (Ok v)
+    → ReadDone o (unsigned_decoder o size n) (reader_state o old queue queued before_taken before) (Ok v)
     (reader_state o new q l after_taken after)
 answered o size queued queue n v l q before_taken after_taken before after old new fine still le more h =
     rw (unsigned-takes o size n le) (record {
@@ -48,7 +48,7 @@ answered o size queued queue n v l q before_taken after_taken before after old n
       decides = λ more.
           let len = length-word o n v in
           let value : number o (word o n v) ≡ v = number-word o n v ∙ mod-eq_of_lt h.below in
-          word_front-some n (λ w. Ok (number o w)) (word o n v) more len ∙ ap₂ (λ k x. Takes k (Ok x)) (sym len) value;
+          word_prefix-some n (λ w. Ok (number o w)) (word o n v) more len ∙ ap₂ (λ k x. Done k (Ok x)) (sym len) value;
       needs = word_needs n (λ w. Ok (number o w)) (word o n v) (length-word o n v);
       gone = h.bytes;
       loses = h.loses;
@@ -72,7 +72,7 @@ pub stopped : (o : Order) (may : Refusal → Type 0) (size queued queue n m v k 
     ℕ) (failed : Bool) (x : Error) (old mid new : PortState) → failed ≡ false → n ≤ size → queued < n → m < n
     → m + 8 * k < n + 8 → before_taken ≤ after_taken
     → TakesWord o queued queue old m v 0 0 mid → FetchRefused may x mid k new
-    → ReadRefused o may (unsigned_entry o size n) (reader_state o old queue queued before_taken failed) (Err x)
+    → ReadRefused o may (unsigned_decoder o size n) (reader_state o old queue queued before_taken failed) (Err x)
     (reader_state o new q l after_taken true)
 stopped o may size queued queue n m v k q l before_taken after_taken failed x old mid new fine le short part more least h r =
     rw (unsigned-takes o size n le) (record {
@@ -80,7 +80,7 @@ stopped o may size queued queue n m v k q l before_taken after_taken failed x ol
       refusal = r.refusal;
       allowed = r.allowed;
       answer = ap Err r.answer;
-      short = word_front-none n (λ w. Ok (number o w)) (word o queued queue)
+      short = word_prefix-none n (λ w. Ok (number o w)) (word o queued queue)
           (subst (λ j. j < n) (sym (length-word o queued queue)) short);
       gone = h.bytes;
       loses = subst (λ b. Consumes old.bytes b h.bytes) (sym r.before) h.loses;
@@ -89,7 +89,7 @@ stopped o may size queued queue n m v k q l before_taken after_taken failed x ol
       least = least;
       few =
           let sum : queued + 8 * length h.bytes ≡ m + 0 = takes_lengths o queued queue m v 0 0 h.bytes h.word in
-          word_front-none n (λ w. Ok (number o w)) (word o queued queue
+          word_prefix-none n (λ w. Ok (number o w)) (word o queued queue
           ++ bits o h.bytes) (omega (arith, bits_ahead o queued queue h.bytes));
       ended = λ end xs known.
           let lost = Consumes-known old.bytes mid.bytes h.bytes xs h.loses known in
@@ -97,7 +97,7 @@ stopped o may size queued queue n m v k q l before_taken after_taken failed x ol
           let sum : queued + 8 * length h.bytes ≡ m + 0 = takes_lengths o queued queue m v 0 0 h.bytes h.word in
           let size : length xs ≡ length h.bytes + length lost.0 = ap (λ l. length l) lost.2
           ∙ length-append h.bytes lost.0 in
-          word_front-none n (λ w. Ok (number o w)) (word o queued queue
+          word_prefix-none n (λ w. Ok (number o w)) (word o queued queue
           ++ bits o xs) (omega (arith, bits_ahead o queued queue xs));
       refusals = r.refusals ∙ ap (λ l. r.refusal ∷ l) h.refusals;
       references = r.references ∙ h.references;
@@ -117,16 +117,16 @@ takes_fetched o queued queue n v l q old new h = omega (
 
 pub aligned : (o : Order) (port : PortState) (queue queued before_taken after_taken none : ℕ) (failed : Bool) → failed
     ≡ false → queued < 8 → before_taken + queued ≡ 8 * port.fetched → after_taken ≡ before_taken + queued
-    → ReadDone o align_entry (reader_state o port queue queued before_taken failed) (Ok tt)
+    → ReadDone o align_decoder (reader_state o port queue queued before_taken failed) (Ok tt)
     (reader_state o port none 0 after_taken failed)
-unfolding align_entry
+unfolding align_decoder
 aligned o port queue queued before_taken after_taken none failed fine small whole more =
     let len = length-word o queued queue in
     let gap : to_boundary before_taken ≡ queued = omega (arith, small, whole) in
     record {
       fine = fine;
       word = word o queued queue;
-      decides = λ more. word_front-some (to_boundary before_taken) (λ _. Ok tt) (word o queued queue) more (len
+      decides = λ more. word_prefix-some (to_boundary before_taken) (λ _. Ok tt) (word o queued queue) more (len
           ∙ sym gap) ∙ rw (gap, len) refl;
       needs = word_needs (to_boundary before_taken) (λ _. Ok tt) (word o queued queue) (len ∙ sym gap);
       gone = [];

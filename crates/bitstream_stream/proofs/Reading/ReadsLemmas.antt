@@ -10,18 +10,18 @@ use Rattle.std.specs.Result.{IsErrAnd}
 use Rattle.bitstream_order.specs.Reference.{Reference, by_name}
 use Rattle.bitstream_count.specs.declared.error.Error.{Error}
 use Rattle.bitstream_count.specs.declared.error.Error.TheVariants.{OutOfMemory, Failed, RunTooLong}
-use Rattle.bitstream_count.specs.Entry.{Front, ReadEntry, TooFew, Takes, longer, chain, gives}
+use Rattle.bitstream_count.specs.Codec.{Prefix, Decoder, Incomplete, Done, advance, and_then, pure}
 use Rattle.bitstream_number.specs.Word.{Order, bits}
 use Rattle.bitstream_number.proofs.WordLemmas.{bits-append}
-use Rattle.bitstream_order.specs.Moving.Gather.{seen}
+use Rattle.bitstream_order.specs.Moving.Gather.{result_map}
 use Rattle.bitstream_order.specs.Fault.{read_refusal_of}
-use Rattle.bitstream_stream.proofs.Reading.EntryLemmas.{Same, chain-ok, chain-err, chain-none, chain-failed}
+use Rattle.bitstream_stream.proofs.Reading.CodecLemmas.{Same, and_then-ok, and_then-err, and_then-none, and_then-failed}
 use Rattle.bitstream_stream.proofs.Shared.{exit_is}
 use Rattle.bitstream_stream.specs.Reading.Reads.{ReaderState, BitSource, Demands, QueuesRest, HadFailed, ReadDone, Took, MemoryRefused, ReadOutcome, had_failed, was_done, was_refused, memory_refused, Reads, ReadsGrowing, is_run_too_long, failed_reader}
 
 -- ---- lists
 
--- Two ways to part one list: the second front is longer, or the first front begins with it.
+-- Two ways to part one list: the second prefix is longer, or the first prefix begins with it.
 pub cut : (x y u v : List Bool) → x ++ y ≡ u ++ v → ((b : Bool) × (r : List Bool) × (u ≡ x ++ b ∷ r))
     ⊎ ((z : List Bool) × (x ≡ u ++ z) × (z ++ y ≡ v))
 cut [] y [] v e = inr ([], refl, e)
@@ -31,7 +31,7 @@ cut (c ∷ x) y (b ∷ u) v e =
     let head : c ≡ b = cc in
     let tail : x ++ y ≡ u ++ v = cc in
     elim (cut x y u v tail) [
-      | inl longer ↦ inl (longer.0, longer.1, ap (λ d. d ∷ u) (sym head) ∙ ap (λ l. c ∷ l) longer.2)
+      | inl advance ↦ inl (advance.0, advance.1, ap (λ d. d ∷ u) (sym head) ∙ ap (λ l. c ∷ l) advance.2)
       | inr begins ↦ inr (begins.0, ap (λ d. d ∷ x) head ∙ ap (λ l. b ∷ l) begins.1, begins.2)
     ]
 
@@ -87,7 +87,7 @@ Took-trans o u v s t z h k =
     (Took-behind o u v z.queue s t z h k.gone k.loses k.parts k.fetched k.taken k.refusals k.references)
 
 -- a call that answered with a value took its word
-pub took : {A : Type 0} (o : Order) (e : ReadEntry A) (a : A) (s t : ReaderState) (h : ReadDone o e s (Ok a) t)
+pub took : {A : Type 0} (o : Order) (e : Decoder A) (a : A) (s t : ReaderState) (h : ReadDone o e s (Ok a) t)
     → Took o s h.word t
 took o e a s t h = record {
   fine = h.fine;
@@ -101,13 +101,13 @@ took o e a s t h = record {
   failed = h.failed;
 }
 
--- a front that is a word which was taken: behind an answer that is a run too long, the reader has failed
-Took-front : {A : Type 0} (o : Order) (e : ReadEntry A) (r : Result A Error) (w : List Bool) (s t : ReaderState)
+-- a prefix that is a word which was taken: behind an answer that is a run too long, the reader has failed
+Took-prefix : {A : Type 0} (o : Order) (e : Decoder A) (r : Result A Error) (w : List Bool) (s t : ReaderState)
     → Took o s w t
-    → ((more : List Bool) → e.reads s.taken (w ++ more) ≡ Takes (length w) r)
-    → ((front : List Bool) (b : Bool) (back : List Bool) → w ≡ front ++ b ∷ back → e.reads s.taken front ≡ TooFew)
+    → ((more : List Bool) → e.reads s.taken (w ++ more) ≡ Done (length w) r)
+    → ((prefix : List Bool) (b : Bool) (back : List Bool) → w ≡ prefix ++ b ∷ back → e.reads s.taken prefix ≡ Incomplete)
     → ReadDone o e s r (record t { queue = if is_run_too_long r then [] else t.queue; failed = is_run_too_long r })
-Took-front o e r w s t h decides needs = record {
+Took-prefix o e r w s t h decides needs = record {
   fine = h.fine;
   word = w;
   decides = decides;
@@ -125,8 +125,8 @@ Took-front o e r w s t h decides needs = record {
 }
 
 -- memory that the call asked for was refused behind a word that was taken and is too short for it
-Took-memory_refused : {A : Type 0} (o : Order) (e : ReadEntry A) (w held : List Bool) (s t : ReaderState) → Took o s w t
-    → e.reads s.taken w ≡ TooFew → MemoryRefused o e s (Err OutOfMemory) (record t { queue = held; failed = true })
+Took-memory_refused : {A : Type 0} (o : Order) (e : Decoder A) (w held : List Bool) (s t : ReaderState) → Took o s w t
+    → e.reads s.taken w ≡ Incomplete → MemoryRefused o e s (Err OutOfMemory) (record t { queue = held; failed = true })
 Took-memory_refused o e w held s t h few = record {
   fine = h.fine;
   answer = refl;
@@ -166,28 +166,28 @@ Took-left o w s t h xs known =
 
 -- ---- a call behind a word that was taken: of a chain, or of a loop's next turn
 
--- no beginning of the word has a front, and behind the word a call is too short where the next one is
-pub record Behind {A B : Type 0} (e : ReadEntry A) (p : ℕ) (w : List Bool) (d : ReadEntry B) (q : ℕ) : Type 0 where
-  pub needs : (front : List Bool) (b : Bool) (back : List Bool) → w ≡ front ++ b ∷ back → e.reads p front ≡ TooFew
-  pub short : (more : List Bool) → d.reads q more ≡ TooFew → e.reads p (w ++ more) ≡ TooFew
+-- no beginning of the word has a prefix, and behind the word a call is too short where the next one is
+pub record Behind {A B : Type 0} (e : Decoder A) (p : ℕ) (w : List Bool) (d : Decoder B) (q : ℕ) : Type 0 where
+  pub needs : (prefix : List Bool) (b : Bool) (back : List Bool) → w ≡ prefix ++ b ∷ back → e.reads p prefix ≡ Incomplete
+  pub short : (more : List Bool) → d.reads q more ≡ Incomplete → e.reads p (w ++ more) ≡ Incomplete
 
-pub Behind-needs : {A B : Type 0} {e : ReadEntry A} {p : ℕ} {w : List Bool} {d : ReadEntry B} {q : ℕ} (v : List Bool)
+pub Behind-needs : {A B : Type 0} {e : Decoder A} {p : ℕ} {w : List Bool} {d : Decoder B} {q : ℕ} (v : List Bool)
     → Behind e p w d q
-    → ((front : List Bool) (b : Bool) (back : List Bool) → v ≡ front ++ b ∷ back → d.reads q front ≡ TooFew)
-    → (front : List Bool) (b : Bool) (back : List Bool) → w ++ v ≡ front ++ b ∷ back → e.reads p front ≡ TooFew
-Behind-needs {e = e} {p = p} {w = w} v h needs front b back parts = elim (cut front (b ∷ back) w v (sym parts)) [
-  | inl in_word ↦ h.needs front in_word.0 in_word.1 in_word.2
+    → ((prefix : List Bool) (b : Bool) (back : List Bool) → v ≡ prefix ++ b ∷ back → d.reads q prefix ≡ Incomplete)
+    → (prefix : List Bool) (b : Bool) (back : List Bool) → w ++ v ≡ prefix ++ b ∷ back → e.reads p prefix ≡ Incomplete
+Behind-needs {e = e} {p = p} {w = w} v h needs prefix b back parts = elim (cut prefix (b ∷ back) w v (sym parts)) [
+  | inl in_word ↦ h.needs prefix in_word.0 in_word.1 in_word.2
   | inr behind ↦ ap (λ l. e.reads p l) behind.1 ∙ h.short behind.0 (needs behind.0 b back (sym behind.2))
 ]
 
-pub none_needed : (front : List Bool) (b : Bool) (back : List Bool) → [] ≡ front ++ b ∷ back → ⊥
+pub none_needed : (prefix : List Bool) (b : Bool) (back : List Bool) → [] ≡ prefix ++ b ∷ back → ⊥
 none_needed [] b back e = cc
-none_needed (c ∷ front) b back e = cc
+none_needed (c ∷ prefix) b back e = cc
 
 -- behind no bits
-Behind-none : {A B : Type 0} (e : ReadEntry A) (d : ReadEntry B) (p : ℕ)
-    → ((more : List Bool) → d.reads p more ≡ TooFew → e.reads p more ≡ TooFew) → Behind e p [] d p
-Behind-none e d p short = record { needs = λ front b back is. absurd (none_needed front b back is); short = short }
+Behind-none : {A B : Type 0} (e : Decoder A) (d : Decoder B) (p : ℕ)
+    → ((more : List Bool) → d.reads p more ≡ Incomplete → e.reads p more ≡ Incomplete) → Behind e p [] d p
+Behind-none e d p short = record { needs = λ prefix b back is. absurd (none_needed prefix b back is); short = short }
 
 -- ---- a call behind others, as in a chain or a loop
 
@@ -221,13 +221,13 @@ begun_failed K s w t (inl h) failed = h.1
 begun_failed K s w t (inr h) failed = let p = h.failed in cc
 
 -- A call that is left behind a word, with the answer of the last call or with one that its value decides.
-pub Reads-behind : {R A B : Type 0} {K : BitSource R} {grows : Bool} (e : ReadEntry A) (d : ReadEntry B)
+pub Reads-behind : {R A B : Type 0} {K : BitSource R} {grows : Bool} (e : Decoder A) (d : Decoder B)
     (w : List Bool) (r : Result A Error) (x : Result B Error) (s t z : R)
     → Begun K s w t → Behind e (K.state s).taken w d (K.state t).taken
     → ((K.state t).failed ≡ true → x ≡ d.on_failed → r ≡ e.on_failed)
     → ((y : Error) → x ≡ Err y → r ≡ Err y) → is_run_too_long r ≡ is_run_too_long x
-    → ((v : List Bool) → ((more : List Bool) → d.reads (K.state t).taken (v ++ more) ≡ Takes (length v) x)
-    → (more : List Bool) → e.reads (K.state s).taken ((w ++ v) ++ more) ≡ Takes (length (w ++ v)) r)
+    → ((v : List Bool) → ((more : List Bool) → d.reads (K.state t).taken (v ++ more) ≡ Done (length v) x)
+    → (more : List Bool) → e.reads (K.state s).taken ((w ++ v) ++ more) ≡ Done (length (w ++ v)) r)
     → ReadOutcome K grows d t x z → ReadOutcome K grows e s r z
 Reads-behind {K = K} e d w r x s t z b behind fails passes long decides (had_failed h) =
     let here = begun_failed K s w t b h.failed in
@@ -242,7 +242,7 @@ Reads-behind {K = K} e d w r x s t z b behind fails passes long decides (was_don
     was_done (subst (ReadDone K.order e (K.state s) r)
     (ap₂ (λ l f. record (K.state z) { queue = l; failed = f }) (ap (λ f. if f then [] else h.rest) long
     ∙ sym h.queue) (long ∙ sym h.failed))
-    (Took-front K.order e r (w ++ h.word) (K.state s) (record (K.state z) { queue = h.rest; failed = false }) all
+    (Took-prefix K.order e r (w ++ h.word) (K.state s) (record (K.state z) { queue = h.rest; failed = false }) all
     (decides h.word h.decides) (Behind-needs h.word behind h.needs)))
 Reads-behind {K = K} e d w r x s t z b behind fails passes long decides (was_refused h) =
     let was = Begun-took K s w t b h.fine in
@@ -281,7 +281,7 @@ Reads-behind {K = K} e d w r x s t z b behind fails passes long decides (memory_
     }) all (behind.short h.word h.few))))
 
 -- a call on a reader that has failed
-still_failed : {R A : Type 0} {K : BitSource R} {grows : Bool} {e : ReadEntry A} {r : Result A Error} {s t : R}
+still_failed : {R A : Type 0} {K : BitSource R} {grows : Bool} {e : Decoder A} {r : Result A Error} {s t : R}
     → (K.state s).failed ≡ true → ReadOutcome K grows e s r t → HadFailed e (K.state s) r (K.state t)
 still_failed failed (had_failed h) = h
 still_failed failed (was_done h) = let p = h.fine in cc
@@ -289,21 +289,21 @@ still_failed failed (was_refused h) = let p = h.fine in cc
 still_failed failed (memory_refused g h) = let p = h.fine in cc
 
 -- a call that answered with a value
-pub ok_front : {R A : Type 0} {K : BitSource R} {grows : Bool} {e : ReadEntry A} {a : A} {s t : R} → e.on_failed
+pub ok_prefix : {R A : Type 0} {K : BitSource R} {grows : Bool} {e : Decoder A} {a : A} {s t : R} → e.on_failed
     ≡ Err Failed → ReadOutcome K grows e s (Ok a) t → ReadDone K.order e (K.state s) (Ok a) (K.state t)
-ok_front failed (had_failed h) = let p = h.answer in cc
-ok_front failed (was_done h) = h
-ok_front failed (was_refused h) = let p = h.answer in cc
-ok_front failed (memory_refused g h) = let p = h.answer in cc
+ok_prefix failed (had_failed h) = let p = h.answer in cc
+ok_prefix failed (was_done h) = h
+ok_prefix failed (was_refused h) = let p = h.answer in cc
+ok_prefix failed (memory_refused g h) = let p = h.answer in cc
 
 -- the next turn's call answered with a value
-pub Begun-more : {R A : Type 0} {K : BitSource R} {grows : Bool} (d : ReadEntry A) (a : A) (s : R)
+pub Begun-more : {R A : Type 0} {K : BitSource R} {grows : Bool} (d : Decoder A) (a : A) (s : R)
     (w : List Bool) (t z : R) → Begun K s w t → d.on_failed ≡ Err Failed → ReadOutcome K grows d t (Ok a) z
-    → (v : List Bool) × ((more : List Bool) → d.reads (K.state t).taken (v ++ more) ≡ Takes (length v) (Ok a))
+    → (v : List Bool) × ((more : List Bool) → d.reads (K.state t).taken (v ++ more) ≡ Done (length v) (Ok a))
     × Begun K s (w ++ v) z
 unfolding Begun
 Begun-more {K = K} d a s w t z b failed read =
-    let h = ok_front failed read in (
+    let h = ok_prefix failed read in (
       h.word,
       h.decides,
       inr (Took-trans K.order w h.word (K.state s) (K.state t) (K.state z)
@@ -311,72 +311,72 @@ Begun-more {K = K} d a s w t z b failed read =
     )
 
 -- a run that was too long: the reader was then made to fail
-pub Took-too_long : {A : Type 0} (o : Order) (e : ReadEntry A) (w : List Bool) (s t z : ReaderState) → Took o s w t → z
+pub Took-too_long : {A : Type 0} (o : Order) (e : Decoder A) (w : List Bool) (s t z : ReaderState) → Took o s w t → z
     ≡ failed_reader t
-    → ((more : List Bool) → e.reads s.taken (w ++ more) ≡ Takes (length w) (Err RunTooLong))
-    → ((front : List Bool) (b : Bool) (back : List Bool) → w ≡ front ++ b ∷ back → e.reads s.taken front ≡ TooFew)
+    → ((more : List Bool) → e.reads s.taken (w ++ more) ≡ Done (length w) (Err RunTooLong))
+    → ((prefix : List Bool) (b : Bool) (back : List Bool) → w ≡ prefix ++ b ∷ back → e.reads s.taken prefix ≡ Incomplete)
     → ReadDone o e s (Err RunTooLong) z
-Took-too_long o e w s t z h broken decides needs = rw broken (Took-front o e (Err RunTooLong) w s t h decides needs)
+Took-too_long o e w s t z h broken decides needs = rw broken (Took-prefix o e (Err RunTooLong) w s t h decides needs)
 
 -- ---- chains
 
 -- two calls, one behind the other
-chain_front : {A B : Type 0} (e : ReadEntry A) (f : A → ReadEntry B) (p q : ℕ) (u v : List Bool) (a : A) (x : Front B)
-    → e.reads p (u ++ v) ≡ Takes (length u) (Ok a) → q ≡ p + length u → (f a).reads q v ≡ x
-    → (chain e f).reads p (u ++ v) ≡ longer (length u) x
-chain_front e f p q u v a x first place second =
-    chain-ok e f p (u ++ v) (length u) a first ∙ ap₂ (λ i l. longer (length u) ((f a).reads i l)) (sym place)
-    (drop-append_seam u v) ∙ ap (longer (length u)) second
+and_then_prefix : {A B : Type 0} (e : Decoder A) (f : A → Decoder B) (p q : ℕ) (u v : List Bool) (a : A) (x : Prefix B)
+    → e.reads p (u ++ v) ≡ Done (length u) (Ok a) → q ≡ p + length u → (f a).reads q v ≡ x
+    → (and_then e f).reads p (u ++ v) ≡ advance (length u) x
+and_then_prefix e f p q u v a x first place second =
+    and_then-ok e f p (u ++ v) (length u) a first ∙ ap₂ (λ i l. advance (length u) ((f a).reads i l)) (sym place)
+    (drop-append_seam u v) ∙ ap (advance (length u)) second
 
--- two fronts
-pub chain_decides : {A B : Type 0} (e : ReadEntry A) (f : A → ReadEntry B) (p q : ℕ) (u v : List Bool) (a : A)
+-- two prefixes
+pub and_then_decides : {A B : Type 0} (e : Decoder A) (f : A → Decoder B) (p q : ℕ) (u v : List Bool) (a : A)
     (r : Result B Error)
-    → ((more : List Bool) → e.reads p (u ++ more) ≡ Takes (length u) (Ok a))
+    → ((more : List Bool) → e.reads p (u ++ more) ≡ Done (length u) (Ok a))
     → q ≡ p + length u
-    → ((more : List Bool) → (f a).reads q (v ++ more) ≡ Takes (length v) r)
-    → (more : List Bool) → (chain e f).reads p ((u ++ v) ++ more) ≡ Takes (length (u ++ v)) r
-chain_decides e f p q u v a r first place second more =
+    → ((more : List Bool) → (f a).reads q (v ++ more) ≡ Done (length v) r)
+    → (more : List Bool) → (and_then e f).reads p ((u ++ v) ++ more) ≡ Done (length (u ++ v)) r
+and_then_decides e f p q u v a r first place second more =
     rw (
       append_assoc u v more,
-      chain_front e f p q u (v ++ more) a (Takes (length v) r) (first (v ++ more)) place
+      and_then_prefix e f p q u (v ++ more) a (Done (length v) r) (first (v ++ more)) place
           (second more),
       length-append u v,
     ) refl
 
-pub Reads-chain-ok : {R A B : Type 0} {K : BitSource R} {grows : Bool} (e : ReadEntry A) (f : A → ReadEntry B)
+pub Reads-and_then-ok : {R A B : Type 0} {K : BitSource R} {grows : Bool} (e : Decoder A) (f : A → Decoder B)
     {a : A} {r : Result B Error} {s t z : R}
-    → ReadOutcome K grows e s (Ok a) t → ReadOutcome K grows (f a) t r z → ReadOutcome K grows (chain e f) s r z
+    → ReadOutcome K grows e s (Ok a) t → ReadOutcome K grows (f a) t r z → ReadOutcome K grows (and_then e f) s r z
 unfolding Begun
-Reads-chain-ok e f (had_failed h) k =
+Reads-and_then-ok e f (had_failed h) k =
     let next = still_failed (ap (λ (x : ReaderState). x.failed) h.same ∙ h.failed) k in
     had_failed (record {
       failed = h.failed;
-      answer = rw (chain-failed e f, ← h.answer) next.answer;
+      answer = rw (and_then-failed e f, ← h.answer) next.answer;
       same = next.same
           ∙ h.same;
     })
-Reads-chain-ok {K = K} e f {a = a} {r = r} {s = s} {t = t} {z = z} (was_done h) k =
-    let behind : Behind (chain e f) (K.state s).taken h.word (f a) (K.state t).taken = record {
-      needs = λ front b back is. chain-none e f (K.state s).taken front (h.needs front b back is);
-      short = λ more short. chain_front e f (K.state s).taken (K.state t).taken h.word more a TooFew (h.decides more)
+Reads-and_then-ok {K = K} e f {a = a} {r = r} {s = s} {t = t} {z = z} (was_done h) k =
+    let behind : Behind (and_then e f) (K.state s).taken h.word (f a) (K.state t).taken = record {
+      needs = λ prefix b back is. and_then-none e f (K.state s).taken prefix (h.needs prefix b back is);
+      short = λ more short. and_then_prefix e f (K.state s).taken (K.state t).taken h.word more a Incomplete (h.decides more)
           h.taken short;
     } in
-    Reads-behind (chain e f) (f a) h.word r r s t z (inr (took K.order e a (K.state s) (K.state t) h)) behind
-    (λ broken q. let p = h.failed in cc) (λ y q. q) refl (λ v d. chain_decides e f (K.state s).taken (K.state t).taken
+    Reads-behind (and_then e f) (f a) h.word r r s t z (inr (took K.order e a (K.state s) (K.state t) h)) behind
+    (λ broken q. let p = h.failed in cc) (λ y q. q) refl (λ v d. and_then_decides e f (K.state s).taken (K.state t).taken
     h.word v a r h.decides h.taken d) k
-Reads-chain-ok e f (was_refused h) k = let p = h.answer in cc
-Reads-chain-ok e f (memory_refused g h) k = let p = h.answer in cc
+Reads-and_then-ok e f (was_refused h) k = let p = h.answer in cc
+Reads-and_then-ok e f (memory_refused g h) k = let p = h.answer in cc
 
-pub Reads-chain-err : {R A B : Type 0} {K : BitSource R} {grows : Bool} (e : ReadEntry A) (f : A → ReadEntry B)
+pub Reads-and_then-err : {R A B : Type 0} {K : BitSource R} {grows : Bool} (e : Decoder A) (f : A → Decoder B)
     {x : Error} {s t : R}
-    → ReadOutcome K grows e s (Err x) t → ReadOutcome K grows (chain e f) s (Err x) t
-Reads-chain-err {K = K} e f {x = x} {s = s} {t = t} h =
-    Reads-behind (chain e f) e [] (Err x) (Err x) s s t (Begun-nil K s)
-    (Behind-none (chain e f) e (K.state s).taken (λ more short. chain-none e f (K.state s).taken more short))
-    (λ broken q. rw (chain-failed e f, ← q) refl) (λ y q. let same : x ≡ y = cc in
-    ap Err same) refl (λ v d more. chain-err e f (K.state s).taken (v ++ more) (length v) x (d more)) h
+    → ReadOutcome K grows e s (Err x) t → ReadOutcome K grows (and_then e f) s (Err x) t
+Reads-and_then-err {K = K} e f {x = x} {s = s} {t = t} h =
+    Reads-behind (and_then e f) e [] (Err x) (Err x) s s t (Begun-nil K s)
+    (Behind-none (and_then e f) e (K.state s).taken (λ more short. and_then-none e f (K.state s).taken more short))
+    (λ broken q. rw (and_then-failed e f, ← q) refl) (λ y q. let same : x ≡ y = cc in
+    ap Err same) refl (λ v d more. and_then-err e f (K.state s).taken (v ++ more) (length v) x (d more)) h
 
-pub Reads-same : {R A : Type 0} {K : BitSource R} {grows : Bool} {d e : ReadEntry A} {r : Result A Error} {s t : R}
+pub Reads-same : {R A : Type 0} {K : BitSource R} {grows : Bool} {d e : Decoder A} {r : Result A Error} {s t : R}
     → Same d e → ReadOutcome K grows d s r t → ReadOutcome K grows e s r t
 Reads-same {K = K} {d = d} {e = e} {r = r} {s = s} {t = t} same h =
     Reads-behind e d [] r r s s t (Begun-nil K s) (Behind-none e d (K.state s).taken
@@ -386,39 +386,39 @@ Reads-same {K = K} {d = d} {e = e} {r = r} {s = s} {t = t} same h =
 
 -- ---- a call that takes nothing
 
-pub Reads-nothing : {R A : Type 0} {K : BitSource R} {grows : Bool} (e : ReadEntry A) (r : Result A Error) (s : R)
+pub Reads-nothing : {R A : Type 0} {K : BitSource R} {grows : Bool} (e : Decoder A) (r : Result A Error) (s : R)
     → (K.state s).failed ≡ false → is_run_too_long r ≡ false
-    → ((more : List Bool) → e.reads (K.state s).taken more ≡ Takes 0 r) → ReadOutcome K grows e s r s
+    → ((more : List Bool) → e.reads (K.state s).taken more ≡ Done 0 r) → ReadOutcome K grows e s r s
 Reads-nothing {K = K} e r s fine short decides =
     let x = K.state s in
     was_done (subst (ReadDone K.order e x r) (ap₂ (λ b f. record x { queue = if b then [] else x.queue; failed = f })
     short (short ∙ sym fine))
-    (Took-front K.order e r [] x x (Took-nil K.order x fine) decides
-    (λ front b back is. absurd (none_needed front b back is))))
+    (Took-prefix K.order e r [] x x (Took-nil K.order x fine) decides
+    (λ prefix b back is. absurd (none_needed prefix b back is))))
 
-gives-by : {R A : Type 0} {K : BitSource R} {grows : Bool} (a : A) (s : R) (v : Bool) → (K.state s).failed ≡ v
-    → ReadOutcome K grows (gives a) s (Ok a) s
-gives-by a s true h = had_failed (record { failed = h; answer = refl; same = refl })
-gives-by a s false h = Reads-nothing (gives a) (Ok a) s h refl (λ more. refl)
+pure-by : {R A : Type 0} {K : BitSource R} {grows : Bool} (a : A) (s : R) (v : Bool) → (K.state s).failed ≡ v
+    → ReadOutcome K grows (pure a) s (Ok a) s
+pure-by a s true h = had_failed (record { failed = h; answer = refl; same = refl })
+pure-by a s false h = Reads-nothing (pure a) (Ok a) s h refl (λ more. refl)
 
-pub Reads-gives : {R A : Type 0} {K : BitSource R} {grows : Bool} (a : A) (s : R)
-    → ReadOutcome K grows (gives a) s (Ok a) s
-Reads-gives {K = K} a s = gives-by a s (K.state s).failed refl
+pub Reads-pure : {R A : Type 0} {K : BitSource R} {grows : Bool} (a : A) (s : R)
+    → ReadOutcome K grows (pure a) s (Ok a) s
+Reads-pure {K = K} a s = pure-by a s (K.state s).failed refl
 
 -- what the exit of a `?` returns
-pub exit : {R A B : Type 0} {K : BitSource R} {grows : Bool} {e : ReadEntry A} (f : A → ReadEntry B) {x : Error}
+pub exit : {R A B : Type 0} {K : BitSource R} {grows : Bool} {e : Decoder A} (f : A → Decoder B) {x : Error}
     {s t : R} (r : Result B Error) → IsErrAnd r (λ y. y ≡ x) → ReadOutcome K grows e s (Err x) t
-    → ReadOutcome K grows (chain e f) s r t
+    → ReadOutcome K grows (and_then e f) s r t
 exit {K = K} {grows = grows} {e = e} f {s = s} {t = t} r h k =
-    subst (λ z. ReadOutcome K grows (chain e f) s z t) (sym (exit_is r h)) (Reads-chain-err e f k)
+    subst (λ z. ReadOutcome K grows (and_then e f) s z t) (sym (exit_is r h)) (Reads-and_then-err e f k)
 
 -- what the exit of a `?` returns, where a clause sees the answer by a view
-pub seen_err : {B C : Type 0} {x : Error} (view : B → C) (r : Result B Error) → IsErrAnd r (λ y. y ≡ x) → seen view r
+pub map_err : {B C : Type 0} {x : Error} (view : B → C) (r : Result B Error) → IsErrAnd r (λ y. y ≡ x) → result_map view r
     ≡ Err x
-seen_err view r h = ap (seen view) (exit_is r h)
+map_err view r h = ap (result_map view) (exit_is r h)
 
 -- a read that asks for no memory is one that may
-pub Reads-growing : {R A : Type 0} {K : BitSource R} {e : ReadEntry A} {r : Result A Error} {s t : R} → Reads K e s r t
+pub Reads-growing : {R A : Type 0} {K : BitSource R} {e : Decoder A} {r : Result A Error} {s t : R} → Reads K e s r t
     → ReadsGrowing K e s r t
 Reads-growing (had_failed h) = had_failed h
 Reads-growing (was_done h) = was_done h
@@ -430,8 +430,8 @@ Reads-growing (memory_refused g h) = memory_refused refl h
 -- ---- memory of the call's own
 
 -- memory was refused before a call that needs bits, and the reader was made to fail
-pub Reads-memory_refused : {R A : Type 0} {K : BitSource R} (e : ReadEntry A) (s z : R) → (K.state s).failed ≡ false
-    → e.reads (K.state s).taken [] ≡ TooFew → K.state z ≡ failed_reader (K.state s)
+pub Reads-memory_refused : {R A : Type 0} {K : BitSource R} (e : Decoder A) (s z : R) → (K.state s).failed ≡ false
+    → e.reads (K.state s).taken [] ≡ Incomplete → K.state z ≡ failed_reader (K.state s)
     → ReadsGrowing K e s (Err OutOfMemory) z
 Reads-memory_refused {K = K} e s z fine some broken = memory_refused refl
     (rw broken (Took-memory_refused K.order e [] [] (K.state s) (K.state s) (Took-nil K.order (K.state s) fine) some))

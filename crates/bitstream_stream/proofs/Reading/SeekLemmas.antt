@@ -12,7 +12,7 @@ use Rattle.std.specs.Io.KnownBytes.{Keeps}
 use Rattle.std.specs.Io.Seek.{IsSeekTarget, SeekMoves, StaysAt}
 use Rattle.bitstream_count.specs.declared.error.Error.{Error}
 use Rattle.bitstream_count.specs.declared.error.Error.TheVariants.{Place}
-use Rattle.bitstream_count.specs.Entry.{ReadEntry, TooFew, Takes}
+use Rattle.bitstream_count.specs.Codec.{Decoder, Incomplete, Done}
 use Rattle.bitstream_number.specs.Word.{Order, bits, word, number}
 use Rattle.bitstream_number.proofs.WordLemmas.{length-word, length-bits}
 use Rattle.bitstream_order.specs.Port.{PortState, Placed}
@@ -21,11 +21,12 @@ use Rattle.bitstream_order.specs.Streaming.Slice.{slice_bytes, slice_place, slic
 use Rattle.bitstream_order.proofs.Streaming.SliceLemmas.{IsNear, slice_in_range, slice_rest}
 use Rattle.bitstream_stream.specs.Reading.Place.{bit_meant, place_of}
 use Rattle.bitstream_stream.specs.Reading.Reader.{reader_state}
-use Rattle.bitstream_stream.specs.Reading.ReadTable.{unsigned_entry}
+use Rattle.bitstream_stream.specs.Reading.ReadTable.{unsigned_decoder}
 use Rattle.bitstream_stream.specs.Reading.Reads.{ReaderState, Reads, ReadOutcome, ReadDone, ReadRefused, failed_reader}
 use Rattle.bitstream_order.specs.declared.streams.slice.Slice.{Slice}
 use Rattle.bitstream_stream.specs.Reading.Seek.{IsByteSeek, MaySeek, SeekerOf, Tells, CountsFrom, Means, Lands, RequestRefused, SkipRefused, GoesTo, OnlyAsked, Begins, SeeksBits, AsksPlace, IsFromHere}
-use Rattle.bitstream_stream.proofs.Reading.ReadsLemmas.{Consumes-known, parts_left, ok_front}
+use Rattle.bitstream_stream.proofs.Shared.{exit_is}
+use Rattle.bitstream_stream.proofs.Reading.ReadsLemmas.{Consumes-known, parts_left, ok_prefix}
 use Rattle.bitstream_stream.proofs.Reading.TableLemmas.{unsigned-takes}
 
 -- ---- the bits behind a place
@@ -85,26 +86,26 @@ rest_at K place at old mid xs begins told =
 
 -- ---- skipping the first bits of a byte
 
-front_size : (b : Bool) (n m : ℕ) (r x : Result ℕ Error) → (if b then Takes n r else TooFew) ≡ Takes m x → m ≡ n
-front_size true n m r x h = cc
-front_size false n m r x h = cc
+prefix_size : (b : Bool) (n m : ℕ) (r x : Result ℕ Error) → (if b then Done n r else Incomplete) ≡ Done m x → m ≡ n
+prefix_size true n m r x h = cc
+prefix_size false n m r x h = cc
 
-front_few : (b : Bool) (n m : ℕ) (r : Result ℕ Error) → nat_le n m ≡ b → (if b then Takes n r else TooFew) ≡ TooFew
+prefix_few : (b : Bool) (n m : ℕ) (r : Result ℕ Error) → nat_le n m ≡ b → (if b then Done n r else Incomplete) ≡ Incomplete
     → m < n
-front_few true n m r is h = cc
-front_few false n m r is h = leb-false n m is
+prefix_few true n m r is h = cc
+prefix_few false n m r is h = leb-false n m is
 
-skipped_size : (o : Order) (n p m : ℕ) (w : List Bool) (x : Result ℕ Error) → n ≤ 8 → (unsigned_entry o 8 n).reads p w
-    ≡ Takes m x → m ≡ n
-skipped_size o n p m w x le h = front_size (nat_le n (length w)) n m (Ok (number o (take n w))) x
-    (subst (λ (e : ReadEntry ℕ). e.reads p w ≡ Takes m x) (unsigned-takes o 8 n le) h)
+skipped_size : (o : Order) (n p m : ℕ) (w : List Bool) (x : Result ℕ Error) → n ≤ 8 → (unsigned_decoder o 8 n).reads p w
+    ≡ Done m x → m ≡ n
+skipped_size o n p m w x le h = prefix_size (nat_le n (length w)) n m (Ok (number o (take n w))) x
+    (subst (λ (e : Decoder ℕ). e.reads p w ≡ Done m x) (unsigned-takes o 8 n le) h)
 
-skipped_few : (o : Order) (n p : ℕ) (w : List Bool) → n ≤ 8 → (unsigned_entry o 8 n).reads p w ≡ TooFew → length w < n
-skipped_few o n p w le h = front_few (nat_le n (length w)) n (length w) (Ok (number o (take n w))) refl
-    (subst (λ (e : ReadEntry ℕ). e.reads p w ≡ TooFew) (unsigned-takes o 8 n le) h)
+skipped_few : (o : Order) (n p : ℕ) (w : List Bool) → n ≤ 8 → (unsigned_decoder o 8 n).reads p w ≡ Incomplete → length w < n
+skipped_few o n p w le h = prefix_few (nat_le n (length w)) n (length w) (Ok (number o (take n w))) refl
+    (subst (λ (e : Decoder ℕ). e.reads p w ≡ Incomplete) (unsigned-takes o 8 n le) h)
 
 pub lands : {R : Type 0} (K : SeekerOf R) (place at v : ℕ) (old mid new : R) → Begins K (Start (place / 8)) old at mid
-    → ReadDone K.source.order (unsigned_entry K.source.order 8 (place % 8)) (K.source.state mid) (Ok v)
+    → ReadDone K.source.order (unsigned_decoder K.source.order 8 (place % 8)) (K.source.state mid) (Ok v)
     (K.source.state new) → Lands K place old new
 lands K place at v old mid new begins h =
     let o = K.source.order in
@@ -132,7 +133,7 @@ lands K place at v old mid new begins h =
 
 pub skip_refused : {R : Type 0} (K : SeekerOf R) (place at : ℕ) (old mid new : R) (x : Error) (r : Result ℕ Error) → r
     ≡ Err x → Begins K (Start (place / 8)) old at mid
-    → ReadRefused K.source.order K.source.may (unsigned_entry K.source.order 8 (place % 8)) (K.source.state mid) (Err x)
+    → ReadRefused K.source.order K.source.may (unsigned_decoder K.source.order 8 (place % 8)) (K.source.state mid) (Err x)
     (K.source.state new) → SkipRefused K place old r new
 skip_refused K place at old mid new x r same begins h = record {
   refused = record {
@@ -163,36 +164,32 @@ skip_refused K place at old mid new x r same begins h = record {
       );
 }
 
-skips_some : (b : Bool) (n m : ℕ) (v : ℕ) (x : Error) → (if b then Takes n (Ok v) else TooFew) ≡ Takes m (Err x) → ⊥
+skips_some : (b : Bool) (n m : ℕ) (v : ℕ) (x : Error) → (if b then Done n (Ok v) else Incomplete) ≡ Done m (Err x) → ⊥
 skips_some true n m v x h = cc
 skips_some false n m v x h = cc
 
-skip_answers : (o : Order) (n p m : ℕ) (w : List Bool) (x : Error) → n ≤ 8 → (unsigned_entry o 8 n).reads p w
-    ≡ Takes m (Err x) → ⊥
+skip_answers : (o : Order) (n p m : ℕ) (w : List Bool) (x : Error) → n ≤ 8 → (unsigned_decoder o 8 n).reads p w
+    ≡ Done m (Err x) → ⊥
 skip_answers o n p m w x le h = skips_some (nat_le n (length w)) n m (number o (take n w)) x
-    (subst (λ (e : ReadEntry ℕ). e.reads p w ≡ Takes m (Err x)) (unsigned-takes o 8 n le) h)
-
-error_is : {A : Type 0} {x : Error} (r : Result A Error) → IsErrAnd r (λ y. y ≡ x) → r ≡ Err x
-error_is (Ok v) same = absurd same
-error_is (Err y) same = ap Err same
+    (subst (λ (e : Decoder ℕ). e.reads p w ≡ Done m (Err x)) (unsigned-takes o 8 n le) h)
 
 pub goes : {R : Type 0} {K : SeekerOf R} {place counted at v : ℕ} {old mid new : R} → Begins K (Start (place / 8)) old at mid
-    → Reads K.source (unsigned_entry K.source.order 8 (place % 8)) mid (Ok v) new
+    → Reads K.source (unsigned_decoder K.source.order 8 (place % 8)) mid (Ok v) new
     → GoesTo K place counted old (Ok place) new
 goes {K = K} {place = place} begins h =
     GoesTo.was_done refl (lands K place _ _ _ _ _ begins
-    (ok_front (ap (λ (e : ReadEntry ℕ). e.on_failed) (unsigned-takes K.source.order 8 (place % 8) (omega arith)))
+    (ok_prefix (ap (λ (e : Decoder ℕ). e.on_failed) (unsigned-takes K.source.order 8 (place % 8) (omega arith)))
     h))
 
 pub goes_too_far : {R : Type 0} {K : SeekerOf R} {place counted at : ℕ} {x : Error} {old mid new : R} (r : Result ℕ Error)
     → IsErrAnd r (λ y. y ≡ x) → Begins K (Start (place / 8)) old at mid
-    → Reads K.source (unsigned_entry K.source.order 8 (place % 8)) mid (Err x) new
+    → Reads K.source (unsigned_decoder K.source.order 8 (place % 8)) mid (Err x) new
     → GoesTo K place counted old r new
 goes_too_far r same begins (ReadOutcome.had_failed h) = let p = h.failed in let q = begins.failed in cc
 goes_too_far {K = K} {place = place} r same begins (ReadOutcome.was_done h) =
     absurd (skip_answers K.source.order (place % 8) _ _ (h.word ++ []) _ (omega arith) (h.decides []))
 goes_too_far {K = K} {place = place} r same begins (ReadOutcome.was_refused h) =
-    GoesTo.was_too_far (skip_refused K place _ _ _ _ _ r (error_is r same) begins h)
+    GoesTo.was_too_far (skip_refused K place _ _ _ _ _ r (exit_is r same) begins h)
 goes_too_far r same begins (ReadOutcome.memory_refused g h) = cc
 
 -- ---- asking for the place
@@ -320,10 +317,10 @@ end_means {K = K} n {old = old} {mid = mid} {at = at} begins meant = record {
   meant = meant;
 }
 
-pub goes_back : {R : Type 0} {K : SeekerOf R} {n : ℤ} {old mid new : R} {at place : ℕ} {r : Result ℕ Error}
+pub round_trip : {R : Type 0} {K : SeekerOf R} {n : ℤ} {old mid new : R} {at place : ℕ} {r : Result ℕ Error}
     → Begins K (End (pos 0)) old at mid → place_of (bit_meant at 0 (End n)) ≡ Some place
     → GoesTo K place (K.source.state mid).fetched mid r new → SeeksBits K (End n) old r new
-goes_back {K = K} {n = n} {old = old} {new = new} {place = place} {r = r} begins meant goes =
+round_trip {K = K} {n = n} {old = old} {new = new} {place = place} {r = r} begins meant goes =
     SeeksBits.was_meant place (λ h. absurd h) (end_means n begins meant)
     (subst (λ m. GoesTo K place m old r new) begins.fetched
     (goes_from begins.refusals begins.references (told_anew begins) goes))

@@ -9,41 +9,41 @@ use Rattle.std.proofs.lemmas.Bool.{le-leb, cases_lt}
 use Rattle.std.specs.Result.{IsErrAnd}
 use Rattle.bitstream_count.specs.declared.error.Error.{Error}
 use Rattle.bitstream_count.specs.declared.error.Error.TheVariants.{OutOfMemory}
-use Rattle.bitstream_count.specs.Entry.{Front, TooFew, Takes}
+use Rattle.bitstream_count.specs.Codec.{Incomplete, Done}
 use Rattle.bitstream_number.specs.Word.{Order, High, Low}
 use Rattle.bitstream_order.specs.Parts.{value_bytes}
 use Rattle.bitstream_order.specs.Port.{PortState, Fetches}
-use Rattle.bitstream_order.specs.Moving.Gather.{seen}
+use Rattle.bitstream_order.specs.Moving.Gather.{result_map}
 use Rattle.bitstream_order.proofs.Streaming.FaultLemmas.{end_few}
 use Rattle.bitstream_stream.specs.WholeBytes.ByteReader.{byte_reader_state}
-use Rattle.bitstream_stream.specs.WholeBytes.ByteReads.{ByteReaderState, ByteSource, ByteReadEntry, byte_call, byte_front, given_bytes, skipped_bytes, BytesTaken, ByteReadDone, ByteReadOutcome, was_done, was_refused, memory_refused, ByteReads, ByteReadsGrowing}
-use Rattle.bitstream_stream.proofs.Reading.EntryLemmas.{word_front-some as byte_front-some, word_front-none as byte_front-none, word_needs}
+use Rattle.bitstream_stream.specs.WholeBytes.ByteReads.{ByteReaderState, ByteSource, ByteDecoder, byte_call, byte_prefix, given_bytes, skipped_bytes, BytesTaken, ByteReadDone, ByteReadOutcome, was_done, was_refused, memory_refused, ByteReads, ByteReadsGrowing}
+use Rattle.bitstream_stream.proofs.Reading.CodecLemmas.{word_prefix-some as byte_prefix-some, word_prefix-none as byte_prefix-none, word_needs}
 use Rattle.bitstream_stream.proofs.Reading.ReadsLemmas.{Consumes-known}
 use Rattle.bitstream_stream.proofs.Shared.{exit_is}
 
--- ---- fronts of n bytes
+-- ---- prefixes of n bytes
 
-byte_front-all : {A : Type 0} (n : ℕ) (g : List ℕ → Result A Error) (w : List ℕ) → n ≤ length w → byte_front n g w
-    ≡ Takes n (g (take n w))
-byte_front-all n g w h = rw (le-leb n (length w) h) refl
+byte_prefix-all : {A : Type 0} (n : ℕ) (g : List ℕ → Result A Error) (w : List ℕ) → n ≤ length w → byte_prefix n g w
+    ≡ Done n (g (take n w))
+byte_prefix-all n g w h = rw (le-leb n (length w) h) refl
 
--- bytes that decide a front of n are n, and have its answer
-decided : {A : Type 0} (n : ℕ) (g : List ℕ → Result A Error) (w : List ℕ) (r : Result A Error) → byte_front n g w
-    ≡ Takes (length w) r → (length w ≡ n) × (r ≡ g w)
+-- bytes that decide a prefix of n are n, and have its answer
+decided : {A : Type 0} (n : ℕ) (g : List ℕ → Result A Error) (w : List ℕ) (r : Result A Error) → byte_prefix n g w
+    ≡ Done (length w) r → (length w ≡ n) × (r ≡ g w)
 decided n g w r h = elim (cases_lt (length w) n) [
-  | inl short ↦ let none = byte_front-none n g w short in cc
+  | inl short ↦ let none = byte_prefix-none n g w short in cc
   | inr long ↦
-      let both : Takes n (g (take n w)) ≡ Takes (length w) r = sym (byte_front-all n g w long) ∙ h in
+      let both : Done n (g (take n w)) ≡ Done (length w) r = sym (byte_prefix-all n g w long) ∙ h in
       let size : n ≡ length w = cc in
       let answer : g (take n w) ≡ r = cc in
       (sym size, sym answer ∙ ap g (ap (λ k. take k w) size ∙ take-length w))
 ]
 
 -- bytes that are too few
-too_few : {A : Type 0} (n : ℕ) (g : List ℕ → Result A Error) (w : List ℕ) → byte_front n g w ≡ TooFew → length w < n
-too_few n g w h = elim (cases_lt (length w) n) [
+incomplete : {A : Type 0} (n : ℕ) (g : List ℕ → Result A Error) (w : List ℕ) → byte_prefix n g w ≡ Incomplete → length w < n
+incomplete n g w h = elim (cases_lt (length w) n) [
   | inl short ↦ short
-  | inr long ↦ let some = byte_front-all n g w long in cc
+  | inr long ↦ let some = byte_prefix-all n g w long in cc
 ]
 
 -- ---- bytes that were taken
@@ -60,21 +60,21 @@ BytesTaken-trans x y s t u h k =
       references = k.references ∙ h.references;
     }
 
-took_front : {A : Type 0} (n : ℕ) (g : List ℕ → Result A Error) (w : List ℕ) (s t : ByteReaderState) → length w ≡ n
-    → BytesTaken s w t → ByteReadDone (byte_call (byte_front n g)) s (g w) t
-took_front n g w s t len h =
+took_prefix : {A : Type 0} (n : ℕ) (g : List ℕ → Result A Error) (w : List ℕ) (s t : ByteReaderState) → length w ≡ n
+    → BytesTaken s w t → ByteReadDone (byte_call (byte_prefix n g)) s (g w) t
+took_prefix n g w s t len h =
     record {
       bytes = w;
-      decides = λ more. byte_front-some n g w more len ∙ ap (λ k. Takes k (g w)) (sym len);
+      decides = λ more. byte_prefix-some n g w more len ∙ ap (λ k. Done k (g w)) (sym len);
       needs =
           word_needs n g w len;
       took = h;
     }
 
--- a front of n took n bytes and has their answer
-front_took : {A : Type 0} (n : ℕ) (g : List ℕ → Result A Error) (r : Result A Error) (s t : ByteReaderState)
-    (h : ByteReadDone (byte_call (byte_front n g)) s r t) → (length h.bytes ≡ n) × (r ≡ g h.bytes)
-front_took n g r s t h = decided n g h.bytes r (ap (byte_front n g) (sym (append-nil h.bytes)) ∙ h.decides [])
+-- a prefix of n took n bytes and has their answer
+prefix_took : {A : Type 0} (n : ℕ) (g : List ℕ → Result A Error) (r : Result A Error) (s t : ByteReaderState)
+    (h : ByteReadDone (byte_call (byte_prefix n g)) s r t) → (length h.bytes ≡ n) × (r ≡ g h.bytes)
+prefix_took n g r s t h = decided n g h.bytes r (ap (byte_prefix n g) (sym (append-nil h.bytes)) ∙ h.decides [])
 
 -- ---- calls one after another
 
@@ -83,7 +83,7 @@ pub bytes_took : {R : Type 0} {K : ByteSource R} {grows : Bool} (n : ℕ) (x : L
     → ByteReadOutcome K grows (given_bytes n) s (Ok x) t → BytesTaken (K.state s) x (K.state t) × (length x ≡ n)
 unfolding given_bytes
 bytes_took {K = K} n x s t (was_done h) =
-    let e = front_took n (λ w. Ok w) (Ok x) (K.state s) (K.state t) h in
+    let e = prefix_took n (λ w. Ok w) (Ok x) (K.state s) (K.state t) h in
     let answer : Ok x ≡ Ok h.bytes = e.1 in
     let same : x ≡ h.bytes = cc in
     (subst (λ w. BytesTaken (K.state s) w (K.state t)) (sym same) h.took, ap (λ l. length l) same ∙ e.0)
@@ -93,7 +93,7 @@ bytes_took n x s t (memory_refused g h) = let p = h.answer in cc
 pub bytes_taken : {R : Type 0} {K : ByteSource R} {grows : Bool} (n : ℕ) (x : List ℕ) (s t : R) → length x ≡ n
     → BytesTaken (K.state s) x (K.state t) → ByteReadOutcome K grows (given_bytes n) s (Ok x) t
 unfolding given_bytes
-bytes_taken {K = K} n x s t len h = was_done (took_front n (λ w. Ok w) x (K.state s) (K.state t) len h)
+bytes_taken {K = K} n x s t len h = was_done (took_prefix n (λ w. Ok w) x (K.state s) (K.state t) len h)
 
 -- no bytes
 pub bytes_none : {R : Type 0} {K : ByteSource R} {grows : Bool} (s : R)
@@ -122,13 +122,13 @@ pub bytes_then : {R : Type 0} {K : ByteSource R} {grows : Bool} (a b n : ℕ) (x
 bytes_then {K = K} {grows = grows} a b n x y z s t u sum is h k = rw (is, ← sum) (bytes_more a b x y s t u h k)
 
 -- some bytes of n, and then a call that was refused, of a call that makes an answer of the n bytes
-stop_front : {R A : Type 0} {K : ByteSource R} {grows : Bool} (g : List ℕ → Result A Error) (a b n : ℕ)
+stop_prefix : {R A : Type 0} {K : ByteSource R} {grows : Bool} (g : List ℕ → Result A Error) (a b n : ℕ)
     (x : List ℕ) (e : Error) (s t u : R) → a + b ≤ n → ByteReadOutcome K grows (given_bytes a) s (Ok x) t
-    → ByteReads K (given_bytes b) t (Err e) u → ByteReadOutcome K grows (byte_call (byte_front n g)) s (Err e) u
+    → ByteReads K (given_bytes b) t (Err e) u → ByteReadOutcome K grows (byte_call (byte_prefix n g)) s (Err e) u
 unfolding given_bytes
-stop_front {K = K} g a b n x e s t u le h (was_done k) = let p =
-    (front_took b (λ w. Ok w) (Err e) (K.state t) (K.state u) k).1 in cc
-stop_front {K = K} g a b n x e s t u le h (was_refused k) =
+stop_prefix {K = K} g a b n x e s t u le h (was_done k) = let p =
+    (prefix_took b (λ w. Ok w) (Err e) (K.state t) (K.state u) k).1 in cc
+stop_prefix {K = K} g a b n x e s t u le h (was_refused k) =
     let p = bytes_took a x s t h in
     let took = p.0 in
     let len = p.1 in
@@ -140,23 +140,23 @@ stop_front {K = K} g a b n x e s t u le h (was_refused k) =
       loses = Consumes-trans (K.state s).bytes (K.state t).bytes k.refusal.before x k.gone took.loses k.loses;
       after = k.after;
       taken = let i = took.taken in let j = k.taken in let l = length-append x k.gone in omega arith;
-      few = let few = too_few b (λ w. Ok w) k.gone k.few in
-          byte_front-none n g (x ++ k.gone) (omega (arith, length-append x k.gone));
+      few = let few = incomplete b (λ w. Ok w) k.gone k.few in
+          byte_prefix-none n g (x ++ k.gone) (omega (arith, length-append x k.gone));
       ended = λ end xs known.
           let left = Consumes-known (K.state s).bytes (K.state t).bytes x xs took.loses known in
-          let few = too_few b (λ w. Ok w) left.0 (k.ended end left.0 left.1) in
+          let few = incomplete b (λ w. Ok w) left.0 (k.ended end left.0 left.1) in
           let all : length xs ≡ length x + length left.0 = ap (λ l. length l) left.2 ∙ length-append x left.0 in
-          byte_front-none n g xs (omega arith);
+          byte_prefix-none n g xs (omega arith);
       refusals = k.refusals ∙ ap (λ l. k.refusal ∷ l) took.refusals;
       references = k.references ∙ took.references;
     })
-stop_front g a b n x e s t u le h (memory_refused m k) = cc
+stop_prefix g a b n x e s t u le h (memory_refused m k) = cc
 
 pub bytes_stop : {R : Type 0} {K : ByteSource R} {grows : Bool} (a b n : ℕ) (x : List ℕ) (e : Error) (s t u : R)
     → a + b ≤ n → ByteReadOutcome K grows (given_bytes a) s (Ok x) t → ByteReads K (given_bytes b) t (Err e) u
     → ByteReadOutcome K grows (given_bytes n) s (Err e) u
 unfolding given_bytes
-bytes_stop a b n x e s t u le h k = stop_front (λ w. Ok w) a b n x e s t u le h k
+bytes_stop a b n x e s t u le h k = stop_prefix (λ w. Ok w) a b n x e s t u le h k
 
 -- fewer than n bytes, and then memory was refused
 pub bytes_starved : {R : Type 0} {K : ByteSource R} (a n : ℕ) (x : List ℕ) (s t : R) → a < n
@@ -167,17 +167,17 @@ bytes_starved a n x s t less h =
     memory_refused refl (record {
       answer = refl;
       bytes = x;
-      few = byte_front-none n (λ w. Ok w) x (omega (arith, p.1));
+      few = byte_prefix-none n (λ w. Ok w) x (omega (arith, p.1));
       took = p.0;
     })
 
 -- n bytes, whatever they are
 pub bytes_skipped : {R : Type 0} {K : ByteSource R} (n : ℕ) (r : Result (List ℕ) Error) (s t : R)
-    → ByteReads K (given_bytes n) s r t → ByteReads K (skipped_bytes n) s (seen (λ _. tt) r) t
+    → ByteReads K (given_bytes n) s r t → ByteReads K (skipped_bytes n) s (result_map (λ _. tt) r) t
 unfolding given_bytes skipped_bytes
 bytes_skipped {K = K} n (Ok x) s t h = let p = bytes_took n x s t h in
-    was_done (took_front n (λ _. Ok tt) x (K.state s) (K.state t) p.1 p.0)
-bytes_skipped {K = K} n (Err e) s t h = stop_front (λ _. Ok tt) 0 n n [] e s s t (omega arith)
+    was_done (took_prefix n (λ _. Ok tt) x (K.state s) (K.state t) p.1 p.0)
+bytes_skipped {K = K} n (Err e) s t h = stop_prefix (λ _. Ok tt) 0 n n [] e s s t (omega arith)
     (bytes_none {K = K} {grows = false} s) h
 
 -- ---- one request
@@ -186,7 +186,7 @@ bytes_skipped {K = K} n (Err e) s t h = stop_front (λ _. Ok tt) 0 n n [] e s s 
 pub bytes_fetched : {R : Type 0} {K : ByteSource R} (n : ℕ) (bytes : List ℕ)
     (answer : Result (Unit {0}) Error) (old new : PortState) (s t : R) → K.state s ≡ byte_reader_state old → K.state t
     ≡ byte_reader_state new → length bytes ≡ n → 0 < n
-    → Fetches K.may old bytes answer new → ByteReads K (given_bytes n) s (seen (λ _. bytes) answer) t
+    → Fetches K.may old bytes answer new → ByteReads K (given_bytes n) s (result_map (λ _. bytes) answer) t
 unfolding given_bytes
 bytes_fetched {K = K} n bytes (Ok done) old new s t before after len some h =
     bytes_taken n bytes s t len (rw (before, after) (record {
@@ -204,8 +204,8 @@ bytes_fetched {K = K} n bytes (Err error) old new s t before after len some h =
       loses = subst (λ b. Consumes old.bytes b []) (sym h.before) (Consumes-nil old.bytes);
       after = h.after;
       taken = let same = h.fetched in omega arith;
-      few = byte_front-none n (λ w. Ok w) [] some;
-      ended = λ end xs known. byte_front-none n (λ w. Ok w) xs
+      few = byte_prefix-none n (λ w. Ok w) [] some;
+      ended = λ end xs known. byte_prefix-none n (λ w. Ok w) xs
           (subst (λ k. length xs < k) len (end_few K.may error old new (length bytes) xs h end known));
       refusals = h.refusals;
       references = h.references;
@@ -237,7 +237,7 @@ byte_put {K = K} i buf x s t u fits h k =
 
 -- ---- what the exit of a `?` returns
 
-pub left_by : {R A : Type 0} {K : ByteSource R} {grows : Bool} {e : ByteReadEntry A} {x : Error} {s t : R} (r :
+pub left_by : {R A : Type 0} {K : ByteSource R} {grows : Bool} {e : ByteDecoder A} {x : Error} {s t : R} (r :
     Result A Error) → IsErrAnd r (λ y. y ≡ x) → ByteReadOutcome K grows e s (Err x) t → ByteReadOutcome K grows e s r t
 left_by {K = K} {grows = grows} {e = e} {s = s} {t = t} r h k =
     subst (λ z. ByteReadOutcome K grows e s z t) (sym (exit_is r h)) k

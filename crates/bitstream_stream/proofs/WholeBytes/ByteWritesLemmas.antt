@@ -1,11 +1,10 @@
 -- How writes of whole bytes compose.
-use Rattle.std.proofs.Common.{◌≡◌, ℕ, ◌+◌, ◌-◌, ◌<◌, ◌≤◌, List, [], ◌∷◌, ◌++◌, append_assoc, length, take, replicate, Option, None, Result, Ok, Err, refl, sym, ap, ap₂, ◌∙◌, subst, length-append, arith}
+use Rattle.std.proofs.Common.{◌≡◌, ℕ, ◌+◌, ◌-◌, ◌<◌, ◌≤◌, List, [], ◌∷◌, ◌++◌, append_assoc, length, take, replicate, None, Result, Ok, Err, refl, sym, ap, ap₂, ◌∙◌, subst, length-append, arith}
 use Rattle.std.proofs.lemmas.List.{take-replicate, replicate-append-replicate}
 use Rattle.std.proofs.KnownBytes.{Appends-nil, Appends-trans}
 use Rattle.std.specs.Borrow.{GName, MutBor}
 use Rattle.std.specs.Io.KnownBytes.{Appends}
-use Rattle.std.specs.declared.io.ErrorKind.{ErrorKind}
-use Rattle.bitstream_order.specs.Reference.{Reference, by_name, capacity_of}
+use Rattle.bitstream_order.specs.Reference.{by_name, capacity_of}
 use Rattle.bitstream_count.specs.declared.error.Error.{Error}
 use Rattle.bitstream_number.specs.Word.{Order}
 use Rattle.bitstream_order.specs.Port.{Sends}
@@ -50,17 +49,17 @@ module _ {S : Type 0} (K : ByteSink S) where
         refusal = k.refusal;
         allowed = k.allowed;
         answer = k.answer;
-        front = x ++ k.front;
+        prefix = x ++ k.prefix;
         back = k.back ++ z;
-        parts = ap (λ l. x ++ (l ++ z)) k.parts ∙ ap (λ l. x ++ l) (append_assoc k.front k.back z)
-            ∙ sym (append_assoc x k.front (k.back ++ z));
+        parts = ap (λ l. x ++ (l ++ z)) k.parts ∙ ap (λ l. x ++ l) (append_assoc k.prefix k.back z)
+            ∙ sym (append_assoc x k.prefix (k.back ++ z));
         some = let some = k.some in omega (arith, length-append k.back z);
         asked = let asked = k.asked in omega (arith, length-append k.back z);
         capacity = k.capacity ∙ ap capacity_of h.references;
-        before = Appends-trans (K.contents s) (K.contents t) k.refusal.before x k.front (K.grows s t x h.grown)
+        before = Appends-trans (K.contents s) (K.contents t) k.refusal.before x k.prefix (K.grows s t x h.grown)
             k.before;
         after = k.after;
-        sent = let far = K.appends_len s t x h.grown in let sent = k.sent in omega (arith, length-append x k.front);
+        sent = let far = K.appends_len s t x h.grown in let sent = k.sent in omega (arith, length-append x k.prefix);
         refusals = k.refusals ∙ ap (λ l. k.refusal ∷ l) h.refusals;
         references = k.references ∙ h.references;
       }
@@ -106,7 +105,7 @@ bytes_sent O o x a b (Err e) some h = was_refused e tt refl (record {
   refusal = h.refusal;
   allowed = h.allowed;
   answer = h.answer;
-  front = [];
+  prefix = [];
   back = x;
   parts = refl;
   some = some;
@@ -137,7 +136,7 @@ module _ {S : Type 0} (K : ByteSink S) (a b : MutBor S) (same : b.ghost_name ≡
     refusal = h.refusal;
     allowed = h.allowed;
     answer = h.answer;
-    front = h.front;
+    prefix = h.prefix;
     back = h.back;
     parts = h.parts;
     some = h.some;

@@ -3,7 +3,7 @@ use Rattle.std.proofs.Common.{◌≡◌, ℕ, ◌+◌, ◌*◌, ◌/◌, ◌%◌
 use Rattle.std.specs.Io.KnownBytes.{Appends}
 use Rattle.bitstream_number.specs.Word.{Order, word, bits}
 use Rattle.bitstream_number.proofs.WordLemmas.{length-word, length-bits}
-use Rattle.bitstream_count.specs.Entry.{WriteEntry}
+use Rattle.bitstream_count.specs.Codec.{Encoder}
 use Rattle.bitstream_count.specs.declared.error.Error.{Error}
 use Rattle.std.specs.Borrow.{GName}
 use Rattle.bitstream_order.specs.Reference.{capacity_of, to_slice}
@@ -13,7 +13,7 @@ use Rattle.bitstream_order.specs.declared.streams.slice_mut.SliceMut.{SliceMut}
 use Rattle.bitstream_order.proofs.Streaming.SliceMutLemmas.{slice_lacks_room}
 use Rattle.bitstream_stream.specs.Writing.Carries.{WriterState}
 use Rattle.bitstream_stream.specs.Writing.Room.{HasRoom, AllAccepted}
-use Rattle.bitstream_stream.specs.Run.{accepted, write_run}
+use Rattle.bitstream_stream.specs.Sequence.{accepted_bits, write_sequence}
 use Rattle.bitstream_stream.specs.Writing.Sink.{Sink, IsPastLimit, inner_sink, Appended, WriteRefused, Writes, WritesAll, had_failed, was_rejected, past_limit, was_refused, was_done}
 use Rattle.bitstream_stream.specs.Writing.WriteTable.{align}
 use Rattle.bitstream_stream.specs.Writing.Writer.{queue_sink, new_writer_state, writer_sink, writer_state}
@@ -36,10 +36,10 @@ grown_bytes {new = Some ys} {xs = xs} bs known grows =
     (ys, refl, ap length whole ∙ length-append xs bs)
 
 -- what is asked for behind the bytes that were filled is no more than what all bits fill
-asked_fits : (queued front n filled rest before after wanted : ℕ) → queued + front ≡ 8 * filled + rest → rest < 8
-    → after % 8 ≡ 0 → 8 * before + queued + front < after + 8 → after + 8 * wanted ≤ 8 * before + queued + n
+asked_fits : (queued prefix n filled rest before after wanted : ℕ) → queued + prefix ≡ 8 * filled + rest → rest < 8
+    → after % 8 ≡ 0 → 8 * before + queued + prefix < after + 8 → after + 8 * wanted ≤ 8 * before + queued + n
     → filled + wanted ≤ (queued + n) / 8
-asked_fits queued front n filled rest before after wanted cut few whole least asked = omega arith
+asked_fits queued prefix n filled rest before after wanted cut few whole least asked = omega arith
 
 -- less room is enough for less
 less_room : (s : WriterState) (m n : ℕ) → HasRoom s (m + n) → HasRoom s m
@@ -63,9 +63,9 @@ module _ {R : Type 0} (f : R → WriterState) (may : Refusal → Type 0) (o : Or
       let most = same_number (sym lack.room ∙ h.capacity ∙ room.capacity) in
       let grown = grown_bytes _ room.told h.before.grows in
       let held = ap length (same_bytes (sym lack.told ∙ grown.1)) in
-      let cut = sym (length-append (word o (f s).queued (f s).queue) h.front) ∙ ap length h.before.word
+      let cut = sym (length-append (word o (f s).queued (f s).queue) h.prefix) ∙ ap length h.before.word
       ∙ length-append (bits o h.before.bytes) h.before.rest in
-      let fits = asked_fits (f s).queued (length h.front) (length x) (length h.before.bytes) (length h.before.rest)
+      let fits = asked_fits (f s).queued (length h.prefix) (length x) (length h.before.bytes) (length h.before.rest)
       (f s).port.sent (8 * (f t).port.sent + (f t).queued) h.refusal.wanted
       (omega (arith, cut, length-word o (f s).queued (f s).queue, length-bits o h.before.bytes)) h.before.few h.whole
       h.least h.asked in
@@ -94,7 +94,7 @@ module _ {R : Type 0} (f : R → WriterState) (may : Refusal → Type 0) (o : Or
       }
 
   -- an accepted call is done, and there is room for what is left
-  pub room-writes : {T : Type 0} (e : WriteEntry) (s t : R) (x : List Bool) (n : ℕ) (r : Result T Error)
+  pub room-writes : {T : Type 0} (e : Encoder) (s t : R) (x : List Bool) (n : ℕ) (r : Result T Error)
       → AllLackRoom may → K.failed s ≡ false → e (K.len s) ≡ Ok x → HasRoom (f s) (length x + n) → Writes K e s r t
       → (done : T) × (r ≡ Ok done) × (K.failed t ≡ false) × HasRoom (f t) n × (K.len t ≡ K.len s + length x)
   room-writes e s t x n r lacks sound is room (had_failed p a k) = cc
@@ -110,22 +110,22 @@ module _ {R : Type 0} (f : R → WriterState) (may : Refusal → Type 0) (o : Or
       (done, a, written.sound, room-left s t x n room written, K.appends_len s t x written.grown)
 
   -- and so are the calls of a list
-  pub room-all : (es : List WriteEntry) (s t : R) (r : Result (Unit {0}) Error) → AllLackRoom may → K.failed s ≡ false
-      → AllAccepted es (K.len s) → HasRoom (f s) (length (write_run es (K.len s))) → WritesAll K es s r t → r ≡ Ok tt
+  pub room-all : (es : List Encoder) (s t : R) (r : Result (Unit {0}) Error) → AllLackRoom may → K.failed s ≡ false
+      → AllAccepted es (K.len s) → HasRoom (f s) (length (write_sequence es (K.len s))) → WritesAll K es s r t → r ≡ Ok tt
   unfolding WritesAll
   room-all [] s t r lacks sound all room h = h.0
   room-all (e ∷ es) s t r lacks sound all room (inl h) =
-      let x = accepted (e (K.len s)) in
-      let others = write_run es (K.len s + length x) in
+      let x = accepted_bits (e (K.len s)) in
+      let others = write_sequence es (K.len s + length x) in
       (room-writes e s t x (length others) r lacks sound all.0
       (subst (HasRoom (f s)) (length-append x others) room) h.1).1
   room-all (e ∷ es) s t r lacks sound all room (inr h) =
-      let x = accepted (e (K.len s)) in
-      let others = write_run es (K.len s + length x) in
+      let x = accepted_bits (e (K.len s)) in
+      let others = write_sequence es (K.len s + length x) in
       let one = room-writes e s h.0 x (length others) (Ok tt) lacks sound all.0
       (subst (HasRoom (f s)) (length-append x others) room) h.1 in
       room-all es h.0 t r lacks one.2 (subst (AllAccepted es) (sym one.4) all.1)
-      (subst (λ n. HasRoom (f h.0) (length (write_run es n))) (sym one.4) one.3) h.2
+      (subst (λ n. HasRoom (f h.0) (length (write_sequence es n))) (sym one.4) one.3) h.2
 
 -- a writer of bytes with room for some is refused nothing
 pub room-bytes : {S T : Type 0} (K : ByteSink S) (xs held : List ℕ) (most : ℕ) (s t : S) (r : Result T Error)
@@ -138,27 +138,27 @@ room-bytes K xs held most s t r lacks none known capacity room (was_refused e w 
     let same = same_number (sym lack.room ∙ h.capacity ∙ capacity) in
     let grown = grown_bytes _ known h.before in
     let told = ap length (same_bytes (sym lack.told ∙ grown.1)) in
-    let parts = ap length h.parts ∙ length-append h.front h.back in
+    let parts = ap length h.parts ∙ length-append h.prefix h.back in
     absurd (omega (arith, lack.few, room, same, told, grown.2, parts, h.asked))
 room-bytes K xs held most s t r lacks none known capacity room (was_done done w a h) = (done, a)
 
 -- ---- a new writer of bytes in memory, and a last alignment
 
 -- the calls before the alignment are accepted with it
-accepted_aligned : (es : List WriteEntry) (n : ℕ) → AllAccepted es n → AllAccepted (es ++ align ∷ []) n
+accepted_aligned : (es : List Encoder) (n : ℕ) → AllAccepted es n → AllAccepted (es ++ align ∷ []) n
 accepted_aligned [] n all = (refl, tt)
-accepted_aligned (e ∷ es) n all = (all.0, accepted_aligned es (n + length (accepted (e n))) all.1)
+accepted_aligned (e ∷ es) n all = (all.0, accepted_aligned es (n + length (accepted_bits (e n))) all.1)
 
 -- and have no more bits
-run_before : (es : List WriteEntry) (n : ℕ) → length (write_run es n) ≤ length (write_run (es ++ align ∷ []) n)
+run_before : (es : List Encoder) (n : ℕ) → length (write_sequence es n) ≤ length (write_sequence (es ++ align ∷ []) n)
 run_before [] n = omega arith
 run_before (e ∷ es) n =
-    let x = accepted (e n) in
+    let x = accepted_bits (e n) in
     omega (
       arith,
       run_before es (n + length x),
-      length-append x (write_run es (n + length x)),
-      length-append x (write_run (es ++ align ∷ []) (n + length x)),
+      length-append x (write_sequence es (n + length x)),
+      length-append x (write_sequence (es ++ align ∷ []) (n + length x)),
     )
 
 -- a new writer to a slice has room for the bits of its bytes
@@ -172,24 +172,24 @@ new_room s name was n fresh room = rw fresh (record {
   room = omega arith;
 })
 
-module _ {E : Type 0} (o : Order) (es : List WriteEntry) (a : BitWriter SliceMut E) {name : GName} {was : List ℕ}
+module _ {E : Type 0} (o : Order) (es : List Encoder) (a : BitWriter SliceMut E) {name : GName} {was : List ℕ}
     (fresh : writer_state slice_mut_stream a
     ≡ new_writer_state (Some []) (to_slice name was ∷ [])) (all : AllAccepted es 0)
-    (room : length (write_run (es ++ align ∷ []) 0) ≤ 8 * length was) where
+    (room : length (write_sequence (es ++ align ∷ []) 0) ≤ 8 * length was) where
   abbrev slice_sink : Sink (BitWriter SliceMut E)
   slice_sink = writer_sink slice_mut_stream o
 
   started : slice_sink.len a ≡ 0
   started = ap (λ (s : WriterState). 8 * s.port.sent + s.queued) fresh
 
-  calls_done : (fs : List WriteEntry) (b : BitWriter SliceMut E) (r : Result (Unit {0}) Error) → AllAccepted fs 0
-      → length (write_run fs 0) ≤ 8 * length was → WritesAll slice_sink fs a r b → r ≡ Ok tt
+  calls_done : (fs : List Encoder) (b : BitWriter SliceMut E) (r : Result (Unit {0}) Error) → AllAccepted fs 0
+      → length (write_sequence fs 0) ≤ 8 * length was → WritesAll slice_sink fs a r b → r ≡ Ok tt
   calls_done fs b r good few h =
       room-all (writer_state slice_mut_stream)
       (MayRefuseWrite slice_mut_stream) o fs a b r slice_lacks_room
       (ap (λ (s : WriterState). s.failed) fresh) (subst (AllAccepted fs) (sym started) good)
       (subst (λ n. HasRoom (writer_state slice_mut_stream a)
-      (length (write_run fs n))) (sym started) (new_room _ name was (length (write_run fs 0)) fresh few)) h
+      (length (write_sequence fs n))) (sym started) (new_room _ name was (length (write_sequence fs 0)) fresh few)) h
 
   -- accepted calls on a new writer, over bytes with room for them and for an alignment behind them, are done
   pub calls_with_room : (b : BitWriter SliceMut E) (r : Result (Unit {0}) Error) → WritesAll slice_sink es a r b

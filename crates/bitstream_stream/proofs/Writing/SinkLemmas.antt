@@ -2,9 +2,8 @@
 use Rattle.std.proofs.Common.{◌≡◌, ℕ, ◌+◌, ◌*◌, ◌%◌, ◌<◌, ◌≤◌, ◌≢◌, Bool, IsTrue, true, false, List, [], ◌∷◌, ◌++◌, length, Option, Some, None, Result, Ok, Err, refl, sym, ◌∙◌, ap, ap₂, inl, inr, arith, map}
 use Rattle.std.proofs.lemmas.Bool.{cases_lt}
 use Rattle.std.specs.Borrow.{GName, MutBor}
-use Rattle.std.specs.Result.{IsErrAnd}
 use Rattle.bitstream_order.specs.Reference.{Reference, by_name, capacity_of}
-use Rattle.bitstream_count.specs.Entry.{WriteEntry}
+use Rattle.bitstream_count.specs.Codec.{Encoder}
 use Rattle.bitstream_count.specs.declared.error.Error.{Error}
 use Rattle.bitstream_count.specs.declared.error.Error.TheVariants.{Failed}
 use Rattle.bitstream_stream.specs.Alignment.{to_boundary}
@@ -62,7 +61,7 @@ module _ {R S : Type 0} (f : R → S) (names : R → List GName) (K : Sink S) wh
   }
 
   -- a call on a state that is seen as a state of the sink
-  pub seen : {T : Type 0} (e : WriteEntry) (a : R) (r : Result T Error) (b : R) → names b ≡ names a
+  pub seen : {T : Type 0} (e : Encoder) (a : R) (r : Result T Error) (b : R) → names b ≡ names a
       → Writes K e (f a) r (f b) → Writes (seen_sink f names K) e a r b
   seen e a r b same (had_failed p re k) = had_failed p re (kept_seen a b same k)
   seen e a r b same (was_rejected d p en re k) = was_rejected d p en re (kept_seen a b same k)
@@ -72,7 +71,7 @@ module _ {R S : Type 0} (f : R → S) (names : R → List GName) (K : Sink S) wh
     allowed = k.allowed;
     answer = k.answer;
     full = k.full;
-    front = k.front;
+    prefix = k.prefix;
     back = k.back;
     parts = k.parts;
     before = k.before;
@@ -96,19 +95,19 @@ module _ {R S : Type 0} (f : R → S) (names : R → List GName) (K : Sink S) wh
       })
 
 -- a call on a sink inside a state
-pub inner : {R S T : Type 0} (f : R → S) (K : Sink S) (e : WriteEntry) (a : R) (r : Result T Error) (b : R)
+pub inner : {R S T : Type 0} (f : R → S) (K : Sink S) (e : Encoder) (a : R) (r : Result T Error) (b : R)
     → Writes K e (f a) r (f b) → Writes (inner_sink f K) e a r b
 inner f K e a r b h = seen f (λ _. []) K e a r b refl h
 
 -- a call through a `&mut`
-pub lent : {S T : Type 0} (K : Sink S) (e : WriteEntry) (a : MutBor S) (r : Result T Error) (b : MutBor S)
+pub lent : {S T : Type 0} (K : Sink S) (e : Encoder) (a : MutBor S) (r : Result T Error) (b : MutBor S)
     → b.ghost_name ≡ a.ghost_name → Writes K e a.now r b.now → Writes (lent_sink K) e a r b
 lent {S} K e a r b same h = seen (λ (x : MutBor S). x.now) (λ (x : MutBor S). x.ghost_name ∷ []) K e a r b
     (ap (λ (n : GName). n ∷ []) same) h
 
 module _ {S : Type 0} (K : Sink S) where
-  -- the entry may be replaced by one that says the same of this length
-  pub restate : {T : Type 0} (e f : WriteEntry) (old : S) (r : Result T Error) (new : S) → e (K.len old) ≡ f (K.len old)
+  -- the encoder may be replaced by one that says the same of this length
+  pub restate : {T : Type 0} (e f : Encoder) (old : S) (r : Result T Error) (new : S) → e (K.len old) ≡ f (K.len old)
       → Writes K e old r new → Writes K f old r new
   restate e f old r new same (had_failed p re k) = had_failed p re k
   restate e f old r new same (was_rejected d p en re k) = was_rejected d p (sym same ∙ en) re k
@@ -117,7 +116,7 @@ module _ {S : Type 0} (K : Sink S) where
   restate e f old r new same (was_done y w p en wi re a) = was_done y w p (sym same ∙ en) wi re a
 
   -- a word of no bits is refused only by a sink that has failed
-  pub empty : {T : Type 0} (e : WriteEntry) (old : S) (r : Result T Error) (new : S) (d : Error) → Writes K e old r new
+  pub empty : {T : Type 0} (e : Encoder) (old : S) (r : Result T Error) (new : S) (d : Error) → Writes K e old r new
       → r ≡ Err d → e (K.len old) ≡ Ok [] → (K.failed old ≡ true) × (r ≡ Err Failed) × Kept K old new
   empty e old r new d (had_failed p re k) q h = (p, re, k)
   empty e old r new d (was_rejected d' p en re k) q h = cc
@@ -133,10 +132,10 @@ module _ {S : Type 0} (K : Sink S) where
   kept s = record { grown = K.appends_nil s; failed = refl; refusals = refl; references = refl }
 
   -- a call on a sink that has failed, and one that is refused at once
-  pub fails : {T : Type 0} (e : WriteEntry) (s : S) (r : Result T Error) → K.failed s ≡ true → r ≡ Err Failed
+  pub fails : {T : Type 0} (e : Encoder) (s : S) (r : Result T Error) → K.failed s ≡ true → r ≡ Err Failed
       → Writes K e s r s
   fails e s r broken q = had_failed broken q (kept s)
 
-  pub refuses : {T : Type 0} (e : WriteEntry) (s : S) (r : Result T Error) (d : Error) → K.failed s ≡ false
+  pub refuses : {T : Type 0} (e : Encoder) (s : S) (r : Result T Error) (d : Error) → K.failed s ≡ false
       → e (K.len s) ≡ Err d → r ≡ Err d → Writes K e s r s
   refuses e s r d sound is q = was_rejected d sound is q (kept s)

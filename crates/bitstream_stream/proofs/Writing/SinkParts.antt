@@ -4,7 +4,7 @@ use Rattle.std.specs.Result.{IsErrAnd}
 use Rattle.std.proofs.lemmas.List.{replicate-append-replicate}
 use Rattle.bitstream_number.specs.Word.{Order, word}
 use Rattle.bitstream_order.specs.Reference.{capacity_of}
-use Rattle.bitstream_count.specs.Entry.{WriteEntry}
+use Rattle.bitstream_count.specs.Codec.{Encoder}
 use Rattle.bitstream_count.specs.declared.error.Error.{Error}
 use Rattle.bitstream_count.specs.declared.error.Error.TheVariants.{Failed, CounterOverflow}
 use Rattle.bitstream_stream.specs.Writing.Sink.{Sink, Writes, Appended, Kept, WriteRefused, IsWithin, IsPastLimit, had_failed, was_rejected, past_limit, was_refused, was_done}
@@ -38,7 +38,7 @@ module _ {S : Type 0} (K : Sink S) where
       → WriteRefused K mid y d new → WriteRefused K old word d new
   WriteRefused-within old mid new d x y z word whole grown refusals references k =
       let at = K.appends_len old mid x grown in
-      let size = length-append x k.front in
+      let size = length-append x k.prefix in
       let least = k.least in
       let most = k.most in
       record {
@@ -52,12 +52,12 @@ module _ {S : Type 0} (K : Sink S) where
           ap length whole ∙ length-append x (y ++ z)
               ∙ ap (λ (n : ℕ). length x + n) (length-append y z),
         );
-        front = x ++ k.front;
+        prefix = x ++ k.prefix;
         back = k.back ++ z;
         parts = whole ∙ ap (λ (l : List Bool). x ++ (l ++ z)) k.parts
-            ∙ ap (λ (l : List Bool). x ++ l) (append_assoc k.front k.back z)
-            ∙ sym (append_assoc x k.front (k.back ++ z));
-        before = K.fills_behind old mid x k.front k.refusal.before grown k.before;
+            ∙ ap (λ (l : List Bool). x ++ l) (append_assoc k.prefix k.back z)
+            ∙ sym (append_assoc x k.prefix (k.back ++ z));
+        before = K.fills_behind old mid x k.prefix k.refusal.before grown k.before;
         after = k.after;
         whole = k.whole;
         least = omega arith;
@@ -74,7 +74,7 @@ module _ {S : Type 0} (K : Sink S) where
         references = k.references ∙ references;
       }
 
-  -- of its last part, and of its front
+  -- of its last part, and of its prefix
   pub WriteRefused-behind : (old mid new : S) (d : Error) (x y : List Bool) → Appended K old x mid
       → WriteRefused K mid y d new → WriteRefused K old (x ++ y) d new
   WriteRefused-behind old mid new d x y h k = WriteRefused-within old mid new d x y [] (x
@@ -86,7 +86,7 @@ module _ {S : Type 0} (K : Sink S) where
       refl k
 
   -- a call that answers `Ok` appended its word
-  pub from_ok : {T : Type 0} (e : WriteEntry) (old : S) (r : Result T Error) (new : S) (t : T) (x : List Bool)
+  pub from_ok : {T : Type 0} (e : Encoder) (old : S) (r : Result T Error) (new : S) (t : T) (x : List Bool)
       → Writes K e old r new → r ≡ Ok t → e (K.len old) ≡ Ok x → Begun K old x new
   from_ok e old r new t x (had_failed f re k) q h = cc
   from_ok e old r new t x (was_rejected d f en re k) q h = cc
@@ -96,7 +96,7 @@ module _ {S : Type 0} (K : Sink S) where
       subst (λ (z : List Bool). Begun K old z new) same (record { was_sound = f; within = wi; done = a })
 
   -- and the other way
-  pub to_ok : {T : Type 0} (e : WriteEntry) (old : S) (r : Result T Error) (new : S) (t : T) (x : List Bool)
+  pub to_ok : {T : Type 0} (e : Encoder) (old : S) (r : Result T Error) (new : S) (t : T) (x : List Bool)
       → Begun K old x new → r ≡ Ok t → e (K.len old) ≡ Ok x → Writes K e old r new
   to_ok e old r new t x b q h = was_done x t b.was_sound h b.within q b.done
 
@@ -114,7 +114,7 @@ module _ {S : Type 0} (K : Sink S) where
       }
 
   -- a later part of a word that has room answers an error
-  pub stop_later : {T V : Type 0} (e f : WriteEntry) (old mid : S) (r : Result T Error) (r' : Result V Error)
+  pub stop_later : {T V : Type 0} (e f : Encoder) (old mid : S) (r : Result T Error) (r' : Result V Error)
       (new : S) (d : Error) (x y z : List Bool)
       → Begun K old x mid → Writes K e mid r new → r ≡ Err d → r' ≡ Err d → e (K.len mid) ≡ Ok y → f (K.len old)
       ≡ Ok (x ++ (y ++ z)) → IsWithin K.limit (K.len old + length (x ++ (y ++ z))) → Writes K f old r' new
@@ -137,7 +137,7 @@ module _ {S : Type 0} (K : Sink S) where
   stop_later e f old mid r r' new d x y z b (was_done y' w p en wi re a) q q' h h' room = cc
 
   -- the last part of a word that has room, whatever it answers
-  pub last : {T : Type 0} (e f : WriteEntry) (old mid : S) (r : Result T Error) (new : S) (x y : List Bool)
+  pub last : {T : Type 0} (e f : Encoder) (old mid : S) (r : Result T Error) (new : S) (x y : List Bool)
       → Begun K old x mid → Writes K e mid r new → e (K.len mid) ≡ Ok y → f (K.len old) ≡ Ok (x ++ y)
       → IsWithin K.limit (K.len old + length (x ++ y)) → Writes K f old r new
   last e f old mid (Ok t) new x y b w h h' room = to_ok f old (Ok t) new t (x
@@ -147,8 +147,8 @@ module _ {S : Type 0} (K : Sink S) where
       ∙ ap (λ (l : List Bool). Ok (x ++ l)) (sym (append-nil y)))
       (subst (λ (l : List Bool). IsWithin K.limit (K.len old + length (x ++ l))) (sym (append-nil y)) room)
 
-  -- a call of no bits that found the sink failed, before a call of any entry
-  pub probe_failed : {T V : Type 0} (e f : WriteEntry) (old : S) (r : Result T Error) (r' : Result V Error)
+  -- a call of no bits that found the sink failed, before a call of any encoder
+  pub probe_failed : {T V : Type 0} (e f : Encoder) (old : S) (r : Result T Error) (r' : Result V Error)
       (new : S) (d : Error)
       → Writes K e old r new → r ≡ Err d → r' ≡ Err d → e (K.len old) ≡ Ok [] → Writes K f old r' new
   probe_failed e f old r r' new d w q q' h = let z = empty K e old r new d w q h in let a = z.1 in let same : d
@@ -165,12 +165,12 @@ module _ {S : Type 0} (K : Sink S) where
   }
 
   -- a call of no bits that found it sound, before a refusal
-  pub probe_refused : {V : Type 0} (f : WriteEntry) (old : S) (r' : Result V Error) (new : S) (d : Error)
+  pub probe_refused : {V : Type 0} (f : Encoder) (old : S) (r' : Result V Error) (new : S) (d : Error)
       → Begun K old [] new → f (K.len old) ≡ Err d → r' ≡ Err d → Writes K f old r' new
   probe_refused f old r' new d b h q = was_rejected d b.was_sound h q (Begun-kept old new b)
 
   -- and before a word that has no room
-  pub probe_passed : {V : Type 0} (f : WriteEntry) (old : S) (r' : Result V Error) (new : S) (x : List Bool)
+  pub probe_passed : {V : Type 0} (f : Encoder) (old : S) (r' : Result V Error) (new : S) (x : List Bool)
       → Begun K old [] new → f (K.len old) ≡ Ok x → IsPastLimit K.limit (K.len old + length x) → r'
       ≡ Err CounterOverflow → Writes K f old r' new
   probe_passed f old r' new x b h past q = past_limit x b.was_sound h past q (Begun-kept old new b)
@@ -178,7 +178,7 @@ module _ {S : Type 0} (K : Sink S) where
   -- ---- a word in several parts, as a body of calls writes it
 
   -- it begins with a word of no bits, which was refused
-  pub probe_stops : {T V : Type 0} (o : Order) (size v : ℕ) (f : WriteEntry) {old new : S} {d : Error}
+  pub probe_stops : {T V : Type 0} (o : Order) (size v : ℕ) (f : Encoder) {old new : S} {d : Error}
       {r : Result V Error} → Writes {T = T} K (unsigned o size 0 v) old (Err d) new → IsErrAnd r (λ y. y ≡ d)
       → Writes K f old r new
   probe_stops o size v f {old = old} {new = new} {d = d} {r = r} w h =
@@ -196,7 +196,7 @@ module _ {S : Type 0} (K : Sink S) where
     pub room_for : (n m : ℕ) → m ≡ n → IsWithin K.limit (K.len mid + n) → IsWithin K.limit (K.len old + m)
     room_for n m same = within_less K.limit (K.len old + m) (K.len mid + n) (omega (arith, same, probed_len))
 
-    pub no_room_for : {V : Type 0} (f : WriteEntry) (x : List Bool) (n : ℕ) (room : Bool) → room ≡ false
+    pub no_room_for : {V : Type 0} (f : Encoder) (x : List Bool) (n : ℕ) (room : Bool) → room ≡ false
         → (IsWithin K.limit (K.len mid + n) → IsTrue room) → length x ≡ n → f (K.len old) ≡ Ok x
         → Writes {T = V} K f old (Err CounterOverflow) mid
     no_room_for f x n room lacks asked size is =
@@ -205,7 +205,7 @@ module _ {S : Type 0} (K : Sink S) where
         (rw all (past_if_not_within K.limit (K.len mid + n) (λ h. untold _ room lacks asked h))) refl
 
   -- a part was refused, where there is room for n bits, which are all
-  pub part_stops : {T V : Type 0} {old mid new : S} {d : Error} {r : Result V Error} (e f : WriteEntry)
+  pub part_stops : {T V : Type 0} {old mid new : S} {d : Error} {r : Result V Error} (e f : Encoder)
       (x y z : List Bool) (n : ℕ) → Begun K old x mid → Writes {T = T} K e mid (Err d) new → IsErrAnd r (λ q. q ≡ d)
       → e (K.len mid) ≡ Ok y → (word : List Bool) → f (K.len old) ≡ Ok word → word ≡ x ++ (y ++ z) → length word ≡ n
       → IsWithin K.limit (K.len old + n) → Writes K f old r new
@@ -227,7 +227,7 @@ module _ {S : Type 0} (K : Sink S) where
         (unsigned-fits o size k v (K.len mid) le small ∙ ap Ok (same o))))
 
     -- it was refused
-    pub lead_stops : {T V : Type 0} {d : Error} {r : Result V Error} (f : WriteEntry) (word rest : List Bool) (n : ℕ)
+    pub lead_stops : {T V : Type 0} {d : Error} {r : Result V Error} (f : Encoder) (word rest : List Bool) (n : ℕ)
         → Writes {T = T} K (unsigned o size k v) mid (Err d) new → IsErrAnd r (λ q. q ≡ d) → f (K.len old) ≡ Ok word
         → word ≡ replicate a bit ++ (replicate k bit ++ rest) → length word ≡ n → IsWithin K.limit (K.len old + n)
         → Writes K f old r new

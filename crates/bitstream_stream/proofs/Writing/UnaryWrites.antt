@@ -15,7 +15,6 @@ use Rattle.bitstream_stream.proofs.Writing.SinkParts.{WriteRefused-behind, Write
 use Rattle.bitstream_stream.proofs.Writing.WriterLemmas.{one_word}
 use Rattle.std.proofs.Math.Nat.{pow-suc}
 use Rattle.std.proofs.lemmas.Nat.{pow_pos}
-use Rattle.std.proofs.lemmas.Nat.Bits.{ones_shr}
 use Rattle.bitstream_order.proofs.Moving.TakeLemmas.{word-none}
 use Rattle.bitstream_number.specs.Word.{Order, High, Low, digits, word}
 use Rattle.bitstream_number.proofs.WordLemmas.{word_cat}

@@ -236,16 +236,16 @@ module _ {S : Type 0} (K : Sink S) (field size v : ℕ) (within : field ≤ size
 -- the first groups of v were written or are gathered as a number of `bits` bits, and those of the rest are to follow
 pub record GroupsGathered {S : Type 0} (K : Sink S) (field v : ℕ) (old : S) (rest : ℕ) (mid : S) (bits gathered : ℕ) :
     Type 0 where
-  pub front : List Bool
-  pub done : Begun K old front mid
-  pub parts : front ++ (word K.order bits gathered ++ vbr_word K.order field rest) ≡ vbr_word K.order field v
+  pub prefix : List Bool
+  pub done : Begun K old prefix mid
+  pub parts : prefix ++ (word K.order bits gathered ++ vbr_word K.order field rest) ≡ vbr_word K.order field v
   pub below : gathered < 2 ^ bits
 
 module _ {S : Type 0} (K : Sink S) (field size v : ℕ) (within : field ≤ size) where
   pub gathered-start : (old mid : S) (gathered : ℕ) → gathered ≡ 0 → Begun K old [] mid
       → GroupsGathered K field v old v mid 0 gathered
   gathered-start old mid gathered none b = record {
-    front = [];
+    prefix = [];
     done = b;
     parts =
         ap (λ l. l ++ vbr_word K.order field v) (word-none K.order gathered);
@@ -265,9 +265,9 @@ module _ {S : Type 0} (K : Sink S) (field size v : ℕ) (within : field ≤ size
         let all : vbr_word o field rest ≡ word o n group ++ z = first.parts o
         ∙ ap (λ k. word o k group ++ z) (sym one) in
         record {
-          front = b.front;
+          prefix = b.prefix;
           done = b.done;
-          parts = ap (λ l. b.front ++ l) (ap (λ l. l ++ z) joined
+          parts = ap (λ l. b.prefix ++ l) (ap (λ l. l ++ z) joined
               ∙ append_assoc (word o bits gathered) (word o n group) z ∙ ap (λ l. word o bits gathered ++ l) (sym all))
               ∙ b.parts;
           below = subst (λ k. k < 2 ^ (bits + n)) (sym put) (put_below o gathered bits group n b.below small);
@@ -281,11 +281,11 @@ module _ {S : Type 0} (K : Sink S) (field size v : ℕ) (within : field ≤ size
         let o = K.order in
         let x = word o bits gathered in
         record {
-          front = b.front ++ x;
-          done = Begun-more K old mid new b.front x b.done (from_ok K (unsigned o size bits gathered) mid r new t x w q
+          prefix = b.prefix ++ x;
+          done = Begun-more K old mid new b.prefix x b.done (from_ok K (unsigned o size bits gathered) mid r new t x w q
               (unsigned-fits o size bits gathered (K.len mid) room b.below));
-          parts = ap (λ l. (b.front ++ x) ++ (l ++ vbr_word o field rest)) (word-none o none)
-              ∙ append_assoc b.front x (vbr_word o field rest) ∙ b.parts;
+          parts = ap (λ l. (b.prefix ++ x) ++ (l ++ vbr_word o field rest)) (word-none o none)
+              ∙ append_assoc b.prefix x (vbr_word o field rest) ∙ b.parts;
           below = omega (arith, is);
         }
 
@@ -296,7 +296,7 @@ module _ {S : Type 0} (K : Sink S) (field size v : ℕ) (within : field ≤ size
     gathered-stop r new r' d room w q q' limit =
         let o = K.order in
         let x = word o bits gathered in
-        stop_later K (unsigned o size bits gathered) (vbr o field v) old mid r r' new d b.front x
+        stop_later K (unsigned o size bits gathered) (vbr o field v) old mid r r' new d b.prefix x
         (vbr_word o field rest) b.done w q q'
         (unsigned-fits o size bits gathered (K.len mid) room b.below) (ap Ok (sym b.parts))
         (subst (λ l. IsWithin K.limit (K.len old + length l)) (sym b.parts) limit)
@@ -309,9 +309,9 @@ module _ {S : Type 0} (K : Sink S) (field size v : ℕ) (within : field ≤ size
         let o = K.order in
         let x = word o field rest in
         let nil : word o bits gathered ≡ [] = ap (λ k. word o k gathered) none ∙ word-none o gathered in
-        let all : vbr_word o field v ≡ b.front ++ x = sym b.parts
-        ∙ ap₂ (λ i j. b.front ++ (i ++ j)) nil (final.whole o) in
-        last K (unsigned o size field rest) (vbr o field v) old mid r new b.front x b.done w
+        let all : vbr_word o field v ≡ b.prefix ++ x = sym b.parts
+        ∙ ap₂ (λ i j. b.prefix ++ (i ++ j)) nil (final.whole o) in
+        last K (unsigned o size field rest) (vbr o field v) old mid r new b.prefix x b.done w
         (unsigned-fits o size field rest (K.len mid) within final.fits) (ap Ok all)
         (subst (λ l. IsWithin K.limit (K.len old + length l)) all limit)
 
@@ -332,9 +332,9 @@ module _ {S : Type 0} (K : Sink S) (field size v : ℕ) (within : field ≤ size
         let joined : x ≡ word o bits gathered ++ word o n rest = ap (word o (bits + n)) put
         ∙ put_word o gathered bits rest n b.below (subst (λ k. rest < 2 ^ k) (sym one) final.fits) in
         let ends : vbr_word o field rest ≡ word o n rest = final.whole o ∙ ap (λ k. word o k rest) (sym one) in
-        let all : vbr_word o field v ≡ b.front ++ x = sym b.parts
-        ∙ ap (λ l. b.front ++ (word o bits gathered ++ l)) ends ∙ ap (λ l. b.front ++ l) (sym joined) in
-        last K (unsigned o size (bits + n) made) (vbr o field v) old mid r new b.front x b.done w
+        let all : vbr_word o field v ≡ b.prefix ++ x = sym b.parts
+        ∙ ap (λ l. b.prefix ++ (word o bits gathered ++ l)) ends ∙ ap (λ l. b.prefix ++ l) (sym joined) in
+        last K (unsigned o size (bits + n) made) (vbr o field v) old mid r new b.prefix x b.done w
         (unsigned-fits o size (bits + n) made (K.len mid) room (gathered-below n made one final put)) (ap Ok all)
         (subst (λ l. IsWithin K.limit (K.len old + length l)) all limit)
 

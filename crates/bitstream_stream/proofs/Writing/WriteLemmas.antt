@@ -39,11 +39,11 @@ unsigned-accepts o size zero v len h = grind (arith, nat_tests)
 unsigned-accepts o size (suc n) v len h = let wide : suc n ≤ size = h.0 in let fits : v < 2 ^ suc n =
     h.1 (omega arith) in grind (arith, nat_tests)
 
-pub unsigned-refuses : (o : Order) (size n v len : ℕ) (error : CheckedError) → RefusesUnsigned size n v error
+pub unsigned-fail : (o : Order) (size n v len : ℕ) (error : CheckedError) → RefusesUnsigned size n v error
     → unsigned o size n v len ≡ Err (Checked error)
 unfolding unsigned
-unsigned-refuses o size n v len ExcessiveBits h = grind (arith, nat_tests)
-unsigned-refuses o size n v len ExcessiveValue h = let wide : n ≤ size = h.0 in let some : 0 < n = h.1 in let misfit :
+unsigned-fail o size n v len ExcessiveBits h = grind (arith, nat_tests)
+unsigned-fail o size n v len ExcessiveValue h = let wide : n ≤ size = h.0 in let some : 0 < n = h.1 in let misfit :
     2 ^ n ≤ v = h.2 in grind (arith, nat_tests)
 
 pub signed-accepts : (o : Order) (size n : ℕ) (x : ℤ) (len : ℕ) → 0 < n → HoldsSigned size n x → signed o size n x len
@@ -54,13 +54,13 @@ signed-accepts o size n (pos k) len some h = let wide : n ≤ size = h.0 in let 
 signed-accepts o size n (negsuc k) len some h = let wide : n ≤ size = h.0 in let fits : k < 2 ^ (n - 1) = h.1 in
     grind (arith, nat_tests)
 
-pub signed-refuses : (o : Order) (size n : ℕ) (x : ℤ) (len : ℕ) (error : CheckedError) → 0 < n
+pub signed-fail : (o : Order) (size n : ℕ) (x : ℤ) (len : ℕ) (error : CheckedError) → 0 < n
     → RefusesSigned size n x error → signed o size n x len ≡ Err (Checked error)
 unfolding signed
-signed-refuses o size n x len ExcessiveBits some h = grind (arith, nat_tests)
-signed-refuses o size n (pos k) len ExcessiveValue some h = let wide : n ≤ size = h.0 in let misfit : 2 ^ (n - 1) ≤ k =
+signed-fail o size n x len ExcessiveBits some h = grind (arith, nat_tests)
+signed-fail o size n (pos k) len ExcessiveValue some h = let wide : n ≤ size = h.0 in let misfit : 2 ^ (n - 1) ≤ k =
     h.1 in grind (arith, nat_tests)
-signed-refuses o size n (negsuc k) len ExcessiveValue some h = let wide : n ≤ size = h.0 in let misfit :
+signed-fail o size n (negsuc k) len ExcessiveValue some h = let wide : n ≤ size = h.0 in let misfit :
     2 ^ (n - 1) ≤ k = h.1 in grind (arith, nat_tests)
 
 pub signed-none : (o : Order) (size n : ℕ) (x : ℤ) (len : ℕ) → n ≡ 0 → signed o size n x len ≡ Err NoSignBit

@@ -3,7 +3,7 @@ use Rattle.std.proofs.Common.{◌≡◌, ℕ, ◌+◌, inl, inr, List, [], ◌�
 use Rattle.std.specs.Prelude.{flat_map}
 use Rattle.std.proofs.lemmas.List.{take_more}
 use Rattle.std.proofs.lemmas.List.Concat.{flat_map-append}
-use Rattle.bitstream_count.specs.Entry.{WriteEntry}
+use Rattle.bitstream_count.specs.Codec.{Encoder}
 use Rattle.bitstream_count.specs.declared.error.Error.{Error}
 use Rattle.bitstream_stream.specs.Writing.Sink.{Sink, Writes, WritesAll}
 
@@ -13,30 +13,30 @@ module _ {S : Type 0} (K : Sink S) where
   all_none s = (refl, refl)
 
   -- a first call that answers an error
-  pub all_err : (e : WriteEntry) (es : List WriteEntry) (old : S) (r : Result (Unit {0}) Error) (d : Error) (new : S)
+  pub all_err : (e : Encoder) (es : List Encoder) (old : S) (r : Result (Unit {0}) Error) (d : Error) (new : S)
       → r ≡ Err d → Writes {T = Unit {0}} K e old (Err d) new → WritesAll K (e ∷ es) old r new
   unfolding WritesAll
   all_err e es old r d new h w = inl (rw h refl, rw h w)
 
   -- a first call that answers `Ok`, and more
-  pub all_more : (e : WriteEntry) (es : List WriteEntry) (old mid : S) (r : Result (Unit {0}) Error) (new : S)
+  pub all_more : (e : Encoder) (es : List Encoder) (old mid : S) (r : Result (Unit {0}) Error) (new : S)
       → Writes {T = Unit {0}} K e old (Ok tt) mid → WritesAll K es mid r new → WritesAll K (e ∷ es) old r new
   unfolding WritesAll
   all_more e es old mid r new w a = inr (mid, w, a)
 
-  pub all_one : (e : WriteEntry) (old : S) (r : Result (Unit {0}) Error) (new : S) → Writes K e old r new
+  pub all_one : (e : Encoder) (old : S) (r : Result (Unit {0}) Error) (new : S) → Writes K e old r new
       → WritesAll K (e ∷ []) old r new
   all_one e old (Ok tt) new w = all_more e [] old new (Ok tt) new w (all_none new)
   all_one e old (Err d) new w = all_err e [] old (Err d) d new refl w
 
   -- and the other way
-  pub one_of_all : (e : WriteEntry) (old : S) (r : Result (Unit {0}) Error) (new : S) → WritesAll K (e ∷ []) old r new
+  pub one_of_all : (e : Encoder) (old : S) (r : Result (Unit {0}) Error) (new : S) → WritesAll K (e ∷ []) old r new
       → Writes K e old r new
   unfolding WritesAll
   one_of_all e old r new (inl p) = p.1
   one_of_all e old r new (inr p) = rw (p.2.0, p.2.1) p.1
 
-  pub all_append : (es fs : List WriteEntry) (old mid : S) (r : Result (Unit {0}) Error) (new : S)
+  pub all_append : (es fs : List Encoder) (old mid : S) (r : Result (Unit {0}) Error) (new : S)
       → WritesAll K es old (Ok tt) mid → WritesAll K fs mid r new → WritesAll K (es ++ fs) old r new
   unfolding WritesAll
   all_append [] fs old mid r new p q = subst (λ (s : S). WritesAll K fs s r new) p.1 q
@@ -44,7 +44,7 @@ module _ {S : Type 0} (K : Sink S) where
   all_append (e ∷ es) fs old mid r new (inr p) q = inr (p.0, p.1, all_append es fs p.0 mid r new p.2 q)
 
   -- calls of which one answers an error, before others that are not made
-  pub all_stop : (es fs : List WriteEntry) (old : S) (d : Error) (r : Result (Unit {0}) Error) (new : S) → r ≡ Err d
+  pub all_stop : (es fs : List Encoder) (old : S) (d : Error) (r : Result (Unit {0}) Error) (new : S) → r ≡ Err d
       → WritesAll K es old (Err d) new → WritesAll K (es ++ fs) old r new
   unfolding WritesAll
   all_stop [] fs old d r new h p = let z = p.0 in cc

@@ -4,7 +4,7 @@ use Rattle.std.proofs.KnownBytes.{Appends-nil}
 use Rattle.std.proofs.Common.{◌≡◌, ℕ, ◌+◌, ◌-◌, ◌*◌, ◌%◌, ◌^◌, ◌<◌, ◌≤◌, Bool, true, false, List, [], ◌∷◌, ◌++◌, take, Option, Result, Ok, Err, refl, sym, ap, ◌∙◌, subst, arith, append_assoc, append-nil}
 use Rattle.bitstream_number.specs.Word.{Order, word, bits}
 use Rattle.bitstream_number.proofs.WordLemmas.{length-word}
-use Rattle.bitstream_count.specs.Entry.{WriteEntry}
+use Rattle.bitstream_count.specs.Codec.{Encoder}
 use Rattle.bitstream_count.specs.declared.error.Error.{Error}
 use Rattle.bitstream_order.specs.Parts.{piece, put_number}
 use Rattle.bitstream_order.specs.Moving.Send.{SendsBits}
@@ -104,7 +104,7 @@ pushed_fault may o queued queue n v k error p r old new q h few full room broken
       allowed = h.allowed;
       answer = h.answer;
       full = rw is lengths.0;
-      front = [];
+      prefix = [];
       back = word o n v;
       parts = refl;
       before = record {
@@ -144,7 +144,7 @@ flushes_lost may error result p old new sound answer is h =
     (sym is) h) (ap (λ (s : WriterState). s.queued) is) (ap (λ (s : WriterState). s.failed) is)
 
 -- what a push does is what the call does
-pub pushes_writes : (may : Refusal → Type 0) (o : Order) (x : List Bool) (e : WriteEntry) (old : WriterState)
+pub pushes_writes : (may : Refusal → Type 0) (o : Order) (x : List Bool) (e : Encoder) (old : WriterState)
     (result : Result (Unit {0}) Error) (new : WriterState) → old.failed ≡ false → e ((queue_sink may o).len old) ≡ Ok x
     → Pushes may o x old result new → Writes (queue_sink may o) e old result new
 pushes_writes may o x e old (Ok done) new sound is h = was_done x done sound is tt refl h

@@ -1,4 +1,4 @@
--- What is known of a reader of bytes in memory.
+-- The laws of a reader of bytes in memory.
 use Rattle.std.specs.Prelude.{◌≡◌, ℕ, ◌+◌, ◌-◌, ◌*◌, ◌/◌, ◌<◌, Bool, List, [], length, take, drop, Some, if◌then◌else◌}
 use Rattle.std.specs.Prelude.{None}
 use Rattle.std.specs.declared.io.ErrorKind.TheVariants.{UnexpectedEof}
@@ -6,7 +6,7 @@ use Rattle.bitstream_number.specs.Word.{Order, bits}
 use Rattle.bitstream_order.specs.Refusal.{Refusal}
 use Rattle.bitstream_stream.specs.Reading.Reads.{ReaderState}
 
--- how many bytes hold the bits taken of the first byte: it, or none
+-- the number of bytes that hold the bits taken of the first byte: 1, or 0
 abbrev pub held : ℕ → ℕ
 held bit = (bit + 7) / 8
 
@@ -14,12 +14,12 @@ held bit = (bit + 7) / 8
 abbrev pub rest_bits : Order → List ℕ → ℕ → List Bool
 rest_bits o bytes bit = drop bit (bits o bytes)
 
--- the number of bits taken, of which `bit` are of the first byte left
+-- the number of bits taken, where `bit` bits of the first byte left are taken
 abbrev pub taken_bits : List ℕ → List ℕ → ℕ → ℕ
 taken_bits all bytes bit = 8 * (length all - length bytes) + bit
 
--- The state of a reader of all these bytes, that has left those from the one that has the next bit, and took `bit` bits
--- of it. A byte of which some bits are taken is fetched, and its other bits are queued.
+-- The state of a reader of all these bytes. The bytes left are the ones from the one that has the next bit, and
+-- `bit` bits of it are taken. A byte with some bits taken is fetched, and its other bits are queued.
 abbrev pub memory_state : Order → List ℕ → List ℕ → ℕ → Bool → List Refusal → ReaderState
 memory_state o all bytes bit failed refusals = record {
   queue = if failed then [] else rest_bits o (take (held bit) bytes) bit;
@@ -31,7 +31,7 @@ memory_state o all bytes bit failed refusals = record {
   references = [];
 }
 
--- a refusal at the end of bytes, of which none is lost
+-- a refusal at the end of the bytes, which loses none of them
 pub record EndsInMemory (refusal : Refusal) : Type 0 where
   pub left : List ℕ
   pub kind : refusal.kind ≡ UnexpectedEof

@@ -1,4 +1,4 @@
--- What a seek does to a reader of bytes in memory.
+-- The effect of a seek on a reader of bytes in memory.
 use Rattle.std.specs.Prelude.{◌≡◌, ℕ, ◌*◌, ◌<◌, ◌≤◌, false, List, length, drop, Option, Some, IfSome, Result, Ok, Err}
 use Rattle.std.specs.declared.io.traits.SeekFrom.{SeekFrom}
 use Rattle.bitstream_count.specs.declared.error.Error.{Error}
@@ -13,7 +13,8 @@ use Rattle.bitstream_stream.specs.declared.read.slice_reader.SliceReader.{SliceR
 abbrev pub memory_bytes : {E : Type 0} → SliceReader E → List ℕ
 memory_bytes r = r.all.now
 
--- What the states of a reader of bytes in memory mean, as one that seeks. It makes no request, so none is refused.
+-- The meaning of the states of a reader of bytes in memory, as a reader that seeks. It makes no request, so
+-- none is refused.
 abbrev pub memory_seeker : {E : Type 0} → Order → SeekerOf (SliceReader E)
 memory_seeker o = record {
   source = memory_source o;
@@ -30,7 +31,7 @@ pub record StandsAt {E : Type 0} (o : Order) (place : ℕ) (old new : SliceReade
   pub bytes : memory_bytes new ≡ memory_bytes old
   pub refusals : ((memory_source o).state new).refusals ≡ ((memory_source o).state old).refusals
 
--- Going to a place, if there is one. It may be the end, and nothing behind it: then the reader stays as it was.
+-- Going to a place, if there is one. It may be the end, but not beyond it: then the reader is unchanged.
 pub data GoesWithin {E : Type 0} (o : Order) (place : Option ℕ) (old : SliceReader E) (result : Result ℕ Error)
     (new : SliceReader E) : Type 0 where
   was_done : (at : ℕ) → place ≡ Some at → at ≤ 8 * length (memory_bytes old) → result ≡ Ok at → StandsAt o at old new

@@ -1,11 +1,11 @@
--- What the states of a reader of bytes in memory mean.
+-- The meaning of the states of a reader of bytes in memory.
 use Rattle.bitstream_number.specs.Word.{Order}
 use Rattle.bitstream_stream.specs.Reading.Reads.{BitSource}
 use Rattle.bitstream_stream.specs.Reading.Memory.{memory_state, EndsInMemory}
 use Rattle.bitstream_stream.specs.declared.read.slice_reader.SliceReader.{SliceReader}
 use Rattle.bitstream_stream.specs.Reading.MemoryState.{state_demands, state_holds, state_empties}
 
--- what the states of a reader of bytes in memory mean
+-- the meaning of the states of a reader of bytes in memory
 abbrev pub memory_source : {E : Type 0} → Order → BitSource (SliceReader E)
 memory_source o = record {
   order = o;

@@ -1,5 +1,5 @@
--- The laws of the state of a reader of bytes in memory.
--- These are lemmas: the source of bits that is made of them has its laws in it.
+-- The laws of the state of a reader of bytes in memory. These are lemmas: the source of bits that uses them has
+-- its laws in it.
 use Rattle.std.proofs.Common.{◌≡◌, ℕ, ◌+◌, ◌*◌, ◌<◌, ◌≤◌, Bool, true, false, List, length, take, refl, arith, inl, inr, ◌⊎◌}
 use Rattle.std.proofs.lemmas.List.{length-take-le, length-drop}
 use Rattle.bitstream_number.specs.Word.{Order, bits}
@@ -15,14 +15,14 @@ state_demands o all bytes bit failed refusals = refl
 pub none_or_some : (n : ℕ) → (n ≡ 0) ⊎ (0 < n)
 none_or_some n = grind arith
 
--- a byte of which bits are taken is there
+-- a byte with some bits taken exists
 pub held_there : (bytes : List ℕ) (bit : ℕ) → bit < 8 → (0 < bit → 1 ≤ length bytes) → held bit ≤ length bytes
 held_there bytes bit few some = elim (none_or_some bit) [
   | inl none ↦ omega arith
   | inr more ↦ let h = some more in omega arith
 ]
 
--- how many bits of the first byte are left
+-- the number of bits left of the first byte
 pub rest_length : (o : Order) (bytes : List ℕ) (bit : ℕ) → bit < 8 → (0 < bit → 1 ≤ length bytes)
     → length (rest_bits o (take (held bit) bytes) bit) + bit ≡ 8 * held bit
 rest_length o bytes bit few some =

@@ -1,4 +1,4 @@
--- What is taken from bytes in memory.
+-- The bits taken from bytes in memory.
 use Rattle.std.specs.Prelude.{◌≡◌, ℕ, ◌+◌, ◌*◌, ◌/◌, ◌%◌, ◌^◌, ◌<◌, ◌≤◌, ◌∷◌, true, false, length, take, drop, Some, Result, Err}
 use Rattle.bitstream_count.specs.declared.error.Error.{Error}
 use Rattle.bitstream_count.specs.declared.error.Error.TheVariants.{EndOfInput}
@@ -8,7 +8,7 @@ use Rattle.bitstream_stream.specs.Reading.Memory.{held, rest_bits, EndsInMemory}
 use Rattle.bitstream_stream.specs.Reading.MemorySource.{memory_source}
 use Rattle.bitstream_stream.specs.declared.read.slice_reader.SliceReader.{SliceReader}
 
--- a reader goes on by n bits, which are there
+-- a reader moves on by n bits, which are there
 pub record GoesOn {E : Type 0} (n : ℕ) (old new : SliceReader E) : Type 0 where
   pub enough : old.bit + n ≤ 8 * length old.bytes.now
   pub all : new.all.now ≡ old.all.now
@@ -17,7 +17,7 @@ pub record GoesOn {E : Type 0} (n : ℕ) (old new : SliceReader E) : Type 0 wher
   pub failed : new.failed ≡ old.failed
   pub refusals : new.refusals.list ≡ old.refusals.list
 
--- a reader stands at the bit at this place of its bytes, and has not failed
+-- a reader is at this bit of its bytes, and has not failed
 pub record IsAt {E : Type 0} (place : ℕ) (old new : SliceReader E) : Type 0 where
   pub all : new.all.now ≡ old.all.now
   pub bytes : new.bytes.now ≡ drop (place / 8) old.all.now
@@ -31,7 +31,7 @@ pub record TakesNumber {E : Type 0} (o : Order) (n v : ℕ) (old new : SliceRead
   pub word : take n (rest_bits o old.bytes.now old.bit) ≡ word o n v
   pub below : v < 2 ^ n
 
--- a call that is one read takes no bit if too few are left
+-- if too few bits are left, a call that is one read takes none, and the reader stays where it was
 abbrev pub StaysAtEnd : {E A : Type 0} → Order → SliceReader E → Result A Error → SliceReader E → Type 0
 StaysAtEnd o old result new =
     result ≡ Err EndOfInput → ((memory_source o).state new).taken ≡ ((memory_source o).state old).taken

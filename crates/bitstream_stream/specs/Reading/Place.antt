@@ -3,8 +3,8 @@ use Rattle.std.specs.Prelude.{ℕ, ℤ, pos, negsuc, ◌*◌, ◌^◌, ◌+ℤ�
 use Rattle.std.specs.declared.io.traits.SeekFrom.{SeekFrom}
 use Rattle.std.specs.declared.io.traits.SeekFrom.TheVariants.{Start, End, Current}
 
--- The bit that is meant, of a stream that stands at the byte `at` (for `End`: that ends there) with this number of bits
--- queued. `End` counts back from the end.
+-- The bit that is meant, in a stream that is at the byte `at` (for `End`: that ends there) with this number of
+-- bits queued. `End` counts back from the end.
 abbrev pub bit_meant : ℕ → ℕ → SeekFrom → ℤ
 bit_meant at queued (Start x) = pos x
 bit_meant at queued (End n) = pos (8 * at) -ℤ n

@@ -1,5 +1,4 @@
--- What a reader's fields say.
--- A source of bits is a record with its laws in it: so lemmas are imported.
+-- The meaning of a reader's fields. A source of bits is a record with its laws in it: so lemmas are imported.
 use Rattle.std.specs.Prelude.{◌≡◌, ℕ, ◌+◌, ◌-◌, ◌≤◌, Bool, false, List, [], Option, OnOk, Result}
 use Rattle.std.proofs.Common.{ap, ◌∙◌}
 use Rattle.bitstream_order.specs.Reference.{Reference}
@@ -31,7 +30,7 @@ reader_state o port queue queued taken failed = record {
 abbrev pub queued_number : {R E : Type 0} → Order → BitReader R E → ℕ
 queued_number o r = first_part o r.queue 8 r.queued
 
--- what the states of a reader mean
+-- the meaning of the states of a reader
 abbrev pub reader_source : {R E : Type 0} → InputStream R → Order → BitSource (BitReader R E)
 reader_source I o = record {
   order = o;
@@ -42,7 +41,7 @@ reader_source I o = record {
   empties = λ r failed. ap (λ n. word o n (queued_number o r)) (r.empty failed) ∙ word-none o (queued_number o r);
 }
 
--- a new reader of a stream that tells these bytes
+-- a new reader of a stream with these known bytes
 abbrev pub new_reader_state : Option (List ℕ) → List Reference → ReaderState
 new_reader_state remaining references = record {
   queue = [];
@@ -62,7 +61,7 @@ queued_bits reader = reader.queued
 abbrev pub requests_made : {R E : Type 0} → BitReader R E → ℕ
 requests_made reader = requests_count reader.port
 
--- the number of turns that a reader made to read unary numbers
+-- the number of iterations that a reader made to read unary numbers
 abbrev pub turns_made : {R E : Type 0} → BitReader R E → ℕ
 turns_made reader = reader.turns.count
 
@@ -70,17 +69,17 @@ turns_made reader = reader.turns.count
 abbrev pub bytes_fetched : {R E : Type 0} → BitReader R E → ℕ
 bytes_fetched reader = fetched_count reader.port
 
--- a call that answered a value took one turn more than the bytes that it fetched
+-- a call that returned a value took one iteration more than the number of bytes that it fetched
 abbrev pub TurnsByBytes : {R E A : Type 0} → BitReader R E → Result A Error → BitReader R E → Type 0
 TurnsByBytes old result new = OnOk result (turns_made new
     ≡ turns_made old + (bytes_fetched new - bytes_fetched old) + 1)
 
--- a call for a word of n bits made one request at most, and none if the queue was enough
+-- a call for a word of n bits made at most one request, and none if the queue was enough
 abbrev pub AsksForWord : {R E : Type 0} → ℕ → BitReader R E → BitReader R E → Type 0
 AsksForWord n old new = (requests_made new ≤ requests_made old + 1)
     × (n ≤ queued_bits old → requests_made new ≡ requests_made old)
 
--- a call for n bytes that answered a value made one request for each of their pieces
+-- a call for n bytes that returned a value made one request for each of their pieces
 abbrev pub AsksForBytes : {R E A : Type 0} → ℕ → ℕ → BitReader R E → Result A Error → BitReader R E → Type 0
 AsksForBytes most n old result new = OnOk result (requests_made new
     ≡ requests_made old + pieces most (queued_bits old) n)

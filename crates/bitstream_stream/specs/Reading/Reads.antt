@@ -1,4 +1,4 @@
--- What one read does to a reader.
+-- The effect of one read on a reader.
 use Rattle.std.specs.Prelude.{◌≡◌, ℕ, ◌+◌, ◌*◌, ◌/◌, ◌≤◌, Bool, true, false, if◌then◌else◌, List, [], ◌∷◌, ◌++◌, length, Option, option_map, Some, Result, Ok, Err}
 use Rattle.std.specs.Borrow.{GName, MutBor}
 use Rattle.std.specs.Result.{IsErrAnd}
@@ -6,14 +6,14 @@ use Rattle.std.specs.Io.KnownBytes.{Consumes}
 use Rattle.bitstream_order.specs.Reference.{Reference, by_name}
 use Rattle.bitstream_count.specs.declared.error.Error.{Error}
 use Rattle.bitstream_count.specs.declared.error.Error.TheVariants.{RunTooLong, OutOfMemory, EndOfInput}
-use Rattle.bitstream_count.specs.Entry.{ReadEntry, Front, TooFew, Takes}
+use Rattle.bitstream_count.specs.Codec.{Decoder, Prefix, Incomplete, Done}
 use Rattle.bitstream_number.specs.Word.{Order, bits}
 use Rattle.bitstream_order.specs.Fault.{read_refusal_of}
 use Rattle.bitstream_order.specs.Refusal.{Refusal, IsTrueEnd}
 
--- what a state of a reader tells
+-- the known state of a reader
 pub record ReaderState : Type 0 where
-  -- the bits that were fetched and not taken, and the bytes left in the stream, if it tells
+  -- the bits that were fetched and not taken, and the bytes left in the stream, if they are known
   pub queue : List Bool
   pub bytes : Option (List ℕ)
   -- the number of bits taken so far, and of bytes fetched from the stream for them
@@ -25,11 +25,11 @@ pub record ReaderState : Type 0 where
   -- the references through which the stream is reached
   pub references : List Reference
 
--- a reader has fetched the bytes of the bits taken, and no more
+-- a reader has fetched only the bytes of the bits taken
 abbrev pub Demands : ReaderState → Type 0
 Demands s = s.fetched ≡ (s.taken + 7) / 8
 
--- what was fetched and not taken is queued
+-- the bits fetched and not taken are queued
 abbrev pub QueuesRest : ReaderState → Type 0
 QueuesRest s = s.failed ≡ false → s.taken + length s.queue ≡ 8 * s.fetched
 
@@ -37,7 +37,7 @@ QueuesRest s = s.failed ≡ false → s.taken + length s.queue ≡ 8 * s.fetched
 abbrev pub Empties : ReaderState → Type 0
 Empties s = s.failed ≡ true → s.queue ≡ []
 
--- what the states of a reader mean, with the laws
+-- the meaning of the states of a reader, with the laws
 pub record BitSource (R : Type 0) : Type 1 where
   pub order : Order
   pub state : R → ReaderState
@@ -47,32 +47,32 @@ pub record BitSource (R : Type 0) : Type 1 where
   pub holds : (r : R) → QueuesRest (state r)
   pub empties : (r : R) → Empties (state r)
 
--- the bits left to read, if the stream tells its bytes
+-- the bits left to read, if its contents are known
 abbrev pub bits_left : Order → ReaderState → Option (List Bool)
 bits_left o s = option_map (λ xs. s.queue ++ bits o xs) s.bytes
 
--- the answer of a call that leaves the reader failed
+-- true if the result is `RunTooLong`, which leaves the reader failed
 abbrev pub is_run_too_long : {A : Type 0} → Result A Error → Bool
 is_run_too_long (Err RunTooLong) = true
 is_run_too_long answer = false
 
--- the reader had failed: it answers so, and nothing changes
-pub record HadFailed {A : Type 0} (entry : ReadEntry A) (old : ReaderState) (result : Result A Error)
+-- the reader had failed: the result says so, and nothing changes
+pub record HadFailed {A : Type 0} (decoder : Decoder A) (old : ReaderState) (result : Result A Error)
     (new : ReaderState) : Type 0 where
   pub failed : old.failed ≡ true
-  pub answer : result ≡ entry.on_failed
+  pub answer : result ≡ decoder.on_failed
   pub same : new ≡ old
 
--- The call takes its front, a word, and gives the front's answer. The word alone decides it, whatever bits
--- follow, and no proper beginning of the word has a front. The old queue and the bits of the bytes fetched are
+-- The call takes its prefix, a word, and returns the prefix's result. The word alone decides it, whatever bits
+-- follow, and no proper beginning of the word has a prefix. The old queue and the bits of the bytes fetched are
 -- the word and then the new queue.
-pub record ReadDone {A : Type 0} (o : Order) (entry : ReadEntry A) (old : ReaderState) (result : Result A Error)
+pub record ReadDone {A : Type 0} (o : Order) (decoder : Decoder A) (old : ReaderState) (result : Result A Error)
     (new : ReaderState) : Type 0 where
   pub fine : old.failed ≡ false
   pub word : List Bool
-  pub decides : (more : List Bool) → entry.reads old.taken (word ++ more) ≡ Takes (length word) result
-  pub needs : (front : List Bool) (b : Bool) (back : List Bool) → word ≡ front ++ b ∷ back → entry.reads old.taken front
-      ≡ TooFew
+  pub decides : (more : List Bool) → decoder.reads old.taken (word ++ more) ≡ Done (length word) result
+  pub needs : (prefix : List Bool) (b : Bool) (back : List Bool) → word ≡ prefix ++ b ∷ back → decoder.reads old.taken prefix
+      ≡ Incomplete
   pub gone : List ℕ
   pub loses : Consumes old.bytes new.bytes gone
   pub rest : List Bool
@@ -99,33 +99,33 @@ pub record Took (o : Order) (old : ReaderState) (word : List Bool) (new : Reader
 -- A request was refused, as the stream may refuse, and the reader has failed. The queue was too short for the
 -- call, and so it was with the bytes fetched before; at a true end so were all bits left. The stream lost these
 -- bytes, and is as the refusal left it. The reader does not move back.
-pub record ReadRefused {A : Type 0} (o : Order) (may : Refusal → Type 0) (entry : ReadEntry A)
+pub record ReadRefused {A : Type 0} (o : Order) (may : Refusal → Type 0) (decoder : Decoder A)
     (old : ReaderState) (result : Result A Error) (new : ReaderState) : Type 0 where
   pub fine : old.failed ≡ false
   pub refusal : Refusal
   pub allowed : may refusal
   pub answer : result ≡ Err (read_refusal_of refusal.kind)
-  pub short : entry.reads old.taken old.queue ≡ TooFew
+  pub short : decoder.reads old.taken old.queue ≡ Incomplete
   pub gone : List ℕ
   pub loses : Consumes old.bytes refusal.before gone
   pub after : new.bytes ≡ refusal.after
   pub fetched : new.fetched ≡ old.fetched + length gone
   pub least : old.taken ≤ new.taken
-  pub few : entry.reads old.taken (old.queue ++ bits o gone) ≡ TooFew
-  pub ended : IsTrueEnd refusal → (xs : List ℕ) → old.bytes ≡ Some xs → entry.reads old.taken (old.queue ++ bits o xs)
-      ≡ TooFew
+  pub few : decoder.reads old.taken (old.queue ++ bits o gone) ≡ Incomplete
+  pub ended : IsTrueEnd refusal → (xs : List ℕ) → old.bytes ≡ Some xs → decoder.reads old.taken (old.queue ++ bits o xs)
+      ≡ Incomplete
   pub refusals : new.refusals ≡ refusal ∷ old.refusals
   pub references : new.references ≡ old.references
   pub failed : new.failed ≡ true
 
 -- Memory that the call asked for itself was refused, and the reader has failed. The bits that were taken
 -- until then were too few for the call, so a call for no bits is never refused memory.
-pub record MemoryRefused {A : Type 0} (o : Order) (entry : ReadEntry A) (old : ReaderState)
+pub record MemoryRefused {A : Type 0} (o : Order) (decoder : Decoder A) (old : ReaderState)
     (result : Result A Error) (new : ReaderState) : Type 0 where
   pub fine : old.failed ≡ false
   pub answer : result ≡ Err OutOfMemory
   pub word : List Bool
-  pub few : entry.reads old.taken word ≡ TooFew
+  pub few : decoder.reads old.taken word ≡ Incomplete
   pub gone : List ℕ
   pub loses : Consumes old.bytes new.bytes gone
   pub rest : List Bool
@@ -136,23 +136,23 @@ pub record MemoryRefused {A : Type 0} (o : Order) (entry : ReadEntry A) (old : R
   pub references : new.references ≡ old.references
   pub failed : new.failed ≡ true
 
--- one read, by what the call means; `grows` says whether the call asks for memory of its own
-pub data ReadOutcome {R A : Type 0} (K : BitSource R) (grows : Bool) (entry : ReadEntry A) (old : R)
+-- one read, from the meaning of the call; `grows` is true if the call allocates
+pub data ReadOutcome {R A : Type 0} (K : BitSource R) (grows : Bool) (decoder : Decoder A) (old : R)
     (result : Result A Error) (new : R) : Type 0 where
-  had_failed : HadFailed entry (K.state old) result (K.state new) → ReadOutcome K grows entry old result new
-  was_done : ReadDone K.order entry (K.state old) result (K.state new) → ReadOutcome K grows entry old result new
-  was_refused : ReadRefused K.order K.may entry (K.state old) result (K.state new)
-      → ReadOutcome K grows entry old result new
-  memory_refused : grows ≡ true → MemoryRefused K.order entry (K.state old) result (K.state new)
-      → ReadOutcome K grows entry old result new
+  had_failed : HadFailed decoder (K.state old) result (K.state new) → ReadOutcome K grows decoder old result new
+  was_done : ReadDone K.order decoder (K.state old) result (K.state new) → ReadOutcome K grows decoder old result new
+  was_refused : ReadRefused K.order K.may decoder (K.state old) result (K.state new)
+      → ReadOutcome K grows decoder old result new
+  memory_refused : grows ≡ true → MemoryRefused K.order decoder (K.state old) result (K.state new)
+      → ReadOutcome K grows decoder old result new
 
 -- one read
-abbrev pub Reads : {R A : Type 0} → BitSource R → ReadEntry A → R → Result A Error → R → Type 0
-Reads K entry old result new = ReadOutcome K false entry old result new
+abbrev pub Reads : {R A : Type 0} → BitSource R → Decoder A → R → Result A Error → R → Type 0
+Reads K decoder old result new = ReadOutcome K false decoder old result new
 
 -- one read that asks for memory of its own
-abbrev pub ReadsGrowing : {R A : Type 0} → BitSource R → ReadEntry A → R → Result A Error → R → Type 0
-ReadsGrowing K entry old result new = ReadOutcome K true entry old result new
+abbrev pub ReadsGrowing : {R A : Type 0} → BitSource R → Decoder A → R → Result A Error → R → Type 0
+ReadsGrowing K decoder old result new = ReadOutcome K true decoder old result new
 
 -- the same reader, which has failed and has an empty queue
 abbrev pub failed_reader : ReaderState → ReaderState
@@ -162,7 +162,7 @@ failed_reader s = record s { failed = true; queue = [] }
 abbrev pub lent : GName → ReaderState → ReaderState
 lent name s = record s { references = by_name name ∷ s.references }
 
--- a reader behind a `&mut`
+-- a reader that a `&mut` refers to
 abbrev pub lent_source : {R : Type 0} → BitSource R → BitSource (MutBor R)
 lent_source K = record {
   order = K.order;
@@ -184,20 +184,21 @@ inner_source f K = record {
   empties = λ s. K.empties (f s);
 }
 
--- the answer of a call that compares, and whose own error is of another type
+-- the result of a call that compares, with an error type of its own
 abbrev pub ConstAnswer : {E : Type 0} → (Error → E → Type 0) → E → Result Bool Error → Result (Unit {0}) E → Type 0
 ConstAnswer gives err (Ok true) result = result ≡ Ok tt
 ConstAnswer gives err (Ok false) result = result ≡ Err err
 ConstAnswer gives err (Err x) result = IsErrAnd result (gives x)
 
--- a call that answers `err` if a word is not what it should be, and turns any other error into its own type
-pub record ReadsConst {R E : Type 0} (K : BitSource R) (gives : Error → E → Type 0) (entry : ReadEntry Bool)
+-- a call that returns `err` if a word differs from the expected one, and turns any other error into its own
+-- type
+pub record ReadsConst {R E : Type 0} (K : BitSource R) (gives : Error → E → Type 0) (decoder : Decoder Bool)
     (err : E) (old : R) (result : Result (Unit {0}) E) (new : R) : Type 0 where
   pub plain : Result Bool Error
-  pub reads : Reads K entry old plain new
+  pub reads : Reads K decoder old plain new
   pub answer : ConstAnswer gives err plain result
 
--- what a call answers if all bits left are known: its front's answer, or the end
-abbrev pub sure_answer : {A : Type 0} → Front A → Result A Error
-sure_answer TooFew = Err EndOfInput
-sure_answer (Takes n answer) = answer
+-- the result of a call if all bits left are known: the result of its prefix, or the end
+abbrev pub sure_answer : {A : Type 0} → Prefix A → Result A Error
+sure_answer Incomplete = Err EndOfInput
+sure_answer (Done n answer) = answer

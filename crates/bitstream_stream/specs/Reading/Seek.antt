@@ -1,4 +1,4 @@
--- What a seek does to a reader of bits, and what it answers.
+-- The effect of a seek on a reader of bits, and its result.
 use Rattle.std.specs.Prelude.{◌≡◌, ℕ, pos, ◌+◌, ◌/◌, ◌%◌, ◌^◌, ◌<◌, ◌≤◌, true, false, List, [], ◌∷◌, length, drop, ⊤, Option, Some, None, IfSome, Result, Ok, Err}
 use Rattle.std.specs.declared.io.ErrorKind.{ErrorKind}
 use Rattle.std.specs.declared.io.traits.SeekFrom.{SeekFrom}
@@ -16,16 +16,16 @@ use Rattle.bitstream_stream.specs.Alignment.{to_boundary}
 use Rattle.bitstream_stream.specs.Reading.Place.{bit_meant, place_of}
 use Rattle.bitstream_stream.specs.Reading.Reads.{ReaderState, BitSource, bits_left}
 
--- what the states of a reader that seeks mean
+-- the meaning of the states of a reader that seeks
 pub record SeekerOf (R : Type 0) : Type 1 where
   pub source : BitSource R
-  -- the position in bytes of its stream, and all bytes of its stream, if the stream tells them
+  -- the position in bytes of its stream, and all bytes of its stream, if they are known
   pub position : R → Option ℕ
   pub bytes : R → Option (List ℕ)
   -- the refusals that its stream may make of a seek to this place
   pub may : SeekFrom → Refusal → Type 0
 
--- what the states of a `BitReader` that seeks mean
+-- the meaning of the states of a `BitReader` that seeks
 abbrev pub reader_seeker : {S E : Type 0} → BitSource (BitReader S E) → (S → Option ℕ) → (S → Option (List ℕ))
     → (SeekFrom → Refusal → Type 0) → SeekerOf (BitReader S E)
 reader_seeker source position bytes may = record {
@@ -35,19 +35,20 @@ reader_seeker source position bytes may = record {
   may = may;
 }
 
--- wherever the stream tells its position and its bytes, the bytes left are those behind the position
+-- if the position and the bytes of the stream are known, the bytes left are the ones after the position
 abbrev pub TellsRest : {R : Type 0} → SeekerOf R → Type 0
 TellsRest {R} K = (r : R) (at : ℕ) (xs : List ℕ) → K.position r ≡ Some at → K.bytes r ≡ Some xs
     → (K.source.state r).bytes ≡ Some (drop at xs)
 
--- the stream of a reader tells its position and that these are all its bytes, and it tells its rest
+-- the position of a reader's stream is known, all its bytes are these, and the bytes left are known
 pub record Tells {R : Type 0} (K : SeekerOf R) (r : R) (xs : List ℕ) : Type 0 where
   pub rest : TellsRest K
   pub at : ℕ
   pub position : K.position r ≡ Some at
   pub bytes : K.bytes r ≡ Some xs
 
--- `at` is the byte from which a seek counts, if the stream tells that: its end for `End`, where it stands for `Current`
+-- `at` is the byte from which a seek counts, if it is known: the end of the stream for `End`, its position for
+-- `Current`
 abbrev pub CountsFrom : Option ℕ → Option (List ℕ) → SeekFrom → ℕ → Type 0
 CountsFrom position bytes (Start x) at = ⊤
 CountsFrom position bytes (End n) at = IfSome position (λ _. IfSome bytes (λ xs. at ≡ length xs))
@@ -59,16 +60,17 @@ pub record Means {R : Type 0} (K : SeekerOf R) (to : SeekFrom) (old : R) (place 
   pub counts : CountsFrom (K.position old) (K.bytes old) to at
   pub meant : place_of (bit_meant at (length (K.source.state old).queue) to) ≡ place
 
--- a seek from where the reader stands
+-- a seek from the current place of the reader
 abbrev pub IsFromHere : SeekFrom → Type 0
 IsFromHere (Current d) = ⊤
 IsFromHere to = ⊥
 
--- a reader that has failed does not know where it stands
+-- a reader that has failed does not know its place
 abbrev pub KnowsStart : SeekFrom → ReaderState → Type 0
 KnowsStart to s = IsFromHere to → s.failed ≡ false
 
--- The reader reads on from the bit at this place. Bits taken and bytes fetched are counted anew from the byte sought.
+-- The reader continues from the bit at this place. The counts of bits taken and bytes fetched start again at
+-- the byte sought.
 pub record Lands {R : Type 0} (K : SeekerOf R) (place : ℕ) (old new : R) : Type 0 where
   pub failed : (K.source.state new).failed ≡ false
   pub taken : (K.source.state new).taken ≡ place % 8
@@ -93,7 +95,8 @@ pub record RequestRefused {A : Type 0} (error_of : ErrorKind → Error) (may : R
   pub queue : new.queue ≡ []
   pub failed : new.failed ≡ true
 
--- a seek in bytes that a seek in bits makes: to a byte that holds a bit, to the end, or to where the stream stands
+-- a seek in bytes that a seek in bits makes: to a byte that holds a bit, to the end, or to the current position
+-- of the stream
 abbrev pub IsByteSeek : SeekFrom → Type 0
 IsByteSeek (Start n) = n < 2 ^ 61
 IsByteSeek (End n) = n ≡ pos 0
@@ -123,7 +126,7 @@ pub data GoesTo {R : Type 0} (K : SeekerOf R) (place counted : ℕ) (old : R) (r
   was_refused : SeekRefused K counted old result new → GoesTo K place counted old result new
   was_too_far : SkipRefused K place old result new → GoesTo K place counted old result new
 
--- a reader that had failed answers so to a seek from where it stands, and nothing changes
+-- a reader that had failed returns `Failed` for a seek from its current place, and nothing changes
 pub record HadFailed {R A : Type 0} (K : SeekerOf R) (to : SeekFrom) (old : R) (result : Result A Error) (new : R) :
     Type 0 where
   pub from_here : IsFromHere to
@@ -131,14 +134,14 @@ pub record HadFailed {R A : Type 0} (K : SeekerOf R) (to : SeekFrom) (old : R) (
   pub answer : result ≡ Err Failed
   pub same : new ≡ old
 
--- the stream was asked for its position, and nothing else changed
+-- the stream was asked for its position; nothing else changed
 pub record OnlyAsked {R : Type 0} (K : SeekerOf R) (old new : R) : Type 0 where
   pub same : record (K.source.state new) { bytes = (K.source.state old).bytes } ≡ K.source.state old
   pub position : StaysAt (K.position old) (K.position new)
   pub bytes : Keeps (K.bytes old) (K.bytes new)
 
--- The reader has failed, with the refusals that it had. The stream stands at its end, if it tells that, and the fetched
--- bytes are counted anew from there.
+-- The reader has failed, with the refusals that it had. The stream is at its end, if that is known, and the
+-- count of fetched bytes starts again there.
 pub record Fails {R : Type 0} (K : SeekerOf R) (old new : R) : Type 0 where
   pub failed : (K.source.state new).failed ≡ true
   pub queue : (K.source.state new).queue ≡ []
@@ -147,20 +150,21 @@ pub record Fails {R : Type 0} (K : SeekerOf R) (old new : R) : Type 0 where
   pub references : (K.source.state new).references ≡ (K.source.state old).references
   pub ended : (xs : List ℕ) → Tells K old xs → (K.source.state new).bytes ≡ Some []
 
--- what a reader becomes whose place is out of range: from `Current` it stays as it was, from `End` it has failed
+-- a reader whose place is out of range: for `Current` it is unchanged, for `End` it has failed
 abbrev pub Stops : {R : Type 0} → SeekerOf R → SeekFrom → R → R → Type 0
 Stops K (Start x) old new = ⊥
 Stops K (End n) old new = Fails K old new
 Stops K (Current d) old new = OnlyAsked K old new
 
--- the fetched bytes that are counted as a reader sets off to a place: from the end none, else those of before
+-- the number of fetched bytes that are counted before a reader goes to a place: 0 from the end, else the number
+-- counted before
 abbrev pub counted_before : SeekFrom → ReaderState → ℕ
 counted_before (Start x) s = s.fetched
 counted_before (End n) s = 0
 counted_before (Current d) s = s.fetched
 
--- A seek. The reader had failed, and it is a `Current`; or the reader goes to the place that is meant; or the stream
--- refused to tell its position or its end; or no place is meant.
+-- A seek. The reader had failed, and it is a `Current`; or the reader goes to the place that is meant; or the
+-- stream refused a request for its position or its end; or no place is meant.
 pub data SeeksBits {R : Type 0} (K : SeekerOf R) (to : SeekFrom) (old : R) (result : Result ℕ Error) (new : R) :
     Type 0 where
   had_failed : HadFailed K to old result new → SeeksBits K to old result new
@@ -171,8 +175,8 @@ pub data SeeksBits {R : Type 0} (K : SeekerOf R) (to : SeekFrom) (old : R) (resu
   was_rejected : KnowsStart to (K.source.state old) → Means K to old None → result ≡ Err Place → Stops K to old new
       → SeeksBits K to old result new
 
--- A question for a place that is counted from where the reader stands. The reader had failed; or the place is answered;
--- or the stream refused to tell its position; or no place is meant.
+-- A question for a place that is counted from the reader's current place. The reader had failed; or the place
+-- is returned; or the stream refused a request for its position; or no place is meant.
 pub data AsksPlace {R : Type 0} (K : SeekerOf R) (to : SeekFrom) (old : R) (result : Result ℕ Error) (new : R) :
     Type 0 where
   had_failed : HadFailed K to old result new → AsksPlace K to old result new
@@ -183,7 +187,7 @@ pub data AsksPlace {R : Type 0} (K : SeekerOf R) (to : SeekFrom) (old : R) (resu
   was_rejected : (K.source.state old).failed ≡ false → Means K to old None → result ≡ Err Place → OnlyAsked K old new
       → AsksPlace K to old result new
 
--- the reader begins anew at the position that its stream answered to a seek, with no bits queued
+-- the reader starts again at the position that its stream returned for a seek, with no bits queued
 pub record Begins {R : Type 0} (K : SeekerOf R) (to : SeekFrom) (old : R) (at : ℕ) (new : R) : Type 0 where
   pub failed : (K.source.state new).failed ≡ false
   pub queue : (K.source.state new).queue ≡ []
@@ -194,7 +198,7 @@ pub record Begins {R : Type 0} (K : SeekerOf R) (to : SeekFrom) (old : R) (at : 
   pub moves : SeekMoves {E = Error} (K.position old) (K.position new) (K.bytes old) to (Ok at)
   pub bytes : Keeps (K.bytes old) (K.bytes new)
 
--- one seek of the stream, and its answer
+-- one seek of the stream, and its result
 abbrev pub SeeksBytes : {R : Type 0} → SeekerOf R → SeekFrom → R → Result ℕ Error → R → Type 0
 SeeksBytes K to old (Ok at) new = Begins K to old at new
 SeeksBytes K to old (Err error) new = RequestRefused {A = ℕ} refusal_of (K.may to) (K.source.state old).fetched

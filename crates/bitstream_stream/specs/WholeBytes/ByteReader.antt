@@ -1,4 +1,4 @@
--- What the states of a `ByteReader` mean.
+-- The meaning of the states of a `ByteReader`.
 use Rattle.std.specs.Prelude.{◌≡◌, ℕ, Result, Ok, Err}
 use Rattle.std.specs.IoError.{error_kind}
 use Rattle.std.specs.declared.io.Error.{Error as IoError}
@@ -20,7 +20,7 @@ byte_reader_state port = record {
   references = port.references;
 }
 
--- what the states of a reader of bytes mean
+-- the meaning of the states of a reader of bytes
 abbrev pub byte_reader_source : {R E : Type 0} → InputStream R → Order → ByteSource (ByteReader R E)
 byte_reader_source I o = record {
   order = o;
@@ -28,12 +28,12 @@ byte_reader_source I o = record {
   may = MayRefuseRead I;
 }
 
--- a reader, by what its stream tells
+-- a reader, from what is known of its stream
 abbrev pub byte_reader_port : {R E : Type 0} → InputStream R → ByteReader R E → PortState
 byte_reader_port I r = source_state I r.port
 
--- A seek by one request, from which on the fetched bytes are counted anew. If the stream refused it, the `io::Error` is
--- of the kind of that refusal, and what was fetched stays counted.
+-- A seek by one request, after which the count of fetched bytes starts again. If the stream refused it, the
+-- `io::Error` has the kind of that refusal, and the count of fetched bytes is unchanged.
 abbrev pub ByteSeeks : (Refusal → Type 0) → PortState → Result ℕ IoError → PortState → Type 0
 ByteSeeks may old (Ok at) new = Sought old new
 ByteSeeks may old (Err e) new = (error : Error) × SendRefused may error old 0 new × (error_kind e ≡ kind_of error)

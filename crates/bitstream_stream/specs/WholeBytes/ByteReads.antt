@@ -1,18 +1,18 @@
--- What one read of whole bytes does to a reader of bytes.
+-- The effect of one read of whole bytes on a reader of bytes.
 use Rattle.std.specs.Prelude.{◌≡◌, ℕ, ◌+◌, Bool, true, false, List, ◌∷◌, ◌++◌, length, take, nat_le, nat_lt, if◌then◌else◌, Option, Some, Result, Ok, Err}
 use Rattle.std.specs.Borrow.{GName, MutBor}
 use Rattle.std.specs.Io.KnownBytes.{Consumes}
 use Rattle.bitstream_order.specs.Reference.{Reference, by_name}
 use Rattle.bitstream_count.specs.declared.error.Error.{Error}
 use Rattle.bitstream_count.specs.declared.error.Error.TheVariants.{OutOfMemory}
-use Rattle.bitstream_count.specs.Entry.{Front, TooFew, Takes}
+use Rattle.bitstream_count.specs.Codec.{Prefix, Incomplete, Done}
 use Rattle.bitstream_number.specs.Word.{Order}
 use Rattle.bitstream_order.specs.Fault.{read_refusal_of}
 use Rattle.bitstream_order.specs.Refusal.{Refusal, IsTrueEnd}
 
--- what a state of a reader of bytes tells
+-- the known state of a reader of bytes
 pub record ByteReaderState : Type 0 where
-  -- the bytes left in the stream, if it tells them, and the number of bytes taken so far
+  -- the bytes left in the stream, if they are known, and the number of bytes taken so far
   pub bytes : Option (List ℕ)
   pub taken : ℕ
   -- the requests of the stream that were refused, the last one first
@@ -20,38 +20,38 @@ pub record ByteReaderState : Type 0 where
   -- the references through which the stream is reached
   pub references : List Reference
 
--- what the states of a reader of bytes mean
+-- the meaning of the states of a reader of bytes
 pub record ByteSource (R : Type 0) : Type 1 where
   pub order : Order
   pub state : R → ByteReaderState
   -- the refusals that its stream may make
   pub may : Refusal → Type 0
 
--- a call that reads bytes: what it finds at the front of the bytes to read, and whether it may allocate once it has
--- taken just these bytes
-pub record ByteReadEntry (A : Type 0) : Type 0 where
-  pub reads : List ℕ → Front A
+-- a call that reads bytes: its result on the bytes left, and whether it may allocate once it has taken just
+-- these bytes
+pub record ByteDecoder (A : Type 0) : Type 0 where
+  pub reads : List ℕ → Prefix A
   pub allocates : List ℕ → Bool
 
--- a call with this front, which never allocates
-abbrev pub byte_call : {A : Type 0} → (List ℕ → Front A) → ByteReadEntry A
+-- a call with this prefix, which never allocates
+abbrev pub byte_call : {A : Type 0} → (List ℕ → Prefix A) → ByteDecoder A
 byte_call f = record { reads = f; allocates = λ _. false }
 
--- n bytes, answered as g of them
-abbrev pub byte_front : {A : Type 0} → ℕ → (List ℕ → Result A Error) → List ℕ → Front A
-byte_front n g bytes = if nat_le n (length bytes) then Takes n (g (take n bytes)) else TooFew
+-- n bytes, with g of them as the result
+abbrev pub byte_prefix : {A : Type 0} → ℕ → (List ℕ → Result A Error) → List ℕ → Prefix A
+byte_prefix n g bytes = if nat_le n (length bytes) then Done n (g (take n bytes)) else Incomplete
 
--- n bytes, answered as they are
-unfoldable pub given_bytes : ℕ → ByteReadEntry (List ℕ)
-given_bytes n = byte_call (byte_front n (λ bytes. Ok bytes))
+-- n bytes, returned unchanged
+unfoldable pub given_bytes : ℕ → ByteDecoder (List ℕ)
+given_bytes n = byte_call (byte_prefix n (λ bytes. Ok bytes))
 
 -- n bytes into a vector, which grows as they come
-abbrev pub vec_bytes : ℕ → ByteReadEntry (List ℕ)
+abbrev pub vec_bytes : ℕ → ByteDecoder (List ℕ)
 vec_bytes n = record (given_bytes n) { allocates = λ bytes. nat_lt (length bytes) n }
 
 -- n bytes, whatever they are
-unfoldable pub skipped_bytes : ℕ → ByteReadEntry (Unit {0})
-skipped_bytes n = byte_call (byte_front n (λ _. Ok tt))
+unfoldable pub skipped_bytes : ℕ → ByteDecoder (Unit {0})
+skipped_bytes n = byte_call (byte_prefix n (λ _. Ok tt))
 
 -- these bytes were taken, and no request was refused
 pub record BytesTaken (old : ByteReaderState) (bytes : List ℕ) (new : ByteReaderState) : Type 0 where
@@ -60,18 +60,18 @@ pub record BytesTaken (old : ByteReaderState) (bytes : List ℕ) (new : ByteRead
   pub refusals : new.refusals ≡ old.refusals
   pub references : new.references ≡ old.references
 
--- The call takes its front, some bytes, and gives the front's answer. They alone decide it, whatever bytes
--- follow, and no proper beginning of them has a front.
-pub record ByteReadDone {A : Type 0} (entry : ByteReadEntry A) (old : ByteReaderState) (result : Result A Error)
+-- The call takes its prefix, some bytes, and returns the prefix's result. These bytes alone decide it, whatever
+-- bytes follow, and no proper beginning of them has a prefix.
+pub record ByteReadDone {A : Type 0} (decoder : ByteDecoder A) (old : ByteReaderState) (result : Result A Error)
     (new : ByteReaderState) : Type 0 where
   pub bytes : List ℕ
-  pub decides : (more : List ℕ) → entry.reads (bytes ++ more) ≡ Takes (length bytes) result
-  pub needs : (front : List ℕ) (b : ℕ) (back : List ℕ) → bytes ≡ front ++ b ∷ back → entry.reads front ≡ TooFew
+  pub decides : (more : List ℕ) → decoder.reads (bytes ++ more) ≡ Done (length bytes) result
+  pub needs : (prefix : List ℕ) (b : ℕ) (back : List ℕ) → bytes ≡ prefix ++ b ∷ back → decoder.reads prefix ≡ Incomplete
   pub took : BytesTaken old bytes new
 
 -- A request was refused, as the stream may refuse. The bytes taken before were too few for the call; at a true
 -- end so were all bytes left. The stream lost these bytes, and is as the refusal left it.
-pub record ByteReadRefused {A : Type 0} (may : Refusal → Type 0) (entry : ByteReadEntry A)
+pub record ByteReadRefused {A : Type 0} (may : Refusal → Type 0) (decoder : ByteDecoder A)
     (old : ByteReaderState) (result : Result A Error) (new : ByteReaderState) : Type 0 where
   pub refusal : Refusal
   pub allowed : may refusal
@@ -80,42 +80,42 @@ pub record ByteReadRefused {A : Type 0} (may : Refusal → Type 0) (entry : Byte
   pub loses : Consumes old.bytes refusal.before gone
   pub after : new.bytes ≡ refusal.after
   pub taken : new.taken ≡ old.taken + length gone
-  pub few : entry.reads gone ≡ TooFew
-  pub ended : IsTrueEnd refusal → (xs : List ℕ) → old.bytes ≡ Some xs → entry.reads xs ≡ TooFew
+  pub few : decoder.reads gone ≡ Incomplete
+  pub ended : IsTrueEnd refusal → (xs : List ℕ) → old.bytes ≡ Some xs → decoder.reads xs ≡ Incomplete
   pub refusals : new.refusals ≡ refusal ∷ old.refusals
   pub references : new.references ≡ old.references
 
 -- Memory that the call asked for itself was refused. The bytes that were taken until then were too few for the
 -- call, so a call for no bytes is never refused memory.
-pub record ByteMemoryRefused {A : Type 0} (entry : ByteReadEntry A) (old : ByteReaderState)
+pub record ByteMemoryRefused {A : Type 0} (decoder : ByteDecoder A) (old : ByteReaderState)
     (result : Result A Error) (new : ByteReaderState) : Type 0 where
   pub answer : result ≡ Err OutOfMemory
   pub bytes : List ℕ
-  pub few : entry.reads bytes ≡ TooFew
+  pub few : decoder.reads bytes ≡ Incomplete
   pub took : BytesTaken old bytes new
 
--- one read of bytes, by what the call means; `grows` says whether the call asks for memory of its own
-pub data ByteReadOutcome {R A : Type 0} (K : ByteSource R) (grows : Bool) (entry : ByteReadEntry A) (old : R)
+-- one read of bytes, from the meaning of the call; `grows` is true if the call allocates
+pub data ByteReadOutcome {R A : Type 0} (K : ByteSource R) (grows : Bool) (decoder : ByteDecoder A) (old : R)
     (result : Result A Error) (new : R) : Type 0 where
-  was_done : ByteReadDone entry (K.state old) result (K.state new) → ByteReadOutcome K grows entry old result new
-  was_refused : ByteReadRefused K.may entry (K.state old) result (K.state new)
-      → ByteReadOutcome K grows entry old result new
-  memory_refused : grows ≡ true → ByteMemoryRefused entry (K.state old) result (K.state new)
-      → ByteReadOutcome K grows entry old result new
+  was_done : ByteReadDone decoder (K.state old) result (K.state new) → ByteReadOutcome K grows decoder old result new
+  was_refused : ByteReadRefused K.may decoder (K.state old) result (K.state new)
+      → ByteReadOutcome K grows decoder old result new
+  memory_refused : grows ≡ true → ByteMemoryRefused decoder (K.state old) result (K.state new)
+      → ByteReadOutcome K grows decoder old result new
 
 -- one read of bytes
-abbrev pub ByteReads : {R A : Type 0} → ByteSource R → ByteReadEntry A → R → Result A Error → R → Type 0
-ByteReads K entry old result new = ByteReadOutcome K false entry old result new
+abbrev pub ByteReads : {R A : Type 0} → ByteSource R → ByteDecoder A → R → Result A Error → R → Type 0
+ByteReads K decoder old result new = ByteReadOutcome K false decoder old result new
 
 -- one read of bytes that asks for memory of its own
-abbrev pub ByteReadsGrowing : {R A : Type 0} → ByteSource R → ByteReadEntry A → R → Result A Error → R → Type 0
-ByteReadsGrowing K entry old result new = ByteReadOutcome K true entry old result new
+abbrev pub ByteReadsGrowing : {R A : Type 0} → ByteSource R → ByteDecoder A → R → Result A Error → R → Type 0
+ByteReadsGrowing K decoder old result new = ByteReadOutcome K true decoder old result new
 
 -- a state, seen through a reference of this name
 abbrev pub lent_bytes : GName → ByteReaderState → ByteReaderState
 lent_bytes name s = record s { references = by_name name ∷ s.references }
 
--- a reader of bytes behind a `&mut`
+-- a reader of bytes that a `&mut` refers to
 abbrev pub lent_byte_source : {R : Type 0} → ByteSource R → ByteSource (MutBor R)
 lent_byte_source K = record {
   order = K.order;

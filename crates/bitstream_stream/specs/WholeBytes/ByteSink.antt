@@ -1,4 +1,4 @@
--- What a sink of bytes is, and what one write call does to it.
+-- Sinks of bytes, and the effect of one write call.
 use Rattle.std.specs.Prelude.{◌≡◌, ℕ, ◌+◌, ◌<◌, ◌≤◌, List, [], ◌∷◌, ◌++◌, length, Option, Result, Ok, Err}
 use Rattle.std.specs.Borrow.{MutBor}
 use Rattle.std.specs.Io.KnownBytes.{Appends}
@@ -10,12 +10,12 @@ use Rattle.bitstream_order.specs.Fault.{refusal_of}
 use Rattle.bitstream_order.specs.Refusal.{Refusal}
 use Rattle.bitstream_stream.specs.Writing.Sink.{IsWithin, IsPastLimit}
 
--- what the states of a sink of bytes mean, with the laws
+-- the meaning of the states of a sink of bytes, with the laws
 pub record ByteSink (S : Type 0) : Type 1 where
   pub order : Order
   -- the second state is the first with these bytes appended
   pub appends : S → List ℕ → S → Type 0
-  -- the bytes that its stream holds, if it tells them
+  -- the bytes that its stream holds, if they are known
   pub contents : S → Option (List ℕ)
   -- the number of bytes written
   pub len : S → ℕ
@@ -39,26 +39,26 @@ pub record BytesAppended {S : Type 0} (K : ByteSink S) (old : S) (bytes : List �
   pub refusals : K.refusals new ≡ K.refusals old
   pub references : K.references new ≡ K.references old
 
--- A request was refused, as the stream may refuse. A beginning of the bytes, and not all, was sent before, and as many
--- as the others at most were asked for. The stream is as the refusal left it.
+-- A request was refused, as the stream may refuse. A proper beginning of the bytes was sent before, and the
+-- request had at most the number of bytes left. The refusal left the stream as it is.
 pub record ByteWriteRefused {S : Type 0} (K : ByteSink S) (old : S) (bytes : List ℕ) (error : Error) (new : S) :
     Type 0 where
   pub refusal : Refusal
   pub allowed : K.may refusal
   pub answer : error ≡ refusal_of refusal.kind
-  pub front : List ℕ
+  pub prefix : List ℕ
   pub back : List ℕ
-  pub parts : bytes ≡ front ++ back
+  pub parts : bytes ≡ prefix ++ back
   pub some : 0 < length back
   pub asked : refusal.wanted ≤ length back
   pub capacity : refusal.capacity ≡ capacity_of (K.references old)
-  pub before : Appends (K.contents old) refusal.before front
+  pub before : Appends (K.contents old) refusal.before prefix
   pub after : K.contents new ≡ refusal.after
-  pub sent : K.len new ≡ K.len old + length front
+  pub sent : K.len new ≡ K.len old + length prefix
   pub refusals : K.refusals new ≡ refusal ∷ K.refusals old
   pub references : K.references new ≡ K.references old
 
--- what one call does that writes these bytes
+-- the effect of one call that writes these bytes
 pub data ByteWrites {S T : Type 0} (K : ByteSink S) (bytes : List ℕ) (old : S) (result : Result T Error) (new : S) :
     Type 0 where
   past_limit : IsPastLimit K.limit (K.len old + length bytes) → result ≡ Err CounterOverflow
@@ -70,7 +70,7 @@ pub data ByteWrites {S T : Type 0} (K : ByteSink S) (bytes : List ℕ) (old : S)
   was_done : (done : T) → IsWithin K.limit (K.len old + length bytes) → result ≡ Ok done → BytesAppended K old bytes new
       → ByteWrites K bytes old result new
 
--- a sink of bytes behind a `&mut`
+-- a sink of bytes that a `&mut` refers to
 abbrev pub lent_byte_sink : {S : Type 0} → ByteSink S → ByteSink (MutBor S)
 lent_byte_sink K = record {
   order = K.order;

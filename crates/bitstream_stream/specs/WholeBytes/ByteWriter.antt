@@ -1,5 +1,5 @@
--- What the states of a `ByteWriter` mean.
--- A sink of bytes is a record with its laws in it: so lemmas are imported.
+-- The meaning of the states of a `ByteWriter`. A sink of bytes is a record with its laws in it: so lemmas are
+-- imported.
 use Rattle.std.specs.Prelude.{◌≡◌, ℕ, ◌+◌, List, [], ◌++◌, length, None}
 use Rattle.std.specs.Io.KnownBytes.{Appends}
 use Rattle.std.proofs.Common.{sym, ap, ◌∙◌, add_assoc, add-zero, length-append}
@@ -26,7 +26,7 @@ SentBytes-trans s t u x y p q = record {
       ∙ ap (λ (n : ℕ). s.sent + n) (sym (length-append x y));
 }
 
--- a writer, by what its stream tells
+-- a writer, from what is known of its stream
 abbrev pub byte_writer_state : {W E : Type 0} → OutputStream W → ByteWriter W E → PortState
 byte_writer_state O w = target_state O w.port
 

@@ -18,7 +18,7 @@ module _ (o : Order) where
         append-nil (word o a.queued a.queue);
   }
 
-  -- two words' bits, by the bytes of the first and those of both
+  -- the bits of two words, from the bytes of the first and the bytes of both
   words-trans : (u x v y w : List Bool) (g h : List ℕ) → u ++ x ≡ bits o g ++ v → v ++ y ≡ bits o h ++ w → u ++ (x ++ y)
       ≡ bits o (g ++ h) ++ w
   words-trans u x v y w g h p q =

@@ -1,9 +1,9 @@
--- What a sink of bits is, and what one write call does to it.
+-- Sinks of bits, and the effect of one write call.
 use Rattle.std.specs.Prelude.{◌≡◌, ◌⊎◌, ℕ, ◌+◌, ◌*◌, ◌%◌, ◌<◌, ◌≤◌, Bool, true, false, List, [], ◌∷◌, ◌++◌, length, map, Option, Some, None, Result, Ok, Err, IsErr, ⊤}
 use Rattle.std.specs.Borrow.{GName, MutBor}
 use Rattle.bitstream_order.specs.Reference.{Reference, by_name, capacity_of}
 use Rattle.bitstream_number.specs.Word.{Order}
-use Rattle.bitstream_count.specs.Entry.{WriteEntry}
+use Rattle.bitstream_count.specs.Codec.{Encoder}
 use Rattle.bitstream_count.specs.declared.error.Error.{Error}
 use Rattle.bitstream_count.specs.declared.error.Error.TheVariants.{Failed, CounterOverflow}
 use Rattle.bitstream_order.specs.Fault.{refusal_of}
@@ -24,13 +24,13 @@ abbrev pub IsFullLimit : Option ℕ → Type 0
 IsFullLimit None = ⊤
 IsFullLimit (Some most) = (n : ℕ) × (most + 1 ≡ 8 * n)
 
--- what the states of a sink mean, with the laws
+-- the meaning of the states of a sink, with the laws
 pub record Sink (S : Type 0) : Type 1 where
   pub order : Order
   -- the second state is the first with these bits appended
   pub appends : S → List Bool → S → Type 0
-  -- the bytes that its stream holds, if it tells them; and those that it would hold with these bits written after the
-  -- state
+  -- the bytes that its stream holds, if they are known; and the bytes that it would hold with these bits
+  -- written after the state
   pub contents : S → Option (List ℕ)
   pub fills : S → List Bool → Option (List ℕ) → Type 0
   -- the number of bits written
@@ -74,43 +74,43 @@ pub record WriteRefused {S : Type 0} (K : Sink S) (old : S) (x : List Bool) (err
   pub allowed : K.may refusal
   pub answer : error ≡ refusal_of refusal.kind
   pub full : 8 ≤ K.len old % 8 + length x
-  pub front : List Bool
+  pub prefix : List Bool
   pub back : List Bool
-  pub parts : x ≡ front ++ back
-  pub before : K.fills old front refusal.before
+  pub parts : x ≡ prefix ++ back
+  pub before : K.fills old prefix refusal.before
   pub after : K.contents new ≡ refusal.after
   pub whole : K.len new % 8 ≡ 0
-  pub least : K.len old + length front < K.len new + 8
-  pub most : K.len new ≤ K.len old + length front
+  pub least : K.len old + length prefix < K.len new + 8
+  pub most : K.len new ≤ K.len old + length prefix
   pub asked : K.len new + 8 * refusal.wanted ≤ K.len old + length x
   pub capacity : refusal.capacity ≡ capacity_of (K.references old)
   pub refusals : K.refusals new ≡ refusal ∷ K.refusals old
   pub failed : K.failed new ≡ true
   pub references : K.references new ≡ K.references old
 
--- what one write call does, by what it means
-pub data Writes {S T : Type 0} (K : Sink S) (entry : WriteEntry) (old : S) (result : Result T Error) (new : S) :
+-- the effect of one write call, from its encoder
+pub data Writes {S T : Type 0} (K : Sink S) (encoder : Encoder) (old : S) (result : Result T Error) (new : S) :
     Type 0 where
-  had_failed : K.failed old ≡ true → result ≡ Err Failed → Kept K old new → Writes K entry old result new
-  was_rejected : (error : Error) → K.failed old ≡ false → entry (K.len old) ≡ Err error → result ≡ Err error
+  had_failed : K.failed old ≡ true → result ≡ Err Failed → Kept K old new → Writes K encoder old result new
+  was_rejected : (error : Error) → K.failed old ≡ false → encoder (K.len old) ≡ Err error → result ≡ Err error
       → Kept K old new
-      → Writes K entry old result new
-  past_limit : (word : List Bool) → K.failed old ≡ false → entry (K.len old) ≡ Ok word
+      → Writes K encoder old result new
+  past_limit : (word : List Bool) → K.failed old ≡ false → encoder (K.len old) ≡ Ok word
       → IsPastLimit K.limit (K.len old + length word) → result ≡ Err CounterOverflow → Kept K old new
-      → Writes K entry old result new
-  was_refused : (word : List Bool) (error : Error) → K.failed old ≡ false → entry (K.len old) ≡ Ok word
+      → Writes K encoder old result new
+  was_refused : (word : List Bool) (error : Error) → K.failed old ≡ false → encoder (K.len old) ≡ Ok word
       → IsWithin K.limit (K.len old + length word) → result ≡ Err error → WriteRefused K old word error new
-      → Writes K entry old result new
-  was_done : (word : List Bool) (done : T) → K.failed old ≡ false → entry (K.len old) ≡ Ok word
+      → Writes K encoder old result new
+  was_done : (word : List Bool) (done : T) → K.failed old ≡ false → encoder (K.len old) ≡ Ok word
       → IsWithin K.limit (K.len old + length word) → result ≡ Ok done → Appended K old word new
-      → Writes K entry old result new
+      → Writes K encoder old result new
 
--- write calls in order, up to the first that answers an error; of no calls, nothing at all
-unfoldable pub WritesAll : {S : Type 0} → Sink S → List WriteEntry → S → Result (Unit {0}) Error → S → Type 0
+-- write calls in order, up to the first that returns an error; for no calls, nothing changes
+unfoldable pub WritesAll : {S : Type 0} → Sink S → List Encoder → S → Result (Unit {0}) Error → S → Type 0
 WritesAll K [] old result new = (result ≡ Ok tt) × (new ≡ old)
-WritesAll {S} K (entry ∷ entries) old result new =
-    (IsErr result × Writes K entry old result new)
-    ⊎ ((mid : S) × Writes {S = S} {T = Unit {0}} K entry old (Ok tt) mid × WritesAll K entries mid result new)
+WritesAll {S} K (encoder ∷ encoders) old result new =
+    (IsErr result × Writes K encoder old result new)
+    ⊎ ((mid : S) × Writes {S = S} {T = Unit {0}} K encoder old (Ok tt) mid × WritesAll K encoders mid result new)
 
 -- states that are seen as states of a sink, reached through references of these names
 abbrev pub seen_sink : {R S : Type 0} → (R → S) → (R → List GName) → Sink S → Sink R
@@ -137,6 +137,6 @@ seen_sink f names K = record {
 abbrev pub inner_sink : {R S : Type 0} → (R → S) → Sink S → Sink R
 inner_sink f K = seen_sink f (λ _. []) K
 
--- a sink behind a `&mut`
+-- a sink that a `&mut` refers to
 abbrev pub lent_sink : {S : Type 0} → Sink S → Sink (MutBor S)
 lent_sink K = seen_sink (λ a. a.now) (λ a. a.ghost_name ∷ []) K

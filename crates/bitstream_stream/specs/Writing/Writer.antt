@@ -1,5 +1,4 @@
--- What the states of a writer mean.
--- A sink is a record with its laws in it: so lemmas are imported.
+-- The meaning of the states of a writer. A sink is a record with its laws in it: so lemmas are imported.
 use Rattle.std.specs.Prelude.{◌≡◌, ℕ, ◌+◌, ◌*◌, ◌≤◌, ◌<◌, Bool, false, List, Option, None, OnOk, Result, Ok, Err}
 use Rattle.bitstream_order.specs.Reference.{Reference}
 use Rattle.std.specs.Io.KnownBytes.{Appends}
@@ -14,7 +13,7 @@ use Rattle.bitstream_stream.specs.Writing.CarriesLaws.{Carries-nil, Carries-tran
 use Rattle.bitstream_stream.specs.Writing.Sink.{Sink, Appended, WriteRefused, inner_sink}
 use Rattle.bitstream_stream.specs.declared.write.writer.BitWriter.{BitWriter}
 
--- a writer, by what its stream tells
+-- a writer, from what is known of its stream
 abbrev pub writer_state : {W E : Type 0} → OutputStream W → BitWriter W E → WriterState
 writer_state O w = record {
   port = target_state O w.port;
@@ -35,21 +34,21 @@ queued_bits writer = writer.queued
 abbrev pub queue_number : {W E : Type 0} → BitWriter W E → ℕ
 queue_number writer = writer.queue
 
--- whether a writer has failed
+-- true if a writer has failed
 abbrev pub has_failed : {W E : Type 0} → BitWriter W E → Bool
 has_failed writer = writer.failed
 
--- a call for a word of n bits made one request at most, and none if it filled no byte
+-- a call for a word of n bits made at most one request, and none if it filled no byte
 abbrev pub AsksForWord : {W E : Type 0} → ℕ → BitWriter W E → BitWriter W E → Type 0
 AsksForWord n old new = (requests_made new ≤ requests_made old + 1)
     × (queued_bits old + n < 8 → requests_made new ≡ requests_made old)
 
--- a call for n bytes that answered a value made one request for each of their pieces
+-- a call for n bytes that returned a value made one request for each of their pieces
 abbrev pub AsksForBytes : {W E A : Type 0} → ℕ → ℕ → BitWriter W E → Result A Error → BitWriter W E → Type 0
 AsksForBytes most n old result new = OnOk result (requests_made new
     ≡ requests_made old + pieces most (queued_bits old) n)
 
--- a new writer, by what its stream tells
+-- a new writer, from what is known of its stream
 abbrev pub new_writer_state : Option (List ℕ) → List Reference → WriterState
 new_writer_state contents references = record {
   port = new_port_state contents references;
@@ -79,7 +78,7 @@ queue_sink may o = record {
   limit_full = tt;
 }
 
--- bytes were added to those that a stream holds, if it tells them, and these are their bits
+-- bytes with these bits were added to the contents of a stream, if they are known
 pub record AddsBits (o : Order) (old : Option (List ℕ)) (x : List Bool) (new : Option (List ℕ)) : Type 0 where
   pub bytes : List ℕ
   pub grows : Appends old new bytes

@@ -1,7 +1,7 @@
 //! The calls of a reader of bytes.
 ghost use Rattle.std.specs.Prelude.{◌≡◌, length};
 ghost use Rattle.bitstream_order.specs.Parts.{value_bytes};
-ghost use Rattle.bitstream_order.specs.Moving.Gather.{seen};
+ghost use Rattle.bitstream_order.specs.Moving.Gather.{result_map};
 ghost use Rattle.bitstream_stream.specs.WholeBytes.ByteReads.{ByteSource, ByteReads, ByteReadsGrowing, given_bytes, skipped_bytes, lent_byte_source};
 
 use crate::piece::{GROWTH, grow};
@@ -14,9 +14,9 @@ use std::alloc::Allocator;
 ///
 /// # Errors
 ///
-/// If the stream refuses a request, a call answers `EndOfInput`, `OutOfMemory` or `Stream` with the
-/// kind of the refusal. A reader of bytes does not fail: the next call asks the stream again. The
-/// calls below name only the errors of their own.
+/// If the stream refuses a request, a call returns `EndOfInput`, `OutOfMemory` or `Stream` with the
+/// kind of the refusal. Errors are not sticky: the next call asks the stream again. The calls below
+/// name only their own errors.
 ///
 /// # Examples
 ///
@@ -29,20 +29,20 @@ use std::alloc::Allocator;
 /// assert!(rt; matches!(reader.read::<u8>(), Err(Error::EndOfInput)));
 /// ```
 pub trait ByteRead {
-    // What the states of the reader mean.
+    // The meaning of the reader's states.
     ghost source: { ByteSource Self };
 
     /// Reads a value from its bytes, in the reader's byte order.
     fn read<V: Primitive>(&mut self) -> Result<V, Error>
         ensures reads { ByteReads source (given_bytes V.BYTES) self.old
-            (seen (value_bytes source.order V.be_bytes V.le_bytes) result) self.new };
+            (result_map (value_bytes source.order V.be_bytes V.le_bytes) result) self.new };
 
     /// Reads a value from its bytes, in the byte order F.
     fn read_as<F: Endianness, V: Primitive>(&mut self) -> Result<V, Error>
         ensures reads { ByteReads source (given_bytes V.BYTES) self.old
-            (seen (value_bytes F.order V.be_bytes V.le_bytes) result) self.new };
+            (result_map (value_bytes F.order V.be_bytes V.le_bytes) result) self.new };
 
-    /// Skips the given number of bytes, whatever they are.
+    /// Skips `bytes` bytes, whatever they are.
     fn skip(&mut self, bytes: u32) -> Result<(), Error>
         ensures reads { ByteReads source (skipped_bytes bytes) self.old result self.new };
 
@@ -50,7 +50,7 @@ pub trait ByteRead {
     /// of the buffer are not specified.
     fn read_bytes(&mut self, buf: &mut [u8]) -> Result<(), Error>
         ensures reads { ByteReads source (given_bytes (length buf.old)) self.old
-            (seen (λ _. buf.new) result) self.new }
+            (result_map (λ _. buf.new) result) self.new }
     {
         for i in 0..buf.len() {
             let byte: [u8; 1] = self.read()?;
@@ -59,27 +59,27 @@ pub trait ByteRead {
         Ok(())
     }
 
-    /// Reads the bytes of a V: `read_to_bytes::<[u8; 4]>()` gives an array of four.
+    /// Reads the bytes of a V: `read_to_bytes::<[u8; 4]>()` returns an array of four bytes.
     #[inline(always)]
     fn read_to_bytes<V: Primitive>(&mut self) -> Result<V::Bytes, Error>
         ensures reads { ByteReads source (given_bytes V.BYTES) self.old
-            (seen V.Bytes.items result) self.new }
+            (result_map V.Bytes.items result) self.new }
     {
         let mut bytes = V::buffer();
         self.read_bytes(V::as_bytes_mut(&mut bytes))?;
         Ok(bytes)
     }
 
-    /// Reads the given number of bytes into a vector. Up to 4096 bytes take one buffer of their
-    /// size. More are read 4096 at a time at most, and the buffer grows as they come. So a length
-    /// that the stream does not have costs little memory.
+    /// Reads `bytes` bytes into a vector. Up to 4096 bytes take one buffer of their size. More are
+    /// read at most 4096 at a time, and the buffer grows as they come. So a length that the stream
+    /// does not have costs little memory.
     ///
     /// # Errors
     ///
     /// `OutOfMemory` if memory for the bytes is refused.
     fn read_to_vec<A: Allocator>(&mut self, alloc: A, bytes: usize) -> Result<Vec<u8, A>, Error>
         ensures reads { ByteReadsGrowing source (given_bytes bytes) self.old
-            (seen (λ read. read.items) result) self.new }
+            (result_map (λ read. read.items) result) self.new }
     {
         let mut buf = Vec::new(alloc);
         let mut at = 0;

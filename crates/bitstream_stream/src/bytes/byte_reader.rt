@@ -4,7 +4,7 @@ ghost use Rattle.std.specs.Io.Seek.{SeekMoves};
 ghost use Rattle.std.specs.Prelude.{◌≡◌, length};
 ghost use Rattle.bitstream_order.specs.Parts.{value_bytes};
 ghost use Rattle.bitstream_order.specs.Port.{new_port_state};
-ghost use Rattle.bitstream_order.specs.Moving.Gather.{seen};
+ghost use Rattle.bitstream_order.specs.Moving.Gather.{result_map};
 ghost use Rattle.bitstream_stream.specs.WholeBytes.ByteReads.{ByteReads, given_bytes, skipped_bytes};
 
 use crate::bytes::byte_read::ByteRead;
@@ -111,13 +111,14 @@ impl<R: SeekSource, E: Endianness> Seek for ByteReader<R, E> {
     ghost stream_bytes = { λ r. R.bytes (port_stream r.port) };
 
     fn seek(&mut self, to: SeekFrom) -> io::Result<u64>
-        // If the stream tells its position, that becomes the answer, or stays if the seek is
-        // refused. If it tells its bytes too, the answer is the place meant.
+        // If the stream's position is known, it becomes the result, or stays if the seek is
+        // refused. If its bytes are known too, the result is the place meant.
         ensures moves { SeekMoves (R.position (byte_reader_stream self.old))
             (R.position (byte_reader_stream self.new)) (R.bytes (byte_reader_stream self.old)) to result }
-        // All bytes of the stream stay the same, if it tells them.
+        // All bytes of the stream stay the same, if they are known.
         ensures bytes { Keeps (R.bytes (byte_reader_stream self.old)) (R.bytes (byte_reader_stream self.new)) }
-        // One request is made. Fetched bytes are counted anew, or the error has the refusal's kind.
+        // One request is made. The count of fetched bytes starts again, or the error has the
+        // refusal's kind.
         ensures seeks { ByteSeeks (MayRefuseSeek R.stream R.refuses_seek to)
             (byte_reader_port R.stream self.old) result (byte_reader_port R.stream self.new) }
     {

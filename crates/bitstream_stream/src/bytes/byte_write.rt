@@ -11,9 +11,9 @@ use bitstream_order::order::Endianness;
 ///
 /// # Errors
 ///
-/// If the stream refuses a request, a call answers `OutOfMemory` or `Stream` with the kind of the
-/// refusal. A sink of bytes does not fail: the next call asks the stream again. A sink with a limit
-/// answers `CounterOverflow` if the bytes would pass it, and is as it was.
+/// If the stream refuses a request, a call returns `OutOfMemory` or `Stream` with the kind of the
+/// refusal. Errors are not sticky: the next call asks the stream again. A sink with a limit returns
+/// `CounterOverflow` if the bytes would pass it, and is unchanged.
 ///
 /// # Examples
 ///
@@ -26,7 +26,7 @@ use bitstream_order::order::Endianness;
 /// assert_eq!(rt; writer.into_writer().as_slice(), [1, 0, 0, 0, 0].as_slice());
 /// ```
 pub trait ByteWrite {
-    // What the states of the sink mean.
+    // The meaning of the sink's states.
     ghost sink: { ByteSink Self };
 
     /// Writes the bytes of a value, in the sink's byte order.
@@ -43,7 +43,7 @@ pub trait ByteWrite {
     fn write_bytes(&mut self, bytes: &[u8]) -> Result<(), Error>
         ensures writes { ByteWrites sink bytes.now self.old result self.new };
 
-    /// Writes the given number of zero bytes.
+    /// Writes `bytes` bytes of 0.
     fn pad(&mut self, bytes: u32) -> Result<(), Error>
         ensures writes { ByteWrites sink (replicate bytes 0) self.old result self.new };
 }

@@ -17,8 +17,8 @@ fn meant(at: u64, queued: u32, to: SeekFrom) -> i128
 }
 
 /// Returns the place in bits that `to` means: x for `Start(x)`, n bits back from the end for
-/// `End(n)` (unlike in std), and d bits on from where a reader stands for `Current(d)`. `at` is the
-/// position in bytes that the stream answers (for `End`: of its end), and `queued` the number of
+/// `End(n)` (unlike in std), and d bits after the reader's place for `Current(d)`. `at` is the
+/// position in bytes that the stream returns (for `End`: of its end), and `queued` the number of
 /// bits that are fetched from before it and not yet taken.
 ///
 /// Returns `None` if the place is below 0 or above 2^64 - 1. Nothing in between wraps.

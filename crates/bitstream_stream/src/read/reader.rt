@@ -2,10 +2,10 @@
 ghost use Rattle.std.specs.Prelude.{◌≡◌, ℕ, ◌+◌, ◌*◌, ◌/◌, ◌^◌, ◌<◌, ◌≤◌, ◌⊎◌, ◌==◌, IsTrue, false, true, length, Ok, OnOk};
 ghost use Rattle.bitstream_number.specs.Word.{count_width};
 ghost use Rattle.bitstream_order.specs.Parts.{value_bytes};
-ghost use Rattle.bitstream_order.specs.Moving.Gather.{seen};
+ghost use Rattle.bitstream_order.specs.Moving.Gather.{result_map};
 ghost use Rattle.bitstream_order.specs.Port.{fetched_count};
 ghost use Rattle.bitstream_stream.specs.Reading.Reads.{Reads, ReadsConst};
-ghost use Rattle.bitstream_stream.specs.Reading.ReadTable.{bit_entry, unsigned_entry, signed_entry, const_entry, unary_entry, count_entry, align_entry, bytes_entry, skip_entry, is_full};
+ghost use Rattle.bitstream_stream.specs.Reading.ReadTable.{bit_decoder, unsigned_decoder, signed_decoder, const_decoder, unary_decoder, count_decoder, align_decoder, bytes_decoder, skip_decoder, is_full};
 
 use crate::piece::PIECE;
 use crate::read::BitRead;
@@ -29,9 +29,10 @@ mod seek;
 /// Reads bits from a stream of bytes. A byte is fetched only when a call needs a bit of it, so
 /// fewer than 8 bits are queued at any time.
 ///
-/// Over a [`Slice`](bitstream_order::streams::slice::Slice) the bytes alone decide what a call answers. If
-/// all bits of the call are there, it never answers `EndOfInput`, `Stream` or `OutOfMemory`. If
-/// not, it answers `EndOfInput`. Of a `Read` std does not tell how it refuses.
+/// Over a [`Slice`](bitstream_order::streams::slice::Slice) the bytes alone decide the result of a
+/// call. If all bits of the call are there, it never returns `EndOfInput`, `Stream` or
+/// `OutOfMemory`. If not, it returns `EndOfInput`. (std's contract does not state how a `Read`
+/// refuses.)
 ///
 /// # Examples
 ///
@@ -68,12 +69,10 @@ impl<R: Source, E: Endianness> BitReader<R, E> {
 
     /// Returns a reader of a stream's bytes. No request is made yet.
     pub fn new(reader: R) -> BitReader<R, E>
-        // Nothing is taken or queued yet, and the bytes left are the stream's, if it tells them.
+        // Nothing is taken or queued yet, and the bytes left are the stream's, if they are known.
         ensures state { ⟦<Self as BitRead>⟧.source.state result
             ≡ new_reader_state (R.stream.remaining reader) (R.stream.references reader) }
-        // No request was made yet.
         ensures requests { requests_made result ≡ 0 }
-        // No turn was taken yet to read a unary number.
         ensures turns { turns_made result ≡ 0 }
     {
         BitReader {
@@ -91,28 +90,25 @@ impl<R: Source, E: Endianness> BitReader<R, E> {
     pub fn endian(reader: R, _endian: E) -> BitReader<R, E>
     where
         E: Drop,
-        // Nothing is taken or queued yet, and the bytes left are the stream's, if it tells them.
+        // Nothing is taken or queued yet, and the bytes left are the stream's, if they are known.
         ensures state { ⟦<Self as BitRead>⟧.source.state result
             ≡ new_reader_state (R.stream.remaining reader) (R.stream.references reader) }
-        // No request was made yet.
         ensures requests { requests_made result ≡ 0 }
-        // No turn was taken yet to read a unary number.
         ensures turns { turns_made result ≡ 0 }
     {
         BitReader::new(reader)
     }
 
-    /// Reads a word that needs more bits than are queued. Here and below `constant` tells whether `bits` is
-    /// known as the program is compiled.
+    /// Reads a word that needs more bits than are queued. Here and below, `constant` is true if
+    /// `bits` is known at compile time.
     #[inline(always)]
     fn fetch_word<U: UnsignedInteger>(&mut self, bits: u32, constant: bool) -> Result<U, Error>
         requires fine { self.old.failed ≡ false }
         requires more { self.old.queued < bits }
         requires room { bits ≤ U.BITS_SIZE }
-        // Takes just `bits` bits and answers their number, or answers an error.
+        // Takes only `bits` bits and returns their number, or returns an error.
         ensures reads { Reads ⟦<Self as BitRead>⟧.source
-            (unsigned_entry E.order U.BITS_SIZE bits) self.old (seen U.value result) self.new }
-        // At most one request is made, and none if the queue is enough.
+            (unsigned_decoder E.order U.BITS_SIZE bits) self.old (result_map U.value result) self.new }
         ensures asks { AsksForWord bits self.old self.new }
     {
         let queued = self.queued;
@@ -128,22 +124,21 @@ impl<R: Source, E: Endianness> BitReader<R, E> {
         let (value, left) = take_bits::<R, E, U>(&mut self.port, queue, queued, more, constant)?;
         self.failed = false;
         self.taken.add(more as u64);
-        // What is left of the last byte is the new queue.
+        // The rest of the last byte is the new queue.
         self.queue = left;
         self.queued = unused_bits(more);
         Ok(value)
     }
 
-    /// Reads a word of at most as many bits as the type has: from the queue if that is enough, else
-    /// by one request.
+    /// Reads a word of at most the width of the type: from the queue if that is enough, else by one
+    /// request.
     #[inline(always)]
     fn take_word<U: UnsignedInteger>(&mut self, bits: u32, constant: bool) -> Result<U, Error>
         requires fine { self.old.failed ≡ false }
         requires room { bits ≤ U.BITS_SIZE }
-        // Takes just `bits` bits and answers their number, or answers an error.
+        // Takes only `bits` bits and returns their number, or returns an error.
         ensures reads { Reads ⟦<Self as BitRead>⟧.source
-            (unsigned_entry E.order U.BITS_SIZE bits) self.old (seen U.value result) self.new }
-        // At most one request is made, and none if the queue is enough.
+            (unsigned_decoder E.order U.BITS_SIZE bits) self.old (result_map U.value result) self.new }
         ensures asks { AsksForWord bits self.old self.new }
     {
         let queued = self.queued;
@@ -158,13 +153,12 @@ impl<R: Source, E: Endianness> BitReader<R, E> {
         Ok(U::from_u8(first))
     }
 
-    /// Reads a word, if the reader has not failed and the type has as many bits.
+    /// Reads a word, if the reader has not failed and the type has at least `bits` bits.
     #[inline(always)]
     fn read_word<U: UnsignedInteger>(&mut self, bits: u32, constant: bool) -> Result<U, Error>
-        // Takes just `bits` bits and answers their number, or answers an error.
+        // Takes only `bits` bits and returns their number, or returns an error.
         ensures reads { Reads ⟦<Self as BitRead>⟧.source
-            (unsigned_entry E.order U.BITS_SIZE bits) self.old (seen U.value result) self.new }
-        // At most one request is made, and none if the queue is enough.
+            (unsigned_decoder E.order U.BITS_SIZE bits) self.old (result_map U.value result) self.new }
         ensures asks { AsksForWord bits self.old self.new }
     {
         if self.failed {
@@ -180,10 +174,9 @@ impl<R: Source, E: Endianness> BitReader<R, E> {
     /// Reads the two's complement of a number.
     #[inline(always)]
     fn read_signed_word<S: SignedInteger>(&mut self, bits: u32, constant: bool) -> Result<S, Error>
-        // Takes just `bits` bits and answers their two's complement, or answers an error.
+        // Takes only `bits` bits and returns their two's complement, or returns an error.
         ensures reads { Reads ⟦<Self as BitRead>⟧.source
-            (signed_entry E.order S.BITS_SIZE bits) self.old (seen S.integer result) self.new }
-        // At most one request is made, and none if the queue is enough.
+            (signed_decoder E.order S.BITS_SIZE bits) self.old (result_map S.integer result) self.new }
         ensures asks { AsksForWord bits self.old self.new }
     {
         if self.failed {
@@ -203,10 +196,9 @@ impl<R: Source, E: Endianness> BitReader<R, E> {
         requires fine { self.old.failed ≡ false }
         requires none { self.old.queued ≡ 0 }
         requires some { 1 ≤ length buf.old }
-        // Takes just as many bytes as the buffer has into it, or answers an error.
-        ensures reads { Reads ⟦<Self as BitRead>⟧.source (bytes_entry E.order (length buf.old))
-            self.old (seen (λ _. buf.new) result) self.new }
-        // Exactly one request is made, whether it is refused or not.
+        // Fills the buffer with the next bytes and takes only them, or returns an error.
+        ensures reads { Reads ⟦<Self as BitRead>⟧.source (bytes_decoder E.order (length buf.old))
+            self.old (result_map (λ _. buf.new) result) self.new }
         ensures requests { requests_made self.new ≡ requests_made self.old + 1 }
     {
         match self.port.fetch(buf) {
@@ -222,27 +214,24 @@ impl<R: Source, E: Endianness> BitReader<R, E> {
         }
     }
 
-    /// Reads bytes by one request, behind the queued bits.
+    /// Reads bytes by one request, after the queued bits.
     fn fetch_bytes(&mut self, buf: &mut [u8]) -> Result<(), Error>
         requires fine { self.old.failed ≡ false }
         requires queued { 1 ≤ self.old.queued }
         requires some { 1 ≤ length buf.old }
-        // Takes just as many bytes as the buffer has into it, or answers an error.
-        ensures reads { Reads ⟦<Self as BitRead>⟧.source (bytes_entry E.order (length buf.old))
-            self.old (seen (λ _. buf.new) result) self.new }
-        // If it succeeds, the reader has not failed.
+        // Fills the buffer with the next bytes and takes only them, or returns an error.
+        ensures reads { Reads ⟦<Self as BitRead>⟧.source (bytes_decoder E.order (length buf.old))
+            self.old (result_map (λ _. buf.new) result) self.new }
         ensures fine { OnOk result (self.new.failed ≡ false) }
-        // If it succeeds, as many bits are queued as before.
         ensures queued { OnOk result (queued_bits self.new ≡ queued_bits self.old) }
-        // Exactly one request is made, whether it is refused or not.
         ensures requests { requests_made self.new ≡ requests_made self.old + 1 }
     {
         let queue = E::first(self.queue, self.queued);
         match self.port.fetch(buf) {
             Ok(()) => {
-                // The queued bits go to the front, and as many last bits are left over.
+                // The queued bits go first, and the last bits, of the same number, are left over.
                 let left = shift::<E>(queue, self.queued, buf);
-                // The queue of a reader stands at the front of its byte.
+                // The queue of a reader is the first bits of its byte.
                 self.queue = E::to_front(left, self.queued);
                 self.taken.add_bytes(buf.len());
                 Ok(())
@@ -258,15 +247,15 @@ impl<R: Source, E: Endianness> BitReader<R, E> {
         }
     }
 
-    /// Reads bytes behind the queued bits, in pieces of at most `most` bytes.
+    /// Reads bytes after the queued bits, in pieces of at most `most` bytes.
     #[inline(never)]
     fn fetch_pieces(&mut self, buf: &mut [u8], most: usize) -> Result<(), Error>
         requires fine { self.old.failed ≡ false }
         requires queued { 1 ≤ self.old.queued }
         requires some { 1 ≤ most }
-        // Takes just as many bytes as the buffer has into it, or answers an error.
-        ensures reads { Reads ⟦<Self as BitRead>⟧.source (bytes_entry E.order (length buf.old))
-            self.old (seen (λ _. buf.new) result) self.new }
+        // Fills the buffer with the next bytes and takes only them, or returns an error.
+        ensures reads { Reads ⟦<Self as BitRead>⟧.source (bytes_decoder E.order (length buf.old))
+            self.old (result_map (λ _. buf.new) result) self.new }
         // If it succeeds, it made one request if no bit was queued, else one for each piece of up
         // to `most` bytes. For no bytes it made none.
         ensures asks { AsksForBytes most (length buf.old) self.old result self.new }
@@ -286,9 +275,9 @@ impl<R: Source, E: Endianness> BitReader<R, E> {
     #[inline(always)]
     fn fill(&mut self, buf: &mut [u8], most: usize) -> Result<(), Error>
         requires { 1 ≤ most }
-        // Takes just as many bytes as the buffer has into it, or answers an error.
-        ensures reads { Reads ⟦<Self as BitRead>⟧.source (bytes_entry E.order (length buf.old))
-            self.old (seen (λ _. buf.new) result) self.new }
+        // Fills the buffer with the next bytes and takes only them, or returns an error.
+        ensures reads { Reads ⟦<Self as BitRead>⟧.source (bytes_decoder E.order (length buf.old))
+            self.old (result_map (λ _. buf.new) result) self.new }
         // If it succeeds, it made one request if no bit was queued, else one for each piece of up
         // to `most` bytes. For no bytes it made none.
         ensures asks { AsksForBytes most (length buf.old) self.old result self.new }
@@ -296,7 +285,7 @@ impl<R: Source, E: Endianness> BitReader<R, E> {
         if self.failed {
             return Err(Error::Failed);
         }
-        // Off a byte boundary the bytes have to be shifted behind the queue.
+        // Off a byte boundary, the queued bits have to be put before the bytes.
         if self.queued > 0 {
             return self.fetch_pieces(buf, most);
         }
@@ -318,9 +307,9 @@ impl<R: Source, E: Endianness> BitReader<R, E> {
         self.queued = 0;
     }
 
-    /// Skips the given number of bytes, in pieces.
+    /// Skips `bytes` bytes, in pieces.
     fn skip_bytes(&mut self, bytes: usize) -> Result<(), Error>
-        ensures { Reads ⟦<Self as BitRead>⟧.source (skip_entry (8 * bytes)) self.old result self.new }
+        ensures { Reads ⟦<Self as BitRead>⟧.source (skip_decoder (8 * bytes)) self.old result self.new }
     {
         if self.failed {
             return Err(Error::Failed);
@@ -344,11 +333,10 @@ impl<R: Source, E: Endianness> BitRead for BitReader<R, E> {
 
     #[inline(always)]
     fn read_unsigned_counted<C: Count, U: UnsignedInteger>(&mut self, bits: C) -> Result<U, Error>
-        // Takes just `bits` bits and answers their number, or answers an error.
+        // Takes only `bits` bits and returns their number, or returns an error.
         ensures reads { Reads ⟦<Self as BitRead>⟧.source
-            (unsigned_entry E.order U.BITS_SIZE (C.number bits))
-            self.old (seen U.value result) self.new }
-        // At most one request is made, and none if the queue is enough.
+            (unsigned_decoder E.order U.BITS_SIZE (C.number bits))
+            self.old (result_map U.value result) self.new }
         ensures asks { AsksForWord (C.number bits) self.old self.new }
     {
         self.read_unsigned_var(bits.bits())
@@ -356,11 +344,10 @@ impl<R: Source, E: Endianness> BitRead for BitReader<R, E> {
 
     #[inline(always)]
     fn read_signed_counted<C: SignedCount, S: SignedInteger>(&mut self, bits: C) -> Result<S, Error>
-        // Takes just `bits` bits and answers their two's complement, or answers an error.
+        // Takes only `bits` bits and returns their two's complement, or returns an error.
         ensures reads { Reads ⟦<Self as BitRead>⟧.source
-            (signed_entry E.order S.BITS_SIZE (C.number bits))
-            self.old (seen S.integer result) self.new }
-        // At most one request is made, and none if the queue is enough.
+            (signed_decoder E.order S.BITS_SIZE (C.number bits))
+            self.old (result_map S.integer result) self.new }
         ensures asks { AsksForWord (C.number bits) self.old self.new }
     {
         self.read_signed_var(bits.bits())
@@ -368,9 +355,8 @@ impl<R: Source, E: Endianness> BitRead for BitReader<R, E> {
 
     #[inline(always)]
     fn read_bit(&mut self) -> Result<bool, Error>
-        // Takes just one bit and answers it, or answers an error.
-        ensures reads { Reads ⟦<Self as BitRead>⟧.source bit_entry self.old result self.new }
-        // At most one request is made, and none if the queue is enough.
+        // Takes only one bit and returns it, or returns an error.
+        ensures reads { Reads ⟦<Self as BitRead>⟧.source bit_decoder self.old result self.new }
         ensures asks { AsksForWord 1 self.old self.new }
     {
         let bit: u8 = self.read_word(1, true)?;
@@ -379,11 +365,10 @@ impl<R: Source, E: Endianness> BitRead for BitReader<R, E> {
 
     #[inline(always)]
     fn read_unsigned_var<U: UnsignedInteger>(&mut self, bits: u32) -> Result<U, Error>
-        // Takes just `bits` bits and answers their number, or answers an error.
+        // Takes only `bits` bits and returns their number, or returns an error.
         ensures reads { Reads ⟦<Self as BitRead>⟧.source
-            (unsigned_entry E.order U.BITS_SIZE bits)
-            self.old (seen U.value result) self.new }
-        // At most one request is made, and none if the queue is enough.
+            (unsigned_decoder E.order U.BITS_SIZE bits)
+            self.old (result_map U.value result) self.new }
         ensures asks { AsksForWord bits self.old self.new }
     {
         self.read_word(bits, false)
@@ -391,10 +376,9 @@ impl<R: Source, E: Endianness> BitRead for BitReader<R, E> {
 
     #[inline(always)]
     fn read_unsigned<B: Width, U: UnsignedInteger>(&mut self) -> Result<U, Error>
-        // Takes just `B::BITS` bits and answers their number, or answers an error.
+        // Takes only `B::BITS` bits and returns their number, or returns an error.
         ensures reads { Reads ⟦<Self as BitRead>⟧.source
-            (unsigned_entry E.order U.BITS_SIZE B.BITS) self.old (seen U.value result) self.new }
-        // At most one request is made, and none if the queue is enough.
+            (unsigned_decoder E.order U.BITS_SIZE B.BITS) self.old (result_map U.value result) self.new }
         ensures asks { AsksForWord B.BITS self.old self.new }
     {
         self.read_word(B::BITS, true)
@@ -402,10 +386,9 @@ impl<R: Source, E: Endianness> BitRead for BitReader<R, E> {
 
     #[inline(always)]
     fn read_signed_var<S: SignedInteger>(&mut self, bits: u32) -> Result<S, Error>
-        // Takes just `bits` bits and answers their two's complement, or answers an error.
+        // Takes only `bits` bits and returns their two's complement, or returns an error.
         ensures reads { Reads ⟦<Self as BitRead>⟧.source
-            (signed_entry E.order S.BITS_SIZE bits) self.old (seen S.integer result) self.new }
-        // At most one request is made, and none if the queue is enough.
+            (signed_decoder E.order S.BITS_SIZE bits) self.old (result_map S.integer result) self.new }
         ensures asks { AsksForWord bits self.old self.new }
     {
         self.read_signed_word(bits, false)
@@ -413,10 +396,9 @@ impl<R: Source, E: Endianness> BitRead for BitReader<R, E> {
 
     #[inline(always)]
     fn read_signed<B: Width, S: SignedInteger>(&mut self) -> Result<S, Error>
-        // Takes just `B::BITS` bits and answers their two's complement, or answers an error.
+        // Takes only `B::BITS` bits and returns their two's complement, or returns an error.
         ensures reads { Reads ⟦<Self as BitRead>⟧.source
-            (signed_entry E.order S.BITS_SIZE B.BITS) self.old (seen S.integer result) self.new }
-        // At most one request is made, and none if the queue is enough.
+            (signed_decoder E.order S.BITS_SIZE B.BITS) self.old (result_map S.integer result) self.new }
         ensures asks { AsksForWord B.BITS self.old self.new }
     {
         self.read_signed_word(B::BITS, true)
@@ -425,11 +407,10 @@ impl<R: Source, E: Endianness> BitRead for BitReader<R, E> {
     fn read_const<B: Width, V: Width, F: From<Error> + Drop>(&mut self, err: F) -> Result<(), F>
         requires word { B.BITS ≤ 32 }
         requires value { (V.BITS < 2 ^ B.BITS) ⊎ (B.BITS ≡ 0) }
-        // Takes just `B::BITS` bits, and answers `err` unless their number is `V::BITS`. Or answers
+        // Takes only `B::BITS` bits, and returns `err` unless their number is `V::BITS`. Or returns
         // an error of the read, as an F.
         ensures reads { ReadsConst ⟦<Self as BitRead>⟧.source F.from_gives
-            (const_entry E.order B.BITS V.BITS) err self.old result self.new }
-        // At most one request is made, and none if the queue is enough.
+            (const_decoder E.order B.BITS V.BITS) err self.old result self.new }
         ensures asks { AsksForWord B.BITS self.old self.new }
     {
         let value: u32 = self.read_unsigned::<B, u32>()?;
@@ -439,11 +420,11 @@ impl<R: Source, E: Endianness> BitRead for BitReader<R, E> {
     #[inline(always)]
     fn read_unary<S: Width>(&mut self) -> Result<u32, Error>
         requires { S.BITS < 2 }
-        // Takes just the bits up to and with the stop bit, and counts those before it, or answers
-        // an error.
-        ensures reads { Reads ⟦<Self as BitRead>⟧.source (unary_entry (S.BITS == 1))
+        // Takes only the bits up to and including the stop bit, and returns the number of bits
+        // before it. Or returns an error.
+        ensures reads { Reads ⟦<Self as BitRead>⟧.source (unary_decoder (S.BITS == 1))
             self.old result self.new }
-        // If it succeeds, it took one turn more than it fetched bytes.
+        // If it succeeds, it took one iteration more than the number of bytes that it fetched.
         ensures turns { TurnsByBytes self.old result self.new }
     {
         if self.failed {
@@ -452,8 +433,8 @@ impl<R: Source, E: Endianness> BitRead for BitReader<R, E> {
         let stop = S::BITS == 1;
         let queue = self.queue;
         let queued = self.queued;
-        // The reader is what it is to be after a refused request or a run too long: it has failed,
-        // and its queue is empty.
+        // The reader is in the state after a refused request or a run too long: it has failed, and
+        // its queue is empty.
         self.queue = 0;
         self.queued = 0;
         self.failed = true;
@@ -467,7 +448,7 @@ impl<R: Source, E: Endianness> BitRead for BitReader<R, E> {
                 Ok(run.count)
             }
             Ok(None) => {
-                // Just the run is taken. The bits behind it in the last byte are lost.
+                // Only the run is taken. The bits after it in the last byte are lost.
                 self.taken.add(1 << 32);
                 Err(Error::RunTooLong)
             }
@@ -482,25 +463,25 @@ impl<R: Source, E: Endianness> BitRead for BitReader<R, E> {
     fn read_count<C: Count>(&mut self) -> Result<C, Error>
         requires some { 0 < C.MAX }
         requires full { IsTrue (is_full 32 C.MAX) }
-        // Takes just the bits that hold `C::MAX` and answers their count, or answers an error.
+        // Takes only the bits that hold `C::MAX` and returns their count, or returns an error.
         ensures reads { Reads ⟦<Self as BitRead>⟧.source
-            (count_entry E.order C.MAX) self.old (seen C.number result) self.new }
-        // At most one request is made, and none if the queue is enough.
+            (count_decoder E.order C.MAX) self.old (result_map C.number result) self.new }
         ensures asks { AsksForWord (count_width C.MAX) self.old self.new }
     {
         let number = self.read_unsigned_var(count_bits(C::MAX))?;
         match C::of(number) {
             Some(count) => Ok(count),
-            // `C::MAX` is 1 less than a power of two, so it is the greatest number of so many bits.
+            // `C::MAX` is 1 less than a power of two, so it is the greatest number of that many
+            // bits.
             None => unreachable!(),
         }
     }
 
     #[inline(always)]
     fn read_to<V: Primitive>(&mut self) -> Result<V, Error>
-        // Takes just `V::BYTES` bytes and answers their value in the order E, or answers an error.
-        ensures reads { Reads ⟦<Self as BitRead>⟧.source (bytes_entry E.order V.BYTES) self.old
-            (seen (value_bytes E.order V.be_bytes V.le_bytes) result) self.new }
+        // Takes only `V::BYTES` bytes and returns their value in the order E, or returns an error.
+        ensures reads { Reads ⟦<Self as BitRead>⟧.source (bytes_decoder E.order V.BYTES) self.old
+            (result_map (value_bytes E.order V.be_bytes V.le_bytes) result) self.new }
         // If it succeeds, it made one request if no bit was queued, else one for each piece of up
         // to 8 bytes. For no bytes it made none.
         ensures asks { AsksForBytes 8 V.BYTES self.old result self.new }
@@ -510,9 +491,9 @@ impl<R: Source, E: Endianness> BitRead for BitReader<R, E> {
 
     #[inline(always)]
     fn read_as_to<F: Endianness, V: Primitive>(&mut self) -> Result<V, Error>
-        // Takes just `V::BYTES` bytes and answers their value in the order F, or answers an error.
-        ensures reads { Reads ⟦<Self as BitRead>⟧.source (bytes_entry E.order V.BYTES) self.old
-            (seen (value_bytes F.order V.be_bytes V.le_bytes) result) self.new }
+        // Takes only `V::BYTES` bytes and returns their value in the order F, or returns an error.
+        ensures reads { Reads ⟦<Self as BitRead>⟧.source (bytes_decoder E.order V.BYTES) self.old
+            (result_map (value_bytes F.order V.be_bytes V.le_bytes) result) self.new }
         // If it succeeds, it made one request if no bit was queued, else one for each piece of up
         // to 8 bytes. For no bytes it made none.
         ensures asks { AsksForBytes 8 V.BYTES self.old result self.new }
@@ -524,9 +505,9 @@ impl<R: Source, E: Endianness> BitRead for BitReader<R, E> {
 
     #[inline(always)]
     fn read_bytes(&mut self, buf: &mut [u8]) -> Result<(), Error>
-        // Takes just as many bytes as the buffer has into it, or answers an error.
-        ensures reads { Reads ⟦<Self as BitRead>⟧.source (bytes_entry E.order (length buf.old))
-            self.old (seen (λ _. buf.new) result) self.new }
+        // Fills the buffer with the next bytes and takes only them, or returns an error.
+        ensures reads { Reads ⟦<Self as BitRead>⟧.source (bytes_decoder E.order (length buf.old))
+            self.old (result_map (λ _. buf.new) result) self.new }
         // If it succeeds, it made one request if no bit was queued, else one for each piece of up
         // to 1024 bytes. For no bytes it made none.
         ensures asks { AsksForBytes 1024 (length buf.old) self.old result self.new }
@@ -555,10 +536,9 @@ impl<R: Source, E: Endianness> BitRead for BitReader<R, E> {
     }
 
     fn byte_align(&mut self)
-        // Takes the bits up to the next whole byte. A reader that has failed stays as it is.
-        ensures reads { Reads ⟦<Self as BitRead>⟧.source align_entry
+        // Takes the bits up to the next whole byte. A reader that has failed is unchanged.
+        ensures reads { Reads ⟦<Self as BitRead>⟧.source align_decoder
             self.old (Ok tt) self.new }
-        // No request is made.
         ensures requests { requests_made self.new ≡ requests_made self.old }
     {
         self.drop_queue();

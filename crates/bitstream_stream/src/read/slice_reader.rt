@@ -20,17 +20,17 @@ mod words;
 
 /// Reads bits from bytes in memory: [`over`](SliceReader::over) makes one.
 ///
-/// It holds no queue: its place is a bit of the bytes. So it tells how many bits were
-/// [read](SliceReader::bits_read) and are [left](SliceReader::bits_left), and the [rest](SliceReader::rest)
-/// of the bytes, and [goes](SliceReader::seek_bits) to any of their bits. It fails only at the end of
-/// the bytes, with [`EndOfInput`](bitstream_count::error::Error). A call that is one read takes no bit then.
-/// A call that is made of several reads keeps those that were done: the groups of a number of variable
-/// width, the items of an array, the bits of a prefix code, pieces of 4096 bytes of
-/// [read_to_vec](crate::read::BitRead::read_to_vec), and the bits up to a whole byte, which
-/// [take_bytes](SliceReader::take_bytes) and [part](SliceReader::part) drop first. The reader has failed
-/// then: each later call for a value returns `Failed`, until a seek makes it read again. The
-/// [bits read](SliceReader::bits_read), the [bits left](SliceReader::bits_left) and the rest still say where
-/// it stopped.
+/// It has no queue: its place is a bit of the bytes. So it reports the number of bits
+/// [read](SliceReader::bits_read) and [left](SliceReader::bits_left) and the
+/// [rest](SliceReader::rest) of the bytes, and it [goes](SliceReader::seek_bits) to any of their
+/// bits. It fails only at the end of the bytes, with [`EndOfInput`](bitstream_count::error::Error).
+/// A call that is one read takes no bit then. A call that is made of several reads keeps the reads
+/// that were done: the groups of a number of variable width, the items of an array, the bits of a
+/// prefix code, pieces of 4096 bytes of [read_to_vec](crate::read::BitRead::read_to_vec), and the
+/// bits up to a whole byte, which [take_bytes](SliceReader::take_bytes) and
+/// [part](SliceReader::part) drop first. The reader has failed then: each later call for a value
+/// returns `Failed`, until a seek makes it read again. The [bits read](SliceReader::bits_read), the
+/// [bits left](SliceReader::bits_left) and the rest still report where it stopped.
 ///
 /// # Examples
 ///
@@ -46,9 +46,9 @@ mod words;
 #[derive(Drop)]
 pub struct SliceReader<'a, E> {
     all: &'a [u8],
-    // Those from the one that has the next bit.
+    // The bytes from the one that has the next bit.
     bytes: &'a [u8],
-    // How many bits of that byte are taken.
+    // The number of bits taken of that byte.
     bit: u32,
     failed: bool,
     refusals: GhostRefusals,
@@ -68,7 +68,6 @@ impl<'a, E: Endianness> SliceReader<'a, E> {
     pub fn over(bytes: &'a [u8]) -> SliceReader<'a, E>
         // Nothing is taken or queued yet, and the bytes left are these.
         ensures state { (memory_source E.order).state result ≡ new_reader_state (Some bytes.now) [] }
-        // These are all its bytes.
         ensures bytes { memory_bytes result ≡ bytes.now }
     {
         SliceReader {
@@ -81,7 +80,7 @@ impl<'a, E: Endianness> SliceReader<'a, E> {
         }
     }
 
-    /// Returns how many bits were taken.
+    /// Returns the number of bits taken.
     fn taken(&self) -> u128
         ensures { result ≡ taken_bits self.now.all.now self.now.bytes.now self.now.bit }
     {
@@ -99,14 +98,14 @@ impl<'a, E: Endianness> SliceReader<'a, E> {
     /// Returns the number of bits left, or 2^64 - 1 if it is more. After a failure these are the bits of
     /// the slice after the [bits read](SliceReader::bits_read), although no call reads them.
     pub fn bits_left(&self) -> u64
-        // The bits of all bytes that were not taken, also after a failure.
+        // The bits of all bytes that were not taken, even after a failure.
         ensures all { result
             ≡ min (8 * length (memory_bytes self.now) - ((memory_source E.order).state self.now).taken) u64.MAX }
-        // Unless the reader has failed, the answer is at most the number of bits left.
+        // Unless the reader has failed, the result is at most the number of bits left.
         ensures most { ((memory_source E.order).state self.now).failed ≡ false
             → IfSome (bits_left E.order ((memory_source E.order).state self.now))
             (λ left. result ≤ length left) }
-        // If that number is below 2^64 and the reader has not failed, it is the answer.
+        // If that number is below 2^64 and the reader has not failed, it is the result.
         ensures exact { ((memory_source E.order).state self.now).failed ≡ false
             → IfSome (bits_left E.order ((memory_source E.order).state self.now))
             (λ left. length left < 2 ^ 64 → result ≡ length left) }
@@ -116,7 +115,7 @@ impl<'a, E: Endianness> SliceReader<'a, E> {
 
     /// Returns true if no bit is left: all bits of the slice were read. A failure does not change that.
     pub fn is_at_end(&self) -> bool
-        // True if and only if all bits of all bytes were taken, also after a failure.
+        // True if and only if all bits of all bytes were taken, even after a failure.
         ensures all { IsTrue result
             ↔ (((memory_source E.order).state self.now).taken ≡ 8 * length (memory_bytes self.now)) }
         // Unless the reader has failed, true if and only if no bit is left.
@@ -127,7 +126,7 @@ impl<'a, E: Endianness> SliceReader<'a, E> {
         self.bytes.is_empty()
     }
 
-    /// Returns the bytes of which no bit is taken, also of a reader that has failed.
+    /// Returns the bytes of which no bit is taken, even if the reader has failed.
     pub fn rest(&self) -> &'a [u8]
         ensures { ((memory_source E.order).state self.now).bytes ≡ Some result.now }
     {

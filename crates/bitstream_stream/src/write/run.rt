@@ -10,7 +10,6 @@ pub(crate) fn run_without_stop<U: UnsignedInteger>(stop: bool, n: u32) -> U
     requires { n ≤ U.BITS_SIZE }
     // The word of the number at n bits has no stop bit, in either order.
     ensures word { (o : Order) → word o n (U.value result) ≡ replicate n (not stop) }
-    // The number is below 2^n.
     ensures below { U.value result < 2 ^ n }
 {
     if stop {

@@ -9,7 +9,7 @@ use crate::write::run::run_without_stop;
 use bitstream_count::count::{Count, SignedCount};
 use bitstream_count::error::Error;
 use bitstream_number::number::{Numeric, Primitive, SignedInteger, UnsignedInteger, Width};
-use bitstream_order::kernels::send::send_front;
+use bitstream_order::kernels::send::send_prefix;
 use bitstream_order::kernels::shift::shift;
 use bitstream_order::kernels::sign::complement;
 use bitstream_order::order::Endianness;
@@ -26,7 +26,7 @@ mod queue;
 ///
 /// # Warning
 ///
-/// The bits behind the last whole byte are lost when the writer is dropped: call
+/// Bits after the last whole byte are lost when the writer is dropped: call
 /// [`byte_align`](BitWrite::byte_align) first.
 ///
 /// # Examples
@@ -83,14 +83,12 @@ impl<W: Target, E: Endianness> BitWriter<W, E> {
         BitWriter::new(stream)
     }
 
-    /// Makes the writer fail, drops its queue, and answers the error of the refused request.
+    /// Makes the writer fail, drops its queue, and returns the error of the refused request.
     fn refuse(&mut self, error: Error) -> Result<(), Error>
-        // It answers the error that it is given.
         ensures answer { result ≡ Err error }
-        // The writer has failed with an empty queue, and nothing else has changed.
+        // The writer has failed with an empty queue; nothing else has changed.
         ensures fails { writer_state W.stream self.new
             ≡ failed_writer (writer_state W.stream self.old) }
-        // No request is made.
         ensures requests { requests_made self.new ≡ requests_made self.old }
     {
         self.queue = 0;
@@ -104,10 +102,9 @@ impl<W: Target, E: Endianness> BitWriter<W, E> {
     fn push<U: UnsignedInteger>(&mut self, value: U, n: u32) -> Result<(), Error>
         requires sound { self.old.failed ≡ false }
         requires room { n ≤ U.BITS_SIZE }
-        // Writes just the n lowest bits of the value, or a request is refused and the writer fails.
+        // Writes only the n lowest bits of the value, or a request is refused and the writer fails.
         ensures pushes { Pushes (MayRefuseWrite W.stream) E.order (word E.order n (U.value value))
             (writer_state W.stream self.old) result (writer_state W.stream self.new) }
-        // At most one request is made, and none if no byte is filled.
         ensures asks { AsksForWord n self.old self.new }
     {
         // No byte is full yet, so nothing is sent.
@@ -117,7 +114,7 @@ impl<W: Target, E: Endianness> BitWriter<W, E> {
             self.queued += n;
             return Ok(());
         }
-        match send_front::<W, E, U>(&mut self.port, self.queue, self.queued, value, n) {
+        match send_prefix::<W, E, U>(&mut self.port, self.queue, self.queued, value, n) {
             Ok(gone) => {
                 // The bits that filled no byte are the new queue.
                 self.queue = E::cut(value, n, gone, n - gone);
@@ -134,10 +131,9 @@ impl<W: Target, E: Endianness> BitWriter<W, E> {
         requires sound { self.old.failed ≡ false }
         requires none { self.old.queued ≡ 0 }
         requires some { 1 ≤ length bytes.now }
-        // Writes just these bytes, or a request is refused and the writer fails.
+        // Writes only these bytes, or a request is refused and the writer fails.
         ensures pushes { Pushes (MayRefuseWrite W.stream) E.order (bits E.order bytes.now)
             (writer_state W.stream self.old) result (writer_state W.stream self.new) }
-        // Exactly one request is made, whether it is refused or not.
         ensures requests { requests_made self.new ≡ requests_made self.old + 1 }
     {
         match self.port.send(bytes) {
@@ -146,20 +142,18 @@ impl<W: Target, E: Endianness> BitWriter<W, E> {
         }
     }
 
-    /// Writes bytes by one request, behind the queued bits. They are shifted in place.
+    /// Writes bytes by one request, after the queued bits. They are shifted in place.
     fn send_shifted(&mut self, bytes: &mut [u8]) -> Result<(), Error>
         requires sound { self.old.failed ≡ false }
         requires queued { 1 ≤ self.old.queued }
         requires some { 1 ≤ length bytes.old }
-        // Writes just the bytes as they came, or a request is refused and the writer fails.
+        // Writes only the bytes as they came, or a request is refused and the writer fails.
         ensures pushes { Pushes (MayRefuseWrite W.stream) E.order (bits E.order bytes.old)
             (writer_state W.stream self.old) result (writer_state W.stream self.new) }
-        // If it succeeds, as many bits are queued as before.
         ensures queued { OnOk result (queued_bits self.new ≡ queued_bits self.old) }
-        // Exactly one request is made, whether it is refused or not.
         ensures requests { requests_made self.new ≡ requests_made self.old + 1 }
     {
-        // The queued bits go to the front, and as many last bits are left over.
+        // The queued bits go first, and the last bits, of the same number, are left over.
         let left = shift::<E>(self.queue, self.queued, bytes);
         match self.port.send(bytes) {
             Ok(()) => {
@@ -170,14 +164,14 @@ impl<W: Target, E: Endianness> BitWriter<W, E> {
         }
     }
 
-    /// Writes bytes behind the queued bits, in pieces of at most N bytes.
+    /// Writes bytes after the queued bits, in pieces of at most N bytes.
     #[inline(never)]
     fn send_pieces<const N: usize>(&mut self, bytes: &[u8]) -> Result<(), Error>
         requires sound { self.old.failed ≡ false }
         requires queued { 1 ≤ self.old.queued }
         requires some { 1 ≤ N }
         requires few { N ≤ 1024 }
-        // Writes just these bytes, or a request is refused and the writer fails.
+        // Writes only these bytes, or a request is refused and the writer fails.
         ensures pushes { Pushes (MayRefuseWrite W.stream) E.order (bits E.order bytes.now)
             (writer_state W.stream self.old) result (writer_state W.stream self.new) }
         // If it succeeds, it made one request if no bit was queued, else one for each piece of up
@@ -203,14 +197,14 @@ impl<W: Target, E: Endianness> BitWriter<W, E> {
         requires sound { self.old.failed ≡ false }
         requires some { 1 ≤ N }
         requires few { N ≤ 1024 }
-        // Writes just these bytes, or a request is refused and the writer fails.
+        // Writes only these bytes, or a request is refused and the writer fails.
         ensures pushes { Pushes (MayRefuseWrite W.stream) E.order (bits E.order bytes.now)
             (writer_state W.stream self.old) result (writer_state W.stream self.new) }
         // If it succeeds, it made one request if no bit was queued, else one for each piece of up
         // to N bytes. For no bytes it made none.
         ensures asks { AsksForBytes N (length bytes.now) self.old result self.new }
     {
-        // Off a byte boundary the bytes have to be shifted behind the queue.
+        // Off a byte boundary, the queued bits have to be put before the bytes.
         if self.queued > 0 {
             return self.send_pieces::<N>(bytes);
         }
@@ -222,7 +216,7 @@ impl<W: Target, E: Endianness> BitWriter<W, E> {
         self.send_aligned(bytes)
     }
 
-    /// Writes the given number of zero bytes, in pieces.
+    /// Writes `bytes` bytes of 0, in pieces.
     fn push_zeros(&mut self, bytes: usize) -> Result<(), Error>
         requires { self.old.failed ≡ false }
         ensures { Pushes (MayRefuseWrite W.stream) E.order (replicate (8 * bytes) false)
@@ -244,7 +238,7 @@ impl<W: Target, E: Endianness> BitWrite for BitWriter<W, E> {
     ghost use Rattle.bitstream_order.specs.Parts.{value_bytes};
     ghost use Rattle.bitstream_stream.specs.Writing.Writer.{writer_sink, AsksForBytes, AsksForWord};
     ghost use Rattle.bitstream_stream.specs.Writing.Sink.{Writes};
-    ghost use Rattle.bitstream_stream.specs.Writing.WriteTable.{unsigned, signed, plain, unary_word, bit as one_bit, count as count_entry, buffer};
+    ghost use Rattle.bitstream_stream.specs.Writing.WriteTable.{unsigned, signed, plain, unary_word, bit as one_bit, count as count_decoder, buffer};
 
     ghost sink = { writer_sink W.stream E.order };
 
@@ -254,11 +248,10 @@ impl<W: Target, E: Endianness> BitWrite for BitWriter<W, E> {
         count: C,
         value: U,
     ) -> Result<(), Error>
-        // Appends just the word of the value at `count` bits, or answers an error.
+        // Appends only the word of the value at `count` bits, or returns an error.
         ensures writes { Writes ⟦<Self as BitWrite>⟧.sink
             (unsigned E.order U.BITS_SIZE (C.number count) (U.value value))
             self.old result self.new }
-        // At most one request is made, and none if no byte is filled.
         ensures asks { AsksForWord (C.number count) self.old self.new }
     {
         self.write_unsigned_var(count.bits(), value)
@@ -270,11 +263,10 @@ impl<W: Target, E: Endianness> BitWrite for BitWriter<W, E> {
         count: C,
         value: S,
     ) -> Result<(), Error>
-        // Appends just the two's complement of the value in `count` bits, or answers an error.
+        // Appends only the two's complement of the value in `count` bits, or returns an error.
         ensures writes { Writes ⟦<Self as BitWrite>⟧.sink
             (signed E.order S.BITS_SIZE (C.number count) (S.integer value))
             self.old result self.new }
-        // At most one request is made, and none if no byte is filled.
         ensures asks { AsksForWord (C.number count) self.old self.new }
     {
         self.write_signed_var(count.bits(), value)
@@ -282,11 +274,10 @@ impl<W: Target, E: Endianness> BitWrite for BitWriter<W, E> {
 
     #[inline(always)]
     fn write_unsigned_var<U: UnsignedInteger>(&mut self, bits: u32, value: U) -> Result<(), Error>
-        // Appends just the word of the value at `bits` bits, or answers an error.
+        // Appends only the word of the value at `bits` bits, or returns an error.
         ensures writes { Writes ⟦<Self as BitWrite>⟧.sink
             (unsigned E.order U.BITS_SIZE bits (U.value value))
             self.old result self.new }
-        // At most one request is made, and none if no byte is filled.
         ensures asks { AsksForWord bits self.old self.new }
     {
         if self.failed {
@@ -299,11 +290,10 @@ impl<W: Target, E: Endianness> BitWrite for BitWriter<W, E> {
 
     #[inline(always)]
     fn write_unsigned<B: Width, U: UnsignedInteger>(&mut self, value: U) -> Result<(), Error>
-        // Appends just the word of the value at `B::BITS` bits, or answers an error.
+        // Appends only the word of the value at `B::BITS` bits, or returns an error.
         ensures writes { Writes ⟦<Self as BitWrite>⟧.sink
             (unsigned E.order U.BITS_SIZE B.BITS (U.value value))
             self.old result self.new }
-        // At most one request is made, and none if no byte is filled.
         ensures asks { AsksForWord B.BITS self.old self.new }
     {
         self.write_unsigned_var(B::BITS, value)
@@ -311,11 +301,10 @@ impl<W: Target, E: Endianness> BitWrite for BitWriter<W, E> {
 
     #[inline(always)]
     fn write_signed_var<S: SignedInteger>(&mut self, bits: u32, value: S) -> Result<(), Error>
-        // Appends just the two's complement of the value in `bits` bits, or answers an error.
+        // Appends only the two's complement of the value in `bits` bits, or returns an error.
         ensures writes { Writes ⟦<Self as BitWrite>⟧.sink
             (signed E.order S.BITS_SIZE bits (S.integer value))
             self.old result self.new }
-        // At most one request is made, and none if no byte is filled.
         ensures asks { AsksForWord bits self.old self.new }
     {
         if self.failed {
@@ -328,11 +317,10 @@ impl<W: Target, E: Endianness> BitWrite for BitWriter<W, E> {
 
     #[inline(always)]
     fn write_signed<B: Width, S: SignedInteger>(&mut self, value: S) -> Result<(), Error>
-        // Appends just the two's complement of the value in `B::BITS` bits, or answers an error.
+        // Appends only the two's complement of the value in `B::BITS` bits, or returns an error.
         ensures writes { Writes ⟦<Self as BitWrite>⟧.sink
             (signed E.order S.BITS_SIZE B.BITS (S.integer value))
             self.old result self.new }
-        // At most one request is made, and none if no byte is filled.
         ensures asks { AsksForWord B.BITS self.old self.new }
     {
         self.write_signed_var(B::BITS, value)
@@ -341,10 +329,9 @@ impl<W: Target, E: Endianness> BitWrite for BitWriter<W, E> {
     fn write_const<B: Width, V: Width>(&mut self) -> Result<(), Error>
         requires word { B.BITS ≤ 32 }
         requires value { (V.BITS < 2 ^ B.BITS) ⊎ (B.BITS ≡ 0) }
-        // Appends just the word of `V::BITS` at `B::BITS` bits, or answers an error.
+        // Appends only the word of `V::BITS` at `B::BITS` bits, or returns an error.
         ensures writes { Writes ⟦<Self as BitWrite>⟧.sink
             (plain (word E.order B.BITS V.BITS)) self.old result self.new }
-        // At most one request is made, and none if no byte is filled.
         ensures asks { AsksForWord B.BITS self.old self.new }
     {
         self.write_unsigned::<B, u32>(V::BITS)
@@ -353,7 +340,8 @@ impl<W: Target, E: Endianness> BitWrite for BitWriter<W, E> {
     #[inline(always)]
     fn write_unary<S: Width>(&mut self, value: u32) -> Result<(), Error>
         requires { S.BITS < 2 }
-        // Appends just `value` bits that are not the stop bit, and then it, or answers an error.
+        // Appends only `value` bits that are not the stop bit, and then the stop bit. Or returns an
+        // error.
         ensures writes { Writes ⟦<Self as BitWrite>⟧.sink (unary_word (S.BITS == 1) value)
             self.old result self.new }
         // For a value below 64 at most one request is made, and none if no byte is filled.
@@ -363,7 +351,7 @@ impl<W: Target, E: Endianness> BitWrite for BitWriter<W, E> {
             return Err(Error::Failed);
         }
         let stop = S::BITS == 1;
-        // Long runs go in words of 64 bits, none of which is the stop bit.
+        // Long runs are written in words of 64 bits that differ from the stop bit.
         for _done in 0..value / 64 {
             self.push(run_without_stop::<u64>(stop, 64), 64)?;
         }
@@ -376,10 +364,9 @@ impl<W: Target, E: Endianness> BitWrite for BitWriter<W, E> {
     }
 
     fn write_count<C: Count>(&mut self, count: C) -> Result<(), Error>
-        // Appends just the count, in the bits that hold `C::MAX`, or answers an error.
+        // Appends only the count, in the bits that hold `C::MAX`, or returns an error.
         ensures writes { Writes ⟦<Self as BitWrite>⟧.sink
-            (count_entry E.order C.MAX (C.number count)) self.old result self.new }
-        // At most one request is made, and none if no byte is filled.
+            (count_decoder E.order C.MAX (C.number count)) self.old result self.new }
         ensures asks { AsksForWord (count_width C.MAX) self.old self.new }
     {
         self.write_unsigned_var(count_bits(C::MAX), count.bits())
@@ -387,10 +374,9 @@ impl<W: Target, E: Endianness> BitWrite for BitWriter<W, E> {
 
     #[inline(always)]
     fn write_bit(&mut self, bit: bool) -> Result<(), Error>
-        // Appends just this bit, or answers an error.
+        // Appends only this bit, or returns an error.
         ensures writes { Writes ⟦<Self as BitWrite>⟧.sink (one_bit bit)
             self.old result self.new }
-        // At most one request is made, and none if no byte is filled.
         ensures asks { AsksForWord 1 self.old self.new }
     {
         if self.failed {
@@ -401,7 +387,7 @@ impl<W: Target, E: Endianness> BitWrite for BitWriter<W, E> {
 
     #[inline(always)]
     fn write_from<V: Primitive>(&mut self, value: V) -> Result<(), Error>
-        // Appends just the bytes of the value in the order E, or answers an error.
+        // Appends only the bytes of the value in the order E, or returns an error.
         ensures writes { Writes ⟦<Self as BitWrite>⟧.sink
             (buffer E.order (value_bytes E.order V.be_bytes V.le_bytes value))
             self.old result self.new }
@@ -414,7 +400,7 @@ impl<W: Target, E: Endianness> BitWrite for BitWriter<W, E> {
 
     #[inline(always)]
     fn write_as_from<F: Endianness, V: Primitive>(&mut self, value: V) -> Result<(), Error>
-        // Appends just the bytes of the value in the order F, or answers an error.
+        // Appends only the bytes of the value in the order F, or returns an error.
         ensures writes { Writes ⟦<Self as BitWrite>⟧.sink
             (buffer E.order (value_bytes F.order V.be_bytes V.le_bytes value))
             self.old result self.new }
@@ -431,7 +417,7 @@ impl<W: Target, E: Endianness> BitWrite for BitWriter<W, E> {
 
     #[inline(always)]
     fn write_bytes(&mut self, bytes: &[u8]) -> Result<(), Error>
-        // Appends just these bytes, or answers an error.
+        // Appends only these bytes, or returns an error.
         ensures writes { Writes ⟦<Self as BitWrite>⟧.sink (buffer E.order bytes.now)
             self.old result self.new }
         // If it succeeds, it made one request if no bit was queued, else one for each piece of up
@@ -472,7 +458,7 @@ impl<W: Target, E: Endianness> BitWrite for BitWriter<W, E> {
         if self.failed {
             return Err(Error::Failed);
         }
-        // Groups are gathered into one word, as many as U has room for.
+        // The groups that fit in U are gathered into one word.
         let most = most_gathered::<F, U>();
         let mut word = U::ZERO;
         let mut bits = 0;

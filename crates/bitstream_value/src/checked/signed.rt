@@ -1,6 +1,6 @@
 //! Checked values of signed types.
 ghost use Rattle.bitstream_number.specs.Word.{signed_word};
-ghost use Rattle.bitstream_value.specs.Checked.{signed_checked_entry};
+ghost use Rattle.bitstream_value.specs.Checked.{signed_checked_decoder};
 
 use crate::checked::{Checkable, CheckablePrimitive, keep};
 use bitstream_count::count::{
@@ -32,7 +32,7 @@ impl<const MAX: u32, S: SignedInteger> CheckablePrimitive for CheckedSigned<MAX,
 
     ghost counted = { λ c. (c.0, S.integer c.1) };
 
-    ghost reads = { λ o n. signed_checked_entry n o S.BITS_SIZE n };
+    ghost reads = { λ o n. signed_checked_decoder n o S.BITS_SIZE n };
 
     #[inline(always)]
     fn read<R: BitRead>(
@@ -63,7 +63,7 @@ impl<const BITS: u32, S: SignedInteger> CheckablePrimitive for CheckedSignedFixe
 
     ghost counted = { λ c. (c.0, S.integer c.1) };
 
-    ghost reads = { λ o count. signed_checked_entry count o S.BITS_SIZE BITS };
+    ghost reads = { λ o count. signed_checked_decoder count o S.BITS_SIZE BITS };
 
     #[inline(always)]
     fn read<R: BitRead>(

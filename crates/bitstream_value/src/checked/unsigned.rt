@@ -1,7 +1,7 @@
 //! Checked values of unsigned types.
 ghost use Rattle.std.specs.Prelude.{pos};
 ghost use Rattle.bitstream_number.specs.Word.{word as word_of};
-ghost use Rattle.bitstream_value.specs.Checked.{checked_entry};
+ghost use Rattle.bitstream_value.specs.Checked.{checked_decoder};
 
 use crate::checked::{Checkable, CheckablePrimitive, keep};
 use bitstream_count::count::{
@@ -33,7 +33,7 @@ impl<const MAX: u32, U: UnsignedInteger> CheckablePrimitive for CheckedUnsigned<
 
     ghost counted = { λ c. (c.0, pos (U.value c.1)) };
 
-    ghost reads = { λ o n. checked_entry n o U.BITS_SIZE n };
+    ghost reads = { λ o n. checked_decoder n o U.BITS_SIZE n };
 
     #[inline(always)]
     fn read<R: BitRead>(
@@ -63,7 +63,7 @@ impl<const BITS: u32, U: UnsignedInteger> CheckablePrimitive for CheckedUnsigned
 
     ghost counted = { λ c. (c.0, pos (U.value c.1)) };
 
-    ghost reads = { λ o count. checked_entry count o U.BITS_SIZE BITS };
+    ghost reads = { λ o count. checked_decoder count o U.BITS_SIZE BITS };
 
     #[inline(always)]
     fn read<R: BitRead>(

@@ -2,7 +2,7 @@
 ghost use Rattle.std.specs.Prelude.{◌<◌, ◌==◌, replicate};
 ghost use Rattle.bitstream_stream.specs.Writing.Sink.{WritesAll};
 ghost use Rattle.bitstream_value.specs.LimitedUnary.{limited_unary, limited_tree};
-ghost use Rattle.bitstream_value.specs.Tree.{path_entry, bit_by_bit};
+ghost use Rattle.bitstream_value.specs.Tree.{path_decoder, bit_by_bit};
 
 use crate::huffman::{FromBits, NextBit, PutBit, ToBits};
 use bitstream_count::error::Error;
@@ -31,7 +31,7 @@ pub struct LimitedUnary<const STOP_BIT: u8, const MAXIMUM: u32> {
 impl<const STOP_BIT: u8, const MAXIMUM: u32> FromBits for LimitedUnary<STOP_BIT, MAXIMUM> {
     type Symbol = Option<u32>;
 
-    ghost entry = { λ _. path_entry (limited_tree (STOP_BIT == 1) 0 MAXIMUM) };
+    ghost decoder = { λ _. path_decoder (limited_tree (STOP_BIT == 1) 0 MAXIMUM) };
 
     fn from_bits<N: NextBit>(&self, next: &mut N) -> Result<Option<u32>, Error> {
         let stop = STOP_BIT == 1;
@@ -62,7 +62,7 @@ impl<const STOP_BIT: u8, const MAXIMUM: u32> ToBits for LimitedUnary<STOP_BIT, M
     }
 }
 
-/// Writes the same bit the given number of times.
+/// Writes the same bit `times` times.
 ///
 /// # Errors
 ///

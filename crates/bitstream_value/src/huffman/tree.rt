@@ -21,7 +21,7 @@ enum Node<S> {
 /// leaf: the bit 0 leads to the first side of a branch, and the bit 1 to the second.
 ///
 /// If several leaves have the same symbol, the path of the first one, from the side of 0, is
-/// written. A symbol that no leaf has is written as nothing. However deep a tree is, reading,
+/// written. For a symbol that no leaf has, nothing is written. However deep a tree is, reading,
 /// writing and dropping it take no more stack.
 ///
 /// # Examples
@@ -64,8 +64,7 @@ impl<S: Copy + Eq, A: Allocator> HuffmanTree<S, A> {
         Ok(HuffmanTree { nodes })
     }
 
-    /// Makes a tree of two: the words of `zero` come behind the bit 0, and those of `one` behind
-    /// the bit 1.
+    /// Makes a tree of two: the words of `zero` follow the bit 0, and the words of `one` the bit 1.
     ///
     /// # Errors
     ///
@@ -87,12 +86,12 @@ impl<S: Copy + Eq, A: Allocator> HuffmanTree<S, A> {
 
 impl<S: Copy> Node<S> {
     ghost use Rattle.std.specs.Prelude.{◌≡◌};
-    ghost use Rattle.bitstream_value.specs.Nodes.{FitsMoved, moved as moved_node};
+    ghost use Rattle.bitstream_value.specs.Nodes.{FitsShifted, shift_node};
 
     /// Returns the node with its places moved by `by`.
     fn moved(self, by: usize) -> Node<S>
-        requires { FitsMoved by self }
-        ensures { result ≡ moved_node by self }
+        requires { FitsShifted by self }
+        ensures { result ≡ shift_node by self }
     {
         match self {
             Node::Leaf(symbol) => Node::Leaf(symbol),

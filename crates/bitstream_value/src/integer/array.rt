@@ -1,6 +1,6 @@
 //! Arrays, as their items in order.
 ghost use Rattle.std.specs.List.{All, flat_map};
-ghost use Rattle.bitstream_value.specs.Array.{items_entry};
+ghost use Rattle.bitstream_value.specs.Array.{items_decoder};
 
 use crate::integer::{Integer, VBRInteger};
 use bitstream_count::count::Count;
@@ -10,7 +10,7 @@ use bitstream_stream::read::BitRead;
 use bitstream_stream::write::BitWrite;
 
 impl<I: Integer + Copy + Default, const SIZE: usize> Integer for [I; SIZE] {
-    ghost reads = { λ o n. items_entry (I.reads o n) SIZE };
+    ghost reads = { λ o n. items_decoder (I.reads o n) SIZE };
 
     ghost writes = { λ o n items. flat_map (I.writes o n) items };
 
@@ -43,7 +43,7 @@ impl<I: Integer + Copy + Default, const SIZE: usize> Integer for [I; SIZE] {
 }
 
 impl<I: VBRInteger + Copy + Default, const SIZE: usize> VBRInteger for [I; SIZE] {
-    ghost reads_vbr = { λ o field. items_entry (I.reads_vbr o field) SIZE };
+    ghost reads_vbr = { λ o field. items_decoder (I.reads_vbr o field) SIZE };
 
     ghost writes_vbr = { λ o field items. flat_map (I.writes_vbr o field) items };
 

@@ -1,6 +1,6 @@
 //! `bool`, as one bit.
 ghost use Rattle.std.specs.Prelude.{◌≡◌, [], ◌∷◌, ⊤};
-ghost use Rattle.bitstream_value.specs.Boolean.{truth_entry, truth};
+ghost use Rattle.bitstream_value.specs.Boolean.{truth_decoder, truth};
 
 use crate::integer::Integer;
 use crate::refuse::{refuse_read, refuse_write};
@@ -11,7 +11,7 @@ use bitstream_stream::read::BitRead;
 use bitstream_stream::write::BitWrite;
 
 impl Integer for bool {
-    ghost reads = { λ _ n. truth_entry n };
+    ghost reads = { λ _ n. truth_decoder n };
 
     ghost writes = { λ _ n b. truth n b ∷ [] };
 

@@ -5,7 +5,7 @@ ghost use Rattle.std.proofs.Common.{sym, arith};
 ghost use Rattle.bitstream_stream.specs.Reading.Reads.{Reads};
 ghost use Rattle.bitstream_stream.specs.Writing.Sink.{WritesAll};
 ghost use Rattle.bitstream_stream.specs.Writing.WriteTable.{unsigned, vbr};
-ghost use Rattle.bitstream_value.specs.NonZero.{non_zero_entry, non_zero, non_zero_vbr_entry, option_entry, option_vbr_entry, number_or_zero, made-same};
+ghost use Rattle.bitstream_value.specs.NonZero.{non_zero_decoder, non_zero, non_zero_vbr_decoder, option_decoder, option_vbr_decoder, number_or_zero, made-same};
 
 use crate::integer::unsigned::{write_number, write_number_fixed, write_number_vbr};
 use crate::integer::{Integer, VBRInteger};
@@ -42,9 +42,7 @@ pub trait NonZeroInteger: Copy {
     /// Returns the number.
     #[inline(always)]
     fn base(self) -> Self::Base
-        // The answer is the number of the value.
         ensures value { Self.Base.value result ≡ number self }
-        // It is not 0.
         ensures some { 0 < Self.Base.value result };
 
     ghost some_law: { (x : Self) → 0 < number x };
@@ -58,11 +56,11 @@ fn read_non_zero<N: NonZeroInteger, C: Count, R: BitRead>(
     reader: &mut R,
     bits: C,
 ) -> Result<N, Error>
-    // Takes just `bits` bits and answers their number plus 1, or answers an error.
+    // Takes only `bits` bits and returns their number plus 1, or returns an error.
     ensures reads { Reads R.source
-        (non_zero_entry N.after R.source.order N.Base.BITS_SIZE (C.number bits))
+        (non_zero_decoder N.after R.source.order N.Base.BITS_SIZE (C.number bits))
         reader.old result reader.new }
-    // A value that is answered is at most 2^`bits`.
+    // A value that is returned is at most 2^`bits`.
     ensures fits { IfOk result (λ x. N.number x ≤ 2 ^ C.number bits) }
 {
     if bits.bits() < N::Base::BITS_SIZE {
@@ -94,11 +92,11 @@ fn write_non_zero<N: NonZeroInteger, C: Count, W: BitWrite>(
 /// Reads a `NonZero` of `B::BITS` bits, as its number less 1.
 fn read_non_zero_fixed<B: Width, N: NonZeroInteger, R: BitRead>(reader: &mut R) -> Result<N, Error>
     requires { B.BITS < N.Base.BITS_SIZE }
-    // Takes just `B::BITS` bits and answers their number plus 1, or answers an error.
+    // Takes only `B::BITS` bits and returns their number plus 1, or returns an error.
     ensures reads { Reads R.source
-        (non_zero_entry N.after R.source.order N.Base.BITS_SIZE B.BITS)
+        (non_zero_decoder N.after R.source.order N.Base.BITS_SIZE B.BITS)
         reader.old result reader.new }
-    // A value that is answered is at most 2^`B::BITS`.
+    // A value that is returned is at most 2^`B::BITS`.
     ensures fits { IfOk result (λ x. N.number x ≤ 2 ^ B.BITS) }
 {
     let base = reader.read_unsigned::<B, N::Base>()?;
@@ -124,7 +122,7 @@ fn read_non_zero_vbr<F: Width, N: NonZeroInteger, R: BitRead>(reader: &mut R) ->
     requires some { 2 ≤ F.BITS }
     requires within { F.BITS < N.Base.BITS_SIZE }
     ensures reads { Reads R.source
-        (non_zero_vbr_entry N.after R.source.order F.BITS N.Base.BITS_SIZE)
+        (non_zero_vbr_decoder N.after R.source.order F.BITS N.Base.BITS_SIZE)
         reader.old result reader.new }
 {
     let base = reader.read_unsigned_vbr::<F, N::Base>()?;
@@ -160,7 +158,7 @@ fn base_or_zero<N: NonZeroInteger>(value: Option<N>) -> N::Base
 }
 
 impl<N: NonZeroInteger> Integer for Option<N> {
-    ghost reads = { λ o n. option_entry N.after o N.Base.BITS_SIZE n };
+    ghost reads = { λ o n. option_decoder N.after o N.Base.BITS_SIZE n };
 
     ghost writes = { λ o n x. unsigned o N.Base.BITS_SIZE n (number_or_zero N.number x) ∷ [] };
 
@@ -191,7 +189,7 @@ impl<N: NonZeroInteger> Integer for Option<N> {
 }
 
 impl<N: NonZeroInteger> VBRInteger for Option<N> {
-    ghost reads_vbr = { λ o field. option_vbr_entry N.after o field N.Base.BITS_SIZE };
+    ghost reads_vbr = { λ o field. option_vbr_decoder N.after o field N.Base.BITS_SIZE };
 
     ghost writes_vbr = { λ o field x. vbr o field (number_or_zero N.number x) ∷ [] };
 
@@ -238,7 +236,7 @@ impl NonZeroInteger for NonZero<u8> {
 }
 
 impl Integer for NonZero<u8> {
-    ghost reads = { λ o n. non_zero_entry ⟦<NonZero<u8> as NonZeroInteger>⟧.after o 8 n };
+    ghost reads = { λ o n. non_zero_decoder ⟦<NonZero<u8> as NonZeroInteger>⟧.after o 8 n };
 
     ghost writes = { λ o n x. non_zero o 8 n (non_zero_u8_get x) ∷ [] };
 
@@ -268,7 +266,7 @@ impl Integer for NonZero<u8> {
 
 impl VBRInteger for NonZero<u8> {
     ghost reads_vbr = { λ o field.
-        non_zero_vbr_entry ⟦<NonZero<u8> as NonZeroInteger>⟧.after o field 8 };
+        non_zero_vbr_decoder ⟦<NonZero<u8> as NonZeroInteger>⟧.after o field 8 };
 
     ghost writes_vbr = { λ o field x. vbr o field (non_zero_u8_get x - 1) ∷ [] };
 
@@ -312,7 +310,7 @@ impl NonZeroInteger for NonZero<u16> {
 }
 
 impl Integer for NonZero<u16> {
-    ghost reads = { λ o n. non_zero_entry ⟦<NonZero<u16> as NonZeroInteger>⟧.after o 16 n };
+    ghost reads = { λ o n. non_zero_decoder ⟦<NonZero<u16> as NonZeroInteger>⟧.after o 16 n };
 
     ghost writes = { λ o n x. non_zero o 16 n (non_zero_u16_get x) ∷ [] };
 
@@ -342,7 +340,7 @@ impl Integer for NonZero<u16> {
 
 impl VBRInteger for NonZero<u16> {
     ghost reads_vbr = { λ o field.
-        non_zero_vbr_entry ⟦<NonZero<u16> as NonZeroInteger>⟧.after o field 16 };
+        non_zero_vbr_decoder ⟦<NonZero<u16> as NonZeroInteger>⟧.after o field 16 };
 
     ghost writes_vbr = { λ o field x. vbr o field (non_zero_u16_get x - 1) ∷ [] };
 
@@ -386,7 +384,7 @@ impl NonZeroInteger for NonZero<u32> {
 }
 
 impl Integer for NonZero<u32> {
-    ghost reads = { λ o n. non_zero_entry ⟦<NonZero<u32> as NonZeroInteger>⟧.after o 32 n };
+    ghost reads = { λ o n. non_zero_decoder ⟦<NonZero<u32> as NonZeroInteger>⟧.after o 32 n };
 
     ghost writes = { λ o n x. non_zero o 32 n (non_zero_u32_get x) ∷ [] };
 
@@ -416,7 +414,7 @@ impl Integer for NonZero<u32> {
 
 impl VBRInteger for NonZero<u32> {
     ghost reads_vbr = { λ o field.
-        non_zero_vbr_entry ⟦<NonZero<u32> as NonZeroInteger>⟧.after o field 32 };
+        non_zero_vbr_decoder ⟦<NonZero<u32> as NonZeroInteger>⟧.after o field 32 };
 
     ghost writes_vbr = { λ o field x. vbr o field (non_zero_u32_get x - 1) ∷ [] };
 
@@ -460,7 +458,7 @@ impl NonZeroInteger for NonZero<u64> {
 }
 
 impl Integer for NonZero<u64> {
-    ghost reads = { λ o n. non_zero_entry ⟦<NonZero<u64> as NonZeroInteger>⟧.after o 64 n };
+    ghost reads = { λ o n. non_zero_decoder ⟦<NonZero<u64> as NonZeroInteger>⟧.after o 64 n };
 
     ghost writes = { λ o n x. non_zero o 64 n (non_zero_u64_get x) ∷ [] };
 
@@ -490,7 +488,7 @@ impl Integer for NonZero<u64> {
 
 impl VBRInteger for NonZero<u64> {
     ghost reads_vbr = { λ o field.
-        non_zero_vbr_entry ⟦<NonZero<u64> as NonZeroInteger>⟧.after o field 64 };
+        non_zero_vbr_decoder ⟦<NonZero<u64> as NonZeroInteger>⟧.after o field 64 };
 
     ghost writes_vbr = { λ o field x. vbr o field (non_zero_u64_get x - 1) ∷ [] };
 
@@ -534,7 +532,7 @@ impl NonZeroInteger for NonZero<u128> {
 }
 
 impl Integer for NonZero<u128> {
-    ghost reads = { λ o n. non_zero_entry ⟦<NonZero<u128> as NonZeroInteger>⟧.after o 128 n };
+    ghost reads = { λ o n. non_zero_decoder ⟦<NonZero<u128> as NonZeroInteger>⟧.after o 128 n };
 
     ghost writes = { λ o n x. non_zero o 128 n (non_zero_u128_get x) ∷ [] };
 
@@ -564,7 +562,7 @@ impl Integer for NonZero<u128> {
 
 impl VBRInteger for NonZero<u128> {
     ghost reads_vbr = { λ o field.
-        non_zero_vbr_entry ⟦<NonZero<u128> as NonZeroInteger>⟧.after o field 128 };
+        non_zero_vbr_decoder ⟦<NonZero<u128> as NonZeroInteger>⟧.after o field 128 };
 
     ghost writes_vbr = { λ o field x. vbr o field (non_zero_u128_get x - 1) ∷ [] };
 

@@ -1,7 +1,7 @@
 //! Signed integers.
 ghost use Rattle.std.specs.Prelude.{[], ◌∷◌, ◌<◌, ◌≤◌, IfOk};
-ghost use Rattle.bitstream_order.specs.Moving.Gather.{seen};
-ghost use Rattle.bitstream_stream.specs.Reading.ReadTable.{signed_entry, signed_vbr_entry};
+ghost use Rattle.bitstream_order.specs.Moving.Gather.{result_map};
+ghost use Rattle.bitstream_stream.specs.Reading.ReadTable.{signed_decoder, signed_vbr_decoder};
 ghost use Rattle.bitstream_stream.specs.Reading.Reads.{Reads};
 ghost use Rattle.bitstream_stream.specs.Writing.Sink.{WritesAll};
 ghost use Rattle.bitstream_stream.specs.Writing.WriteTable.{signed, signed_vbr};
@@ -14,13 +14,13 @@ use bitstream_number::number::{SignedInteger, Width};
 use bitstream_stream::read::BitRead;
 use bitstream_stream::write::BitWrite;
 
-/// Reads a signed number of the given number of bits, by one call.
+/// Reads a signed number of `bits` bits, by one call.
 #[inline(always)]
 fn read_signed<S: SignedInteger, C: Count, R: BitRead>(reader: &mut R, bits: C) -> Result<S, Error>
-    // Takes just `bits` bits and answers their two's complement, or answers an error.
-    ensures reads { Reads R.source (signed_entry R.source.order S.BITS_SIZE (C.number bits))
-        reader.old (seen S.integer result) reader.new }
-    // A number that is answered lies from -2^(n-1) to 2^(n-1) - 1, for n bits.
+    // Takes only `bits` bits and returns their two's complement, or returns an error.
+    ensures reads { Reads R.source (signed_decoder R.source.order S.BITS_SIZE (C.number bits))
+        reader.old (result_map S.integer result) reader.new }
+    // A number that is returned lies from -2^(n-1) to 2^(n-1) - 1, for n bits.
     ensures fits { IfOk result (λ number. InSignedRange (C.number bits) (S.integer number)) }
 {
     reader.read_signed_var(bits.bits())
@@ -30,16 +30,16 @@ fn read_signed<S: SignedInteger, C: Count, R: BitRead>(reader: &mut R, bits: C) 
 fn read_signed_fixed<B: Width, S: SignedInteger, R: BitRead>(reader: &mut R) -> Result<S, Error>
     requires some { 1 ≤ B.BITS }
     requires within { B.BITS ≤ S.BITS_SIZE }
-    // Takes just `B::BITS` bits and answers their two's complement, or answers an error.
-    ensures reads { Reads R.source (signed_entry R.source.order S.BITS_SIZE B.BITS)
-        reader.old (seen S.integer result) reader.new }
-    // A number that is answered lies from -2^(n-1) to 2^(n-1) - 1, for n bits.
+    // Takes only `B::BITS` bits and returns their two's complement, or returns an error.
+    ensures reads { Reads R.source (signed_decoder R.source.order S.BITS_SIZE B.BITS)
+        reader.old (result_map S.integer result) reader.new }
+    // A number that is returned lies from -2^(n-1) to 2^(n-1) - 1, for n bits.
     ensures fits { IfOk result (λ number. InSignedRange B.BITS (S.integer number)) }
 {
     reader.read_signed::<B, S>()
 }
 
-/// Writes a signed number in the given number of bits, by one call.
+/// Writes a signed number in `bits` bits, by one call.
 #[inline(always)]
 fn write_signed<S: SignedInteger, C: Count, W: BitWrite>(
     number: S,
@@ -84,7 +84,7 @@ fn write_signed_vbr<F: Width, S: SignedInteger, W: BitWrite>(
 // From here on printed by `.ci/numbers`, from `tools/numbers/signed_integer` for each type.
 
 impl Integer for i8 {
-    ghost reads = { λ o n. signed_entry o 8 n };
+    ghost reads = { λ o n. signed_decoder o 8 n };
 
     ghost writes = { λ o n x. signed o 8 n x ∷ [] };
 
@@ -113,7 +113,7 @@ impl Integer for i8 {
 }
 
 impl VBRInteger for i8 {
-    ghost reads_vbr = { λ o field. signed_vbr_entry o field 8 };
+    ghost reads_vbr = { λ o field. signed_vbr_decoder o field 8 };
 
     ghost writes_vbr = { λ o field x. signed_vbr o field x ∷ [] };
 
@@ -129,7 +129,7 @@ impl VBRInteger for i8 {
 }
 
 impl Integer for i16 {
-    ghost reads = { λ o n. signed_entry o 16 n };
+    ghost reads = { λ o n. signed_decoder o 16 n };
 
     ghost writes = { λ o n x. signed o 16 n x ∷ [] };
 
@@ -158,7 +158,7 @@ impl Integer for i16 {
 }
 
 impl VBRInteger for i16 {
-    ghost reads_vbr = { λ o field. signed_vbr_entry o field 16 };
+    ghost reads_vbr = { λ o field. signed_vbr_decoder o field 16 };
 
     ghost writes_vbr = { λ o field x. signed_vbr o field x ∷ [] };
 
@@ -174,7 +174,7 @@ impl VBRInteger for i16 {
 }
 
 impl Integer for i32 {
-    ghost reads = { λ o n. signed_entry o 32 n };
+    ghost reads = { λ o n. signed_decoder o 32 n };
 
     ghost writes = { λ o n x. signed o 32 n x ∷ [] };
 
@@ -203,7 +203,7 @@ impl Integer for i32 {
 }
 
 impl VBRInteger for i32 {
-    ghost reads_vbr = { λ o field. signed_vbr_entry o field 32 };
+    ghost reads_vbr = { λ o field. signed_vbr_decoder o field 32 };
 
     ghost writes_vbr = { λ o field x. signed_vbr o field x ∷ [] };
 
@@ -219,7 +219,7 @@ impl VBRInteger for i32 {
 }
 
 impl Integer for i64 {
-    ghost reads = { λ o n. signed_entry o 64 n };
+    ghost reads = { λ o n. signed_decoder o 64 n };
 
     ghost writes = { λ o n x. signed o 64 n x ∷ [] };
 
@@ -248,7 +248,7 @@ impl Integer for i64 {
 }
 
 impl VBRInteger for i64 {
-    ghost reads_vbr = { λ o field. signed_vbr_entry o field 64 };
+    ghost reads_vbr = { λ o field. signed_vbr_decoder o field 64 };
 
     ghost writes_vbr = { λ o field x. signed_vbr o field x ∷ [] };
 
@@ -264,7 +264,7 @@ impl VBRInteger for i64 {
 }
 
 impl Integer for i128 {
-    ghost reads = { λ o n. signed_entry o 128 n };
+    ghost reads = { λ o n. signed_decoder o 128 n };
 
     ghost writes = { λ o n x. signed o 128 n x ∷ [] };
 
@@ -293,7 +293,7 @@ impl Integer for i128 {
 }
 
 impl VBRInteger for i128 {
-    ghost reads_vbr = { λ o field. signed_vbr_entry o field 128 };
+    ghost reads_vbr = { λ o field. signed_vbr_decoder o field 128 };
 
     ghost writes_vbr = { λ o field x. signed_vbr o field x ∷ [] };
 

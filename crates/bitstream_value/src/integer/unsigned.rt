@@ -1,7 +1,7 @@
 //! Unsigned integers.
 ghost use Rattle.std.specs.Prelude.{[], ◌∷◌, ◌^◌, ◌<◌, ◌≤◌, IfOk};
-ghost use Rattle.bitstream_order.specs.Moving.Gather.{seen};
-ghost use Rattle.bitstream_stream.specs.Reading.ReadTable.{unsigned_entry, vbr_entry};
+ghost use Rattle.bitstream_order.specs.Moving.Gather.{result_map};
+ghost use Rattle.bitstream_stream.specs.Reading.ReadTable.{unsigned_decoder, vbr_decoder};
 ghost use Rattle.bitstream_stream.specs.Reading.Reads.{Reads};
 ghost use Rattle.bitstream_stream.specs.Writing.Sink.{WritesAll};
 ghost use Rattle.bitstream_stream.specs.Writing.WriteTable.{unsigned, vbr};
@@ -13,16 +13,15 @@ use bitstream_number::number::{UnsignedInteger, Width};
 use bitstream_stream::read::BitRead;
 use bitstream_stream::write::BitWrite;
 
-/// Reads a number of the given number of bits, by one call.
+/// Reads a number of `bits` bits, by one call.
 #[inline(always)]
 fn read_number<U: UnsignedInteger, C: Count, R: BitRead>(
     reader: &mut R,
     bits: C,
 ) -> Result<U, Error>
-    // Takes just `bits` bits and answers their number, or answers an error.
-    ensures reads { Reads R.source (unsigned_entry R.source.order U.BITS_SIZE (C.number bits))
-        reader.old (seen U.value result) reader.new }
-    // A number that is answered is below 2^`bits`.
+    // Takes only `bits` bits and returns their number, or returns an error.
+    ensures reads { Reads R.source (unsigned_decoder R.source.order U.BITS_SIZE (C.number bits))
+        reader.old (result_map U.value result) reader.new }
     ensures fits { IfOk result (λ number. U.value number < 2 ^ C.number bits) }
 {
     reader.read_unsigned_counted(bits)
@@ -31,16 +30,15 @@ fn read_number<U: UnsignedInteger, C: Count, R: BitRead>(
 /// Reads a number of `B::BITS` bits, by one call.
 fn read_number_fixed<B: Width, U: UnsignedInteger, R: BitRead>(reader: &mut R) -> Result<U, Error>
     requires { B.BITS ≤ U.BITS_SIZE }
-    // Takes just `B::BITS` bits and answers their number, or answers an error.
-    ensures reads { Reads R.source (unsigned_entry R.source.order U.BITS_SIZE B.BITS)
-        reader.old (seen U.value result) reader.new }
-    // A number that is answered is below 2^`B::BITS`.
+    // Takes only `B::BITS` bits and returns their number, or returns an error.
+    ensures reads { Reads R.source (unsigned_decoder R.source.order U.BITS_SIZE B.BITS)
+        reader.old (result_map U.value result) reader.new }
     ensures fits { IfOk result (λ number. U.value number < 2 ^ B.BITS) }
 {
     reader.read_unsigned::<B, U>()
 }
 
-/// Writes a number in the given number of bits, by one call.
+/// Writes a number in `bits` bits, by one call.
 #[inline(always)]
 pub(crate) fn write_number<U: UnsignedInteger, C: Count, W: BitWrite>(
     number: U,
@@ -84,7 +82,7 @@ pub(crate) fn write_number_vbr<F: Width, U: UnsignedInteger, W: BitWrite>(
 // From here on printed by `.ci/numbers`, from `tools/numbers/unsigned_integer` for each type.
 
 impl Integer for u8 {
-    ghost reads = { λ o n. unsigned_entry o 8 n };
+    ghost reads = { λ o n. unsigned_decoder o 8 n };
 
     ghost writes = { λ o n v. unsigned o 8 n v ∷ [] };
 
@@ -113,7 +111,7 @@ impl Integer for u8 {
 }
 
 impl VBRInteger for u8 {
-    ghost reads_vbr = { λ o field. vbr_entry o field 8 (2 ^ 8) };
+    ghost reads_vbr = { λ o field. vbr_decoder o field 8 (2 ^ 8) };
 
     ghost writes_vbr = { λ o field v. vbr o field v ∷ [] };
 
@@ -129,7 +127,7 @@ impl VBRInteger for u8 {
 }
 
 impl Integer for u16 {
-    ghost reads = { λ o n. unsigned_entry o 16 n };
+    ghost reads = { λ o n. unsigned_decoder o 16 n };
 
     ghost writes = { λ o n v. unsigned o 16 n v ∷ [] };
 
@@ -158,7 +156,7 @@ impl Integer for u16 {
 }
 
 impl VBRInteger for u16 {
-    ghost reads_vbr = { λ o field. vbr_entry o field 16 (2 ^ 16) };
+    ghost reads_vbr = { λ o field. vbr_decoder o field 16 (2 ^ 16) };
 
     ghost writes_vbr = { λ o field v. vbr o field v ∷ [] };
 
@@ -174,7 +172,7 @@ impl VBRInteger for u16 {
 }
 
 impl Integer for u32 {
-    ghost reads = { λ o n. unsigned_entry o 32 n };
+    ghost reads = { λ o n. unsigned_decoder o 32 n };
 
     ghost writes = { λ o n v. unsigned o 32 n v ∷ [] };
 
@@ -203,7 +201,7 @@ impl Integer for u32 {
 }
 
 impl VBRInteger for u32 {
-    ghost reads_vbr = { λ o field. vbr_entry o field 32 (2 ^ 32) };
+    ghost reads_vbr = { λ o field. vbr_decoder o field 32 (2 ^ 32) };
 
     ghost writes_vbr = { λ o field v. vbr o field v ∷ [] };
 
@@ -219,7 +217,7 @@ impl VBRInteger for u32 {
 }
 
 impl Integer for u64 {
-    ghost reads = { λ o n. unsigned_entry o 64 n };
+    ghost reads = { λ o n. unsigned_decoder o 64 n };
 
     ghost writes = { λ o n v. unsigned o 64 n v ∷ [] };
 
@@ -248,7 +246,7 @@ impl Integer for u64 {
 }
 
 impl VBRInteger for u64 {
-    ghost reads_vbr = { λ o field. vbr_entry o field 64 (2 ^ 64) };
+    ghost reads_vbr = { λ o field. vbr_decoder o field 64 (2 ^ 64) };
 
     ghost writes_vbr = { λ o field v. vbr o field v ∷ [] };
 
@@ -264,7 +262,7 @@ impl VBRInteger for u64 {
 }
 
 impl Integer for u128 {
-    ghost reads = { λ o n. unsigned_entry o 128 n };
+    ghost reads = { λ o n. unsigned_decoder o 128 n };
 
     ghost writes = { λ o n v. unsigned o 128 n v ∷ [] };
 
@@ -293,7 +291,7 @@ impl Integer for u128 {
 }
 
 impl VBRInteger for u128 {
-    ghost reads_vbr = { λ o field. vbr_entry o field 128 (2 ^ 128) };
+    ghost reads_vbr = { λ o field. vbr_decoder o field 128 (2 ^ 128) };
 
     ghost writes_vbr = { λ o field v. vbr o field v ∷ [] };
 

@@ -104,11 +104,11 @@ impl ReadUnits for AdtsUnits<'_> {
     }
 }
 
-/// The blocks of metadata of a FLAC file, and then its frames, each of which is decoded.
+/// The blocks of metadata of a FLAC file, and then its frames, which are decoded.
 #[derive(Drop)]
 pub struct FlacUnits<'a> {
     file: &'a [u8],
-    // Whether the samples are written.
+    // True if the samples are written.
     writes: bool,
     at: usize,
     blocks: Option<Blocks<'a>>,
@@ -117,7 +117,7 @@ pub struct FlacUnits<'a> {
 }
 
 impl<'a> FlacUnits<'a> {
-    /// Returns the units of a file, the samples of which are written if `writes` is true.
+    /// Returns the units of a file. Their samples are written if `writes` is true.
     pub fn over(file: &'a [u8], writes: bool) -> FlacUnits<'a> {
         FlacUnits {
             file,
@@ -317,7 +317,7 @@ fn note_block(
     }
 }
 
-/// Notes what STREAMINFO says.
+/// Notes the fields of STREAMINFO.
 fn note_stream_info(
     alloc: Global,
     unit: &mut Unit,

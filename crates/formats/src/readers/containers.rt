@@ -54,7 +54,7 @@ impl<'a> OggUnits<'a> {
         Ok("unknown")
     }
 
-    /// Keeps a stream, in place of one of its number.
+    /// Keeps a stream, and replaces one of the same number.
     fn keep(&mut self, stream: Stream) -> Result<(), AllocError> {
         for kept in self.streams.as_mut_slice() {
             if kept.serial == stream.serial {
@@ -125,7 +125,7 @@ impl ReadUnits for OggUnits<'_> {
     }
 }
 
-/// Returns the place of the next `pattern` from a place on, or that of the end.
+/// Returns the place of the next `pattern` from a place on, or the place of the end.
 fn find(bytes: &[u8], from: usize, pattern: &[u8]) -> usize {
     for at in from..bytes.len() {
         if bytes.get(at..).unwrap_or(&[]).starts_with(pattern) {

@@ -161,7 +161,7 @@ pub fn size_of(samples: i64, crop_unit: i64, first: Option<i64>, last: Option<i6
 #[derive(Drop)]
 pub struct Av1Units<'a> {
     file: &'a [u8],
-    // Whether the file is one of IVF.
+    // True if the file is an IVF file.
     ivf: bool,
     // The bytes that were read, up to the bytes of `obus`.
     at: usize,
@@ -272,7 +272,7 @@ impl<'a> Av1Units<'a> {
         Ok(step)
     }
 
-    /// Goes on behind the OBUs that are read.
+    /// Moves on after the OBUs that are read.
     fn end_frame(&mut self) {
         self.at = self.at.saturating_add(self.length).min(self.file.len());
         self.obus = av1::Obus::over(&[]);
@@ -280,7 +280,7 @@ impl<'a> Av1Units<'a> {
     }
 }
 
-/// Returns true if an OBU of which so many bytes were taken was taken whole.
+/// Returns true if all bytes of an OBU are among the `taken` bytes.
 fn is_whole(unit: &Unit, taken: usize) -> bool {
     match unit.value_of("obu_size") {
         Some(size) => i64::try_from(taken).unwrap_or(i64::MAX) >= size.saturating_add(2),

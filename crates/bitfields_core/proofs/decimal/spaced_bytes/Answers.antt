@@ -2,7 +2,7 @@ use Rattle.std.proofs.Common.{rules, ◌≡◌, ◌++◌, ◌∷◌, [], ◌<◌
 use Rattle.std.proofs.lemmas.List.{get_or-map, length-map}
 use Rattle.std.specs.Borrow.{Bor}
 use Rattle.std.specs.List.{list_all}
-use Rattle.bitfields_core.specs.Decimal.{is_decimal, decimal_below, spaced, bytes_of_parts}
+use Rattle.bitfields_core.specs.Decimal.{is_decimal, decimal_below, split_spaces, bytes_of_parts}
 use Rattle.bitfields_core.proofs.BytesLemmas.{IsRead-bad, IsRead-more}
 use Rattle.bitfields_core.proofs.decimal.spaced_bytes.Goals as goal
 
@@ -21,7 +21,7 @@ returns-in-Err c =
     let all : list_all is_decimal parts ≡ true =
     ap (λ (xs : List (Bor (List ℕ))). list_all is_decimal (map (λ x. x.now) xs)) same ∙ sym c.are_decimals.ensures ∙ yes
     in
-    let cut : parts ≡ spaced c.args.text.now =
+    let cut : parts ≡ split_spaces c.args.text.now =
     ap (map (λ (x : Bor (List ℕ)). x.now)) c.deref-part-items.ensures.value ∙ c.in_ok-parts.ensures in
     sym (ap (bytes_of_parts c.args.count) (sym cut) ∙ IsRead-bad c.args.count parts i [] c.in-Err.reason size h all is)
 

@@ -14,8 +14,8 @@ returns-clause-reason c = says-told field_read
 pub returns-clause-error : goal.returns-clause-error
 returns-clause-error c = says-refused field_read
 
-pub returns-clause-too_few : goal.returns-clause-too_few
-returns-clause-too_few c = says-short field_read
+pub returns-clause-incomplete : goal.returns-clause-incomplete
+returns-clause-incomplete c = says-short field_read
 
 pub returns-clause-number : goal.returns-clause-number
 returns-clause-number c = unpacked-number

@@ -7,7 +7,7 @@ use Rattle.bitstream_io.proofs.ReadsLemmas.{first_name}
 use Rattle.bitfields_core.specs.Fault.{fault as fault_of}
 use Rattle.bitfields_core.specs.Packing.{PackedBytes}
 use Rattle.bitfields_core.proofs.PackingLemmas.{PackedBytes-from, filled, PackingRefused-from}
-use Rattle.bitfields_core.proofs.UnpackedBytes.{MayRefuse-seen}
+use Rattle.bitfields_core.proofs.UnpackedBytes.{MayRefuse-map}
 use Rattle.bitfields_core.proofs.packing.pack_values.Goals as goal
 
 pub returns-in-Ok : goal.returns-in-Ok
@@ -35,7 +35,7 @@ returns-in-Err g c =
     let place = first_name {m = w.port.stream.at.ghost_name} {n = c.new.result.at.ghost_name} (fault.references
     ∙ ap (λ (s : WriterState). s.port.references) fresh) in
     let tied = c.output-1.given.1 (sym c.new.ensures.name ∙ sym place) in
-    let seen = MayRefuse-seen (λ l. l.at.now) (λ l. l.at.ghost_name) target.contents target.references target.refuses in
+    let seen = MayRefuse-map (λ l. l.at.now) (λ l. l.at.ghost_name) target.contents target.references target.refuses in
     let refused = PackingRefused-from _ (MayRefuseWrite target) c.args.layout.now
     c.args.values.now _ _ _ c.in-Err.error _ seen none (filled o _ _ _ fresh) fault (c.new-in-Err.ensures
     ∙ ap (fault_of 0) c.write_reason.ensures) in

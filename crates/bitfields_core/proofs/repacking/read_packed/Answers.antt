@@ -1,11 +1,11 @@
 use Rattle.std.proofs.Common.{rules, ◌∷◌, subst}
 use Rattle.bitstream_io.specs.Reference.{by_name}
-use Rattle.bitstream_io.specs.Gather.{seen}
+use Rattle.bitstream_io.specs.Gather.{result_map}
 use Rattle.bitstream_io.specs.Refusal.{MayRefuseRead}
 use Rattle.bitstream_io.proofs.ReadsLemmas.{first_name}
 use Rattle.bitfields_core.specs.Repacking.{exact_read, with_alignment, ReadsPackedBytes}
 use Rattle.bitfields_core.proofs.RepackedBytes.{packed_fits, packed_known, packed_stream}
-use Rattle.bitfields_core.proofs.UnpackedBytes.{Fields-from, MayRefuse-seen}
+use Rattle.bitfields_core.proofs.UnpackedBytes.{Fields-from, MayRefuse-map}
 use Rattle.bitfields_core.proofs.repacking.read_packed.Goals as goal
 
 pub returns : goal.returns
@@ -16,8 +16,8 @@ returns g c =
     let fields = c.args.layout.now in
     let first = c.new.result in
     let last = c.read_packed_from.new.reader.port.stream in
-    let result = seen (λ v. v.items) c.read_packed_from.result in
-    let inside = MayRefuse-seen (λ l. l.at.now) (λ l. l.at.ghost_name) source.remaining source.references source.refuses in
+    let result = result_map (λ v. v.items) c.read_packed_from.result in
+    let inside = MayRefuse-map (λ l. l.at.now) (λ l. l.at.ghost_name) source.remaining source.references source.refuses in
     let calls = rw c.fields.ensures.fields at c.read_packed_from.ensures in
     let all = Fields-from exact_read _ may (with_alignment fields) (source.remaining first.at.now)
     (by_name first.at.ghost_name ∷ source.references first.at.now) _ _ calls.answer inside c.new-reader.ensures.state

@@ -1,6 +1,6 @@
 use Rattle.std.proofs.Common.{◌≡◌, ◌≤◌, ◌+◌, ◌-◌, arith}
 use Rattle.bitfields_core.proofs.PackingLemmas.{result_err}
-use Rattle.bitfields_core.proofs.ZeroLemmas.{zeros, zeros_err, zeros_more, zeros_front_err, zeros_rest_err}
+use Rattle.bitfields_core.proofs.ZeroLemmas.{zeros, zeros_err, zeros_more, zeros_prefix_err, zeros_rest_err}
 use Rattle.bitfields_core.proofs.strict_reading.+read_zeros.Goals as goal
 
 pub returns-in_err-word : goal.returns-in_err-word
@@ -20,7 +20,7 @@ returns-in_err-word-2 g t c =
     let n = c.args.bits - 128 in
     let sum : 128 + n ≡ c.args.bits = omega arith in
     rw (result_err c.from_residual-in_err-word-2.result c.from_residual-in_err-word-2.ensures.1)
-    (zeros_front_err 128 n sum (zeros_err g.R.BitRead.source.order le c.in_err-word-2.ensures.reads))
+    (zeros_prefix_err 128 n sum (zeros_err g.R.BitRead.source.order le c.in_err-word-2.ensures.reads))
 
 pub returns-in_err-rest : goal.returns-in_err-rest
 returns-in_err-rest g t c =

@@ -1,12 +1,12 @@
 use Rattle.bitstream_io.specs.Callers.{IsDoneBy}
-use Rattle.bitstream_io.proofs.CallerLemmas.{High, arith, chain-enough, done-if_left, gives-enough, reads, slice_ends, unsigned-enough}
-use Rattle.bitstream_callers.specs.Axes.{axes_entry}
+use Rattle.bitstream_io.proofs.CallerLemmas.{High, arith, and_then-enough, done-if_left, pure-enough, reads, slice_ends, unsigned-enough}
+use Rattle.bitstream_callers.specs.Axes.{axes_decoder}
 use Rattle.bitstream_callers.proofs.axes.read_axes.Goals as goal
 
-axes-enough : IsDoneBy 36 axes_entry
+axes-enough : IsDoneBy 36 axes_decoder
 axes-enough =
     let one = unsigned-enough High 16 12 (omega arith) in
-    chain-enough 12 24 _ _ one (λ x. chain-enough 12 12 _ _ one (λ y. chain-enough 12 0 _ _ one (λ z. gives-enough _)))
+    and_then-enough 12 24 _ _ one (λ x. and_then-enough 12 12 _ _ one (λ y. and_then-enough 12 0 _ _ one (λ z. pure-enough _)))
 
 pub returns-in_err-read_unsigned_var-clause-reads : goal.returns-in_err-read_unsigned_var-clause-reads
 returns-in_err-read_unsigned_var-clause-reads c = search (reads, c.in_err-read_unsigned_var.ensures.reads, c.from_residual.ensures.1) depth 12

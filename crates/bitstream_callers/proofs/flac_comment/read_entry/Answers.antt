@@ -4,7 +4,7 @@ use Rattle.std.specs.String.{string_bytes}
 use Rattle.std.proofs.lemmas.Str.{IsUtf8-string_bytes, is_utf8-from_IsUtf8}
 use Rattle.bitstream_io.specs.Word.{Low}
 use Rattle.bitstream_io.proofs.CallerLemmas.{go_grown, stop_grown, grown, grown_is, vec-grown, bytes_number-read, bytes_number-stops}
-use Rattle.bitstream_io.proofs.GrowsLemmas.{is_seen_err}
+use Rattle.bitstream_io.proofs.GrowsLemmas.{is_map_err}
 use Rattle.bitstream_callers.proofs.VorbisLemmas.{no_text}
 use Rattle.bitstream_callers.proofs.flac_comment.read_entry.Goals as goal
 
@@ -13,7 +13,7 @@ returns-in_err-size g c =
     let o = g.R.BitRead.source.order in
     record {
       reads = stop_grown _ (grown (bytes_number-stops o Low 4 c.in_err-size.ensures.reads))
-          (is_seen_err string_bytes _ c.from_residual.result c.from_residual.ensures.1);
+          (is_map_err string_bytes _ c.from_residual.result c.from_residual.ensures.1);
     }
 
 pub returns-in_err-bytes : goal.returns-in_err-bytes
@@ -24,7 +24,7 @@ returns-in_err-bytes g c =
     record {
       reads = go_grown _ (grown (bytes_number-read o Low 4 c.in_ok-size.ensures.reads below))
           (stop_grown _ (vec-grown _ _ c.in_err-bytes.ensures.reads)
-          (is_seen_err string_bytes _ c.from_residual-in_err-bytes.result c.from_residual-in_err-bytes.ensures.1));
+          (is_map_err string_bytes _ c.from_residual-in_err-bytes.result c.from_residual-in_err-bytes.ensures.1));
     }
 
 pub returns-in-Ok : goal.returns-in-Ok

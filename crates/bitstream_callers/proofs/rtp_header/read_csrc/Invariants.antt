@@ -1,5 +1,5 @@
 -- Made by `./format` from formats/rtp_header.fields: edit that file and make this one anew.
-use Rattle.bitstream_io.specs.Callers.{list_item, unsigned_entry}
+use Rattle.bitstream_io.specs.Callers.{list_item, unsigned_decoder}
 use Rattle.bitstream_io.specs.Loop.{ItemsRead}
 use Rattle.bitstream_callers.proofs.rtp_header.read_csrc.Given as goal
 
@@ -7,4 +7,4 @@ use Rattle.bitstream_callers.proofs.rtp_header.read_csrc.Given as goal
 abbrev pub invariant-loop : goal.invariant-loop
 invariant-loop g l =
     let K = g.R.BitRead.source in
-    ItemsRead K (list_item (unsigned_entry K.order 32 32)) l.counter l.initial.reader l.found.items l.reader
+    ItemsRead K (list_item (unsigned_decoder K.order 32 32)) l.counter l.initial.reader l.found.items l.reader

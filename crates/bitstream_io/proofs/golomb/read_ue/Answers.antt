@@ -1,4 +1,4 @@
-use Rattle.bitstream_io.proofs.CallerLemmas.{Reads-chain-ok, arith, branches, exit, few_reads, if_at_most, one_shl, reads, rules, sum_below}
+use Rattle.bitstream_io.proofs.CallerLemmas.{Reads-and_then-ok, arith, branches, exit, few_reads, if_at_most, one_shl, reads, rules, sum_below}
 use Rattle.bitstream_io.proofs.golomb.read_ue.Goals as goal
 
 pub returns-in_err-zeros-clause-reads : goal.returns-in_err-zeros-clause-reads
@@ -9,7 +9,7 @@ returns-then-zeros-gt31-clause-reads g c = search (reads, branches, c.in_ok-zero
 
 pub returns-in_err-rest-clause-reads : goal.returns-in_err-rest-clause-reads
 returns-in_err-rest-clause-reads g c =
-    Reads-chain-ok _ _ c.in_ok-zeros.ensures.reads (if_at_most _ _ _ 31 c.if-zeros-gt31.false
+    Reads-and_then-ok _ _ c.in_ok-zeros.ensures.reads (if_at_most _ _ _ 31 c.if-zeros-gt31.false
     (exit _ _ c.from_residual-in_err-rest.ensures.1 c.in_err-rest.ensures.reads))
 
 pub overflow_add-result : goal.overflow_add-result

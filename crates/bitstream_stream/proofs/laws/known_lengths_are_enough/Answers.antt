@@ -1,4 +1,4 @@
-use Rattle.bitstream_stream.proofs.Reading.EnoughLemmas.{bit-enough, unsigned-enough, signed-enough, const-enough, count-enough, bytes-enough, skip-enough, gives-enough, chain-enough}
+use Rattle.bitstream_stream.proofs.Reading.EnoughLemmas.{bit-enough, unsigned-enough, signed-enough, const-enough, count-enough, bytes-enough, skip-enough, pure-enough, and_then-enough}
 use Rattle.bitstream_stream.proofs.laws.known_lengths_are_enough.Goals as goal
 
 pub returns-clause-bit : goal.returns-clause-bit
@@ -23,7 +23,7 @@ pub returns-clause-skip : goal.returns-clause-skip
 returns-clause-skip g c = skip-enough
 
 pub returns-clause-none : goal.returns-clause-none
-returns-clause-none g c = gives-enough
+returns-clause-none g c = pure-enough
 
 pub returns-clause-both : goal.returns-clause-both
-returns-clause-both g c = chain-enough
+returns-clause-both g c = and_then-enough

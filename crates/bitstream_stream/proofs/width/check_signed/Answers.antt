@@ -1,6 +1,6 @@
 use Rattle.std.proofs.Common.{◌≡◌, ℕ, ◌<◌, ◌∙◌, subst, sym}
 use Rattle.bitstream_count.specs.Checks.{HoldsSigned, RefusesSigned}
-use Rattle.bitstream_stream.proofs.Writing.WriteLemmas.{signed-refuses, signed-none, none_of}
+use Rattle.bitstream_stream.proofs.Writing.WriteLemmas.{signed-fail, signed-none, none_of}
 use Rattle.bitstream_stream.proofs.width.check_signed.Goals as goal
 
 pub returns-in-Ok-clause-some : goal.returns-in-Ok-clause-some
@@ -16,7 +16,7 @@ returns-in-Err-clause-refusal g c = λ o len.
     let h = c.in-Some.ensures in
     let is : c.in-Some.count ≡ c.args.bits = h.1 ∙ c.unknown.ensures in
     let some : 0 < c.args.bits = subst (λ (n : ℕ). 0 < n) c.unknown.ensures h.0 in
-    signed-refuses o _ _ _ len _ some (subst (λ (n : ℕ). RefusesSigned g.S.Numeric.BITS_SIZE n
+    signed-fail o _ _ _ len _ some (subst (λ (n : ℕ). RefusesSigned g.S.Numeric.BITS_SIZE n
     (g.S.Numeric.integer c.args.value) c.in-Err.refused) is c.in-Err.ensures)
 
 pub returns-in-None-clause-refusal : goal.returns-in-None-clause-refusal

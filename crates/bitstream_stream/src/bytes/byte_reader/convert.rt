@@ -22,9 +22,8 @@ impl<R: Source, E: Endianness> ByteReader<R, E> {
         self.port.into_inner()
     }
 
-    /// Lends the stream. The reader does not count what is then taken from it.
+    /// Lends the stream. The reader does not count bytes taken from it meanwhile.
     pub fn reader(&mut self) -> &mut R
-        // What is lent is the reader's stream.
         ensures stream { result.now ≡ byte_reader_stream self.old }
         // When the borrow ends, only the stream may have changed: it is as it was left.
         ensures* writes_back { sem 𝓛 (Lends (the_row R.row E.row) R.row self.entry result
@@ -35,29 +34,27 @@ impl<R: Source, E: Endianness> ByteReader<R, E> {
 
     /// Returns a new reader of bits over the stream, in the same order.
     pub fn into_bitreader(self) -> BitReader<R, E>
-        // Nothing is taken or queued yet, and the bytes left are the stream's, if it tells them.
+        // Nothing is taken or queued yet, and the bytes left are the stream's, if they are known.
         ensures state { ⟦<BitReader<R, E> as BitRead>⟧.source.state result
             ≡ new_reader_state (R.stream.remaining (byte_reader_stream self))
             (R.stream.references (byte_reader_stream self)) }
-        // No request was made yet.
         ensures requests { requests_made result ≡ 0 }
     {
         BitReader::new(self.into_reader())
     }
 
-    /// Returns a new reader of bits over the stream, in the same order. When it is dropped, this one
-    /// goes on with the bytes that it left.
+    /// Returns a new reader of bits over the stream, in the same order. When it is dropped, this
+    /// one continues with the bytes that it left.
     ///
     /// # Warning
     ///
     /// The bits left of a byte that the new reader began are lost when it is dropped: read them first,
     /// or pass over them by [`byte_align`](BitRead::byte_align).
     pub fn bitreader<'a>(&'a mut self) -> BitReader<Lent<'a, R>, E>
-        // Nothing is taken or queued yet, and the bytes left are the stream's, if it tells them.
+        // Nothing is taken or queued yet, and the bytes left are the stream's, if they are known.
         ensures state { ⟦<BitReader<Lent<'a, R>, E> as BitRead>⟧.source.state result
             ≡ new_reader_state (R.stream.remaining (byte_reader_stream self.old))
             (by_name (reader_name result) ∷ R.stream.references (byte_reader_stream self.old)) }
-        // No request was made yet.
         ensures requests { requests_made result ≡ 0 }
         // When the new reader is dropped, only the stream may have changed: it is as it was left.
         ensures* writes_back { sem 𝓛 (follows (the_row R.row E.row) R.row self.entry.ghost_name

@@ -22,9 +22,8 @@ impl<W: Target, E: Endianness> ByteWriter<W, E> {
         self.port.into_inner()
     }
 
-    /// Lends the stream. The writer does not count what is then added to it.
+    /// Lends the stream. The writer does not count bytes added to it meanwhile.
     pub fn writer(&mut self) -> &mut W
-        // What is lent is the writer's stream.
         ensures stream { result.now ≡ byte_writer_stream self.old }
         // When the borrow ends, only the stream may have changed: it is as it was left.
         ensures* writes_back { sem 𝓛 (Lends (the_row W.row E.row) W.row self.entry result
@@ -46,10 +45,10 @@ impl<W: Target, E: Endianness> ByteWriter<W, E> {
     ///
     /// # Warning
     ///
-    /// The bits behind its last whole byte are lost when the new writer is dropped: call
+    /// Bits after the last whole byte are lost when the new writer is dropped: call
     /// [`byte_align`](crate::write::BitWrite::byte_align) first.
     pub fn bitwriter<'a>(&'a mut self) -> BitWriter<Lent<'a, W>, E>
-        // Nothing is sent or queued yet, and the bytes held are the stream's, if it tells them.
+        // Nothing is sent or queued yet, and the bytes held are the stream's, if they are known.
         ensures state { writer_state ⟦<Lent<'a, W> as Target>⟧.stream result
             ≡ new_writer_state (W.stream.contents (byte_writer_stream self.old))
             (by_name (writer_name result) ∷ W.stream.references (byte_writer_stream self.old)) }

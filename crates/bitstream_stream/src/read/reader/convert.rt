@@ -25,21 +25,20 @@ impl<R: Source, E: Endianness> BitReader<R, E> {
     /// The bits left of a byte that was begun are lost, since the stream has given the whole byte: read
     /// them first, or pass over them by [`byte_align`](BitRead::byte_align).
     pub fn into_reader(self) -> R
-        // It is the reader's stream.
         ensures stream { result ≡ reader_stream self }
-        // The bytes left in it are those that the reader tells as left in its stream.
+        // The bytes left in the stream are the ones that the reader knew to be left.
         ensures bytes { R.stream.remaining result ≡ (⟦<Self as BitRead>⟧.source.state self).bytes }
     {
         self.port.into_inner()
     }
 
     /// Lends the stream, if the reader is at a byte boundary and has not failed. The reader does
-    /// not count what is then taken from the stream.
+    /// not count bytes taken from the stream meanwhile.
     pub fn reader(&mut self) -> Option<&mut R>
-        // Answers `Some` exactly if the reader has not failed and the bits taken are whole bytes.
+        // The result is `Some` exactly if the reader has not failed and the bits taken are whole
+        // bytes.
         ensures there { IsSome result ↔ (((⟦<Self as BitRead>⟧.source.state self.old).failed ≡ false)
             × ((⟦<Self as BitRead>⟧.source.state self.old).taken % 8 ≡ 0)) }
-        // What is lent is the reader's stream.
         ensures stream { IfSome result (λ stream. stream.now ≡ reader_stream self.old) }
         // When the borrow ends, only the stream may have changed: it is as it was left.
         ensures* writes_back { sem 𝓛 (LendsIf (the_row R.row E.row) R.row self.entry result
@@ -53,10 +52,9 @@ impl<R: Source, E: Endianness> BitReader<R, E> {
     }
 
     /// Skips the bits up to the next byte boundary, as [`byte_align`](BitRead::byte_align) does,
-    /// and lends the stream, even if the reader has failed. The reader does not count what is then
-    /// taken from the stream.
+    /// and lends the stream, even if the reader has failed. The reader does not count bytes taken
+    /// from the stream meanwhile.
     pub fn aligned_reader(&mut self) -> &mut R
-        // What is lent is the reader's stream.
         ensures stream { result.now ≡ reader_stream self.old }
         // When the borrow ends, the queued bits are taken, and the stream is as it was left.
         ensures* writes_back { sem 𝓛 (Lends (the_row R.row E.row) R.row self.entry result
@@ -67,14 +65,15 @@ impl<R: Source, E: Endianness> BitReader<R, E> {
     }
 
     /// Returns a new reader of bytes over the stream, in the same order, if this reader is at a
-    /// byte boundary and has not failed: so no bit is lost. To pass over the bits up to a boundary call
-    /// [`byte_align`](BitRead::byte_align) first. When the new one is dropped, this one goes on with
-    /// the bytes that it left. It does not count the bytes that the new one took.
+    /// byte boundary and has not failed: so no bit is lost. To skip the bits up to a boundary, call
+    /// [`byte_align`](BitRead::byte_align) first. When the new reader is dropped, this one
+    /// continues with the bytes that it left. It does not count the bytes that the new one took.
     pub fn bytereader<'a>(&'a mut self) -> Option<ByteReader<Lent<'a, R>, E>>
-        // Answers `Some` exactly if the reader has not failed and the bits taken are whole bytes.
+        // The result is `Some` exactly if the reader has not failed and the bits taken are whole
+        // bytes.
         ensures there { IsSome result ↔ (((⟦<Self as BitRead>⟧.source.state self.old).failed ≡ false)
             × ((⟦<Self as BitRead>⟧.source.state self.old).taken % 8 ≡ 0)) }
-        // The new one has taken nothing, and the bytes left are the stream's, if it tells them.
+        // The new one has taken nothing, and the bytes left are the stream's, if they are known.
         ensures state { IfSome result (λ reader.
             ⟦<ByteReader<Lent<'a, R>, E> as ByteRead>⟧.source.state reader
             ≡ byte_reader_state (new_port_state (R.stream.remaining (reader_stream self.old))
@@ -90,7 +89,7 @@ impl<R: Source, E: Endianness> BitReader<R, E> {
     fn byte_reader_of<'a>(stream: Option<&'a mut R>) -> Option<ByteReader<Lent<'a, R>, E>>
         // There is one exactly if a stream was lent, and it reaches the stream by that reference.
         ensures name { name_if_some byte_reader_name result ≡ ghost_name_of stream.entry }
-        // The new one has taken nothing, and the bytes left are the stream's, if it tells them.
+        // The new one has taken nothing, and the bytes left are the stream's, if they are known.
         ensures state { IfSome stream.entry (λ lent. IfSome result (λ reader.
             ⟦<ByteReader<Lent<'a, R>, E> as ByteRead>⟧.source.state reader
             ≡ byte_reader_state (new_port_state (R.stream.remaining lent.now)

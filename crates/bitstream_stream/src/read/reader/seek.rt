@@ -17,14 +17,14 @@ impl<R: SeekSource, E: Endianness> BitReader<R, E> {
     ghost use Rattle.bitstream_stream.specs.Reading.Seek.{reader_seeker, IsFromHere, IsByteSeek, AsksPlace, GoesTo, SeeksBits, SeeksBytes};
 
     /// Goes to a place in bits, and returns it: x for `Start(x)`, n bits back from the end of the
-    /// stream for `End(n)` (unlike in std), and d bits on from where the reader stands for
-    /// `Current(d)`. [`bit_place`] computes it. The bits taken and the bytes fetched are then
-    /// counted anew from the byte sought.
+    /// stream for `End(n)` (unlike in std), and d bits after the reader's place for `Current(d)`.
+    /// [`bit_place`] computes it. The counts of bits taken and bytes fetched then start again at
+    /// the byte sought.
     ///
     /// # Errors
     ///
-    /// - `Place` if the place is below 0 or above 2^64 - 1. From `Current` the reader stays as it
-    ///   was; from `End` it has failed, and the stream stands at its end.
+    /// - `Place` if the place is below 0 or above 2^64 - 1. From `Current` the reader is unchanged;
+    ///   from `End` it has failed, and the stream is at its end.
     /// - `EndOfInput`, `OutOfMemory` or `Stream` if the stream refuses a request. The reader has
     ///   failed then, and the stream is as the refusal left it.
     /// - `Failed` for `Current` if the reader has failed. `Start` and `End` make it read again.
@@ -52,24 +52,24 @@ impl<R: SeekSource, E: Endianness> BitReader<R, E> {
             SeekFrom::Start(place) => self.go_to(place),
             SeekFrom::End(back) => self.go_back(back),
             SeekFrom::Current(on) => {
-                // The place is counted from here, so the stream is asked where it stands.
+                // The place is counted from here, so the stream is asked for its position.
                 let place = self.ask_place(SeekFrom::Current(on))?;
                 self.go_to(place)
             }
         }
     }
 
-    /// Returns the place in bits: 8 times the position in bytes that the stream answers, less the
-    /// queued bits. The stream is asked by one request, a seek by 0 bytes.
+    /// Returns the place in bits: 8 times the position in bytes that the stream returns, less the
+    /// number of queued bits. The stream is asked by one request, a seek by 0 bytes.
     ///
     /// # Errors
     ///
-    /// - `Place` if the place is below 0 or above 2^64 - 1. The reader stays as it was.
+    /// - `Place` if the place is below 0 or above 2^64 - 1. The reader is unchanged.
     /// - `OutOfMemory` or `Stream` if the stream refuses the request. The reader has failed then,
     ///   and the stream is as the refusal left it.
     /// - `Failed` if the reader has failed.
     pub fn position_in_bits(&mut self) -> Result<u64, Error>
-        // Asks the stream, changes nothing else and answers the place, or answers an error.
+        // Asks the stream, changes nothing else and returns the place, or returns an error.
         ensures asks { AsksPlace (reader_seeker ⟦<Self as BitRead>⟧.source R.position R.bytes
             (MayRefuseSeek R.stream R.refuses_seek)) (Current (pos 0)) self.old result self.new }
         // Unless the reader had failed, exactly one request is made.
@@ -82,7 +82,7 @@ impl<R: SeekSource, E: Endianness> BitReader<R, E> {
     /// Returns the place that `to`, a `Current`, means.
     fn ask_place(&mut self, to: SeekFrom) -> Result<u64, Error>
         requires { IsFromHere to }
-        // Asks the stream, changes nothing else and answers the place, or answers an error.
+        // Asks the stream, changes nothing else and returns the place, or returns an error.
         ensures asks { AsksPlace (reader_seeker ⟦<Self as BitRead>⟧.source R.position R.bytes
             (MayRefuseSeek R.stream R.refuses_seek)) to self.old result self.new }
         // Unless the reader had failed, exactly one request is made.
@@ -111,12 +111,13 @@ impl<R: SeekSource, E: Endianness> BitReader<R, E> {
         ensures { SeeksBits (reader_seeker ⟦<Self as BitRead>⟧.source R.position R.bytes
             (MayRefuseSeek R.stream R.refuses_seek)) (End back) self.old result self.new }
     {
-        // Where the end is, only a seek to it tells.
+        // Only a seek to the end finds out where it is.
         let end = self.seek_bytes(SeekFrom::End(0))?;
         match bit_place(end, 0, SeekFrom::End(back)) {
             Some(place) => self.go_to(place),
             None => {
-                // The stream stands at its end by now, so the reader cannot go on where it stood.
+                // The stream is at its end by now, so the reader cannot continue from its old
+                // place.
                 self.fail();
                 Err(Error::Place)
             }
@@ -135,7 +136,7 @@ impl<R: SeekSource, E: Endianness> BitReader<R, E> {
         Ok(place)
     }
 
-    /// Drops the queue, and seeks to a position in bytes. The counts begin anew there.
+    /// Drops the queue, and seeks to a position in bytes. The counts start again there.
     fn seek_bytes(&mut self, to: SeekFrom) -> Result<u64, Error>
         ensures { SeeksBytes (reader_seeker ⟦<Self as BitRead>⟧.source R.position R.bytes
             (MayRefuseSeek R.stream R.refuses_seek)) to self.old result self.new }
@@ -144,7 +145,8 @@ impl<R: SeekSource, E: Endianness> BitReader<R, E> {
         self.drop_queue();
         match self.port.seek(to) {
             Ok(at) => {
-                // Fetched bytes are counted anew from here, so the bits taken are, too.
+                // The count of fetched bytes starts again here, so the count of bits taken does,
+                // too.
                 self.taken = GhostCount::new();
                 self.failed = false;
                 Ok(at)

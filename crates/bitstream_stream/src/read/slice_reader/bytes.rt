@@ -1,8 +1,8 @@
 //! Bytes of bytes in memory, and parts of them that are lent.
 ghost use Rattle.std.specs.Prelude.{◌≡◌, ℕ, ◌+◌, ◌*◌, ◌≤◌, false, [], List, length, take, Some, IfOk};
-ghost use Rattle.bitstream_order.specs.Moving.Gather.{seen};
+ghost use Rattle.bitstream_order.specs.Moving.Gather.{result_map};
 ghost use Rattle.bitstream_stream.specs.Reading.Reads.{Reads};
-ghost use Rattle.bitstream_stream.specs.Reading.ReadTable.{bytes_entry, whole_bytes_entry};
+ghost use Rattle.bitstream_stream.specs.Reading.ReadTable.{bytes_decoder, whole_bytes_decoder};
 ghost use Rattle.bitstream_stream.specs.Reading.Reader.{new_reader_state};
 
 use super::SliceReader;
@@ -19,10 +19,8 @@ impl<'a, E: Endianness> SliceReader<'a, E> {
     pub(super) fn read_aligned(&mut self, buf: &mut [u8]) -> Result<(), Error>
         requires fine { self.old.failed ≡ false }
         requires none { self.old.bit ≡ 0 }
-        // Takes just the bits of the call and returns what they say, or returns an error.
-        ensures reads { Reads (memory_source E.order) (bytes_entry E.order (length buf.old)) self.old
-            (seen (λ _. buf.new) result) self.new }
-        // If too few bits are left, the reader stays where it was.
+        ensures reads { Reads (memory_source E.order) (bytes_decoder E.order (length buf.old)) self.old
+            (result_map (λ _. buf.new) result) self.new }
         ensures stays { StaysAtEnd E.order self.old result self.new }
     {
         let count = buf.len();
@@ -39,10 +37,8 @@ impl<'a, E: Endianness> SliceReader<'a, E> {
     pub(super) fn read_shifted(&mut self, buf: &mut [u8]) -> Result<(), Error>
         requires fine { self.old.failed ≡ false }
         requires some { 1 ≤ self.old.bit }
-        // Takes just the bits of the call and returns what they say, or returns an error.
-        ensures reads { Reads (memory_source E.order) (bytes_entry E.order (length buf.old)) self.old
-            (seen (λ _. buf.new) result) self.new }
-        // If too few bits are left, the reader stays where it was.
+        ensures reads { Reads (memory_source E.order) (bytes_decoder E.order (length buf.old)) self.old
+            (result_map (λ _. buf.new) result) self.new }
         ensures stays { StaysAtEnd E.order self.old result self.new }
     {
         let count = buf.len();
@@ -51,7 +47,7 @@ impl<'a, E: Endianness> SliceReader<'a, E> {
         if bytes.len() <= count {
             return Err(self.refuse());
         }
-        // What is left of the first byte is the queue behind which the others are shifted.
+        // The rest of the first byte is the queue, which is put before the other bytes.
         let queued = 8 - self.bit;
         let queue = E::first(E::rest(bytes[0], self.bit), queued);
         buf.copy_from_slice(&bytes[1..count + 1]);
@@ -68,10 +64,10 @@ impl<'a, E: Endianness> SliceReader<'a, E> {
     ///
     /// `EndOfInput` if fewer are left: the reader has failed. `Failed` if it had failed before.
     pub fn take_bytes(&mut self, count: usize) -> Result<&'a [u8], Error>
-        // Takes just the bits up to a whole byte and then `count` bytes, or answers an error.
-        ensures reads { Reads (memory_source E.order) (whole_bytes_entry count) self.old
-            (seen (λ _. tt) result) self.new }
-        // If it succeeds, the bytes lent are the first `count` of those of which no bit was taken.
+        // Takes only the bits up to a whole byte and then `count` bytes, or returns an error.
+        ensures reads { Reads (memory_source E.order) (whole_bytes_decoder count) self.old
+            (result_map (λ _. tt) result) self.new }
+        // If it succeeds, it lends the first `count` of the bytes of which no bit was taken.
         ensures bytes { IfOk result (λ lent. (bytes : List ℕ)
             → ((memory_source E.order).state self.old).bytes ≡ Some bytes
             → lent.now ≡ take count bytes) }
@@ -89,17 +85,17 @@ impl<'a, E: Endianness> SliceReader<'a, E> {
         Ok(&bytes[..count])
     }
 
-    /// Takes the next `count` bytes, as [`take_bytes`](SliceReader::take_bytes) does, and returns a reader
-    /// of them alone: its end is theirs.
+    /// Takes the next `count` bytes, as [`take_bytes`](SliceReader::take_bytes) does, and returns a
+    /// reader of only these bytes.
     ///
     /// # Errors
     ///
     /// `EndOfInput` if fewer are left: this reader has failed. `Failed` if it had failed before.
     pub fn part(&mut self, count: usize) -> Result<SliceReader<'a, E>, Error>
-        // Takes just the bits up to a whole byte and then `count` bytes, or answers an error.
-        ensures reads { Reads (memory_source E.order) (whole_bytes_entry count) self.old
-            (seen (λ _. tt) result) self.new }
-        // If it succeeds, it is a new reader of the first `count` of those of which no bit was
+        // Takes only the bits up to a whole byte and then `count` bytes, or returns an error.
+        ensures reads { Reads (memory_source E.order) (whole_bytes_decoder count) self.old
+            (result_map (λ _. tt) result) self.new }
+        // If it succeeds, it is a new reader of the first `count` of the bytes of which no bit was
         // taken.
         ensures part { IfOk result (λ part. (bytes : List ℕ)
             → ((memory_source E.order).state self.old).bytes ≡ Some bytes

@@ -1,4 +1,4 @@
-//! How a reader of bytes in memory goes on, and how it fails at the end.
+//! The moves of a reader of bytes in memory, and its failure at the end.
 ghost use Rattle.std.specs.Prelude.{◌≡◌, ℕ, ◌+◌, ◌*◌, ◌<◌, ◌≤◌, ◌↔◌, IsTrue, ◌∷◌, length};
 ghost use Rattle.bitstream_count.specs.declared.error.Error.TheVariants.{EndOfInput};
 ghost use Rattle.bitstream_order.specs.Refusal.{Refusal};
@@ -21,7 +21,7 @@ fn note_end(refusals: &mut GhostRefusals, _left: &[u8])
 impl<'a, E: Endianness> SliceReader<'a, E> {
     ghost use Rattle.bitstream_stream.specs.Reading.MemoryTakes.{GoesOn, FailsAtEnd};
 
-    /// Returns whether so many bits are left.
+    /// Returns true if `bits` bits are left.
     #[inline(always)]
     pub(super) fn has(&self, bits: u32) -> bool
         requires { bits ≤ 128 }
@@ -33,7 +33,6 @@ impl<'a, E: Endianness> SliceReader<'a, E> {
     /// Fails at the end.
     #[inline(never)]
     pub(super) fn refuse(&mut self) -> Error
-        // The answer is `EndOfInput`.
         ensures error { result ≡ EndOfInput }
         // The reader has failed at its place, and the refusal at the end of its bytes is recorded.
         ensures state { FailsAtEnd self.old self.new }

@@ -1,9 +1,9 @@
 //! The calls of a reader of bits, over bytes in memory.
 ghost use Rattle.std.specs.Prelude.{◌≡◌, ◌==◌, length};
-ghost use Rattle.bitstream_order.specs.Moving.Gather.{seen};
+ghost use Rattle.bitstream_order.specs.Moving.Gather.{result_map};
 ghost use Rattle.bitstream_order.specs.Parts.{value_bytes};
 ghost use Rattle.bitstream_stream.specs.Reading.Reads.{Reads};
-ghost use Rattle.bitstream_stream.specs.Reading.ReadTable.{bit_entry, bytes_entry, unsigned_entry, signed_entry, skip_entry, unary_entry};
+ghost use Rattle.bitstream_stream.specs.Reading.ReadTable.{bit_decoder, bytes_decoder, unsigned_decoder, signed_decoder, skip_decoder, unary_decoder};
 
 use super::SliceReader;
 use super::run::run_in_window;
@@ -21,9 +21,8 @@ impl<'a, E: Endianness> BitRead for SliceReader<'a, E> {
 
     #[inline(always)]
     fn read_unsigned_counted<C: Count, U: UnsignedInteger>(&mut self, bits: C) -> Result<U, Error>
-        ensures reads { Reads ⟦<Self as BitRead>⟧.source (unsigned_entry E.order U.BITS_SIZE (C.number bits))
-            self.old (seen U.value result) self.new }
-        // If too few bits are left, the reader stays where it was.
+        ensures reads { Reads ⟦<Self as BitRead>⟧.source (unsigned_decoder E.order U.BITS_SIZE (C.number bits))
+            self.old (result_map U.value result) self.new }
         ensures stays { StaysAtEnd E.order self.old result self.new }
     {
         self.read_word(bits.bits(), false)
@@ -31,9 +30,8 @@ impl<'a, E: Endianness> BitRead for SliceReader<'a, E> {
 
     #[inline(always)]
     fn read_signed_counted<C: SignedCount, S: SignedInteger>(&mut self, bits: C) -> Result<S, Error>
-        ensures reads { Reads ⟦<Self as BitRead>⟧.source (signed_entry E.order S.BITS_SIZE (C.number bits))
-            self.old (seen S.integer result) self.new }
-        // If too few bits are left, the reader stays where it was.
+        ensures reads { Reads ⟦<Self as BitRead>⟧.source (signed_decoder E.order S.BITS_SIZE (C.number bits))
+            self.old (result_map S.integer result) self.new }
         ensures stays { StaysAtEnd E.order self.old result self.new }
     {
         self.read_signed_word(bits.bits(), false)
@@ -41,9 +39,8 @@ impl<'a, E: Endianness> BitRead for SliceReader<'a, E> {
 
     #[inline(always)]
     fn read_bit(&mut self) -> Result<bool, Error>
-        ensures reads { Reads ⟦<Self as BitRead>⟧.source bit_entry
+        ensures reads { Reads ⟦<Self as BitRead>⟧.source bit_decoder
             self.old result self.new }
-        // If too few bits are left, the reader stays where it was.
         ensures stays { StaysAtEnd E.order self.old result self.new }
     {
         let bit = self.read_one()?;
@@ -52,9 +49,8 @@ impl<'a, E: Endianness> BitRead for SliceReader<'a, E> {
 
     #[inline(always)]
     fn read_unsigned_var<U: UnsignedInteger>(&mut self, bits: u32) -> Result<U, Error>
-        ensures reads { Reads ⟦<Self as BitRead>⟧.source (unsigned_entry E.order U.BITS_SIZE bits)
-            self.old (seen U.value result) self.new }
-        // If too few bits are left, the reader stays where it was.
+        ensures reads { Reads ⟦<Self as BitRead>⟧.source (unsigned_decoder E.order U.BITS_SIZE bits)
+            self.old (result_map U.value result) self.new }
         ensures stays { StaysAtEnd E.order self.old result self.new }
     {
         self.read_word(bits, false)
@@ -62,9 +58,8 @@ impl<'a, E: Endianness> BitRead for SliceReader<'a, E> {
 
     #[inline(always)]
     fn read_unsigned<B: Width, U: UnsignedInteger>(&mut self) -> Result<U, Error>
-        ensures reads { Reads ⟦<Self as BitRead>⟧.source (unsigned_entry E.order U.BITS_SIZE B.BITS)
-            self.old (seen U.value result) self.new }
-        // If too few bits are left, the reader stays where it was.
+        ensures reads { Reads ⟦<Self as BitRead>⟧.source (unsigned_decoder E.order U.BITS_SIZE B.BITS)
+            self.old (result_map U.value result) self.new }
         ensures stays { StaysAtEnd E.order self.old result self.new }
     {
         self.read_word(B::BITS, true)
@@ -72,9 +67,8 @@ impl<'a, E: Endianness> BitRead for SliceReader<'a, E> {
 
     #[inline(always)]
     fn read_signed_var<S: SignedInteger>(&mut self, bits: u32) -> Result<S, Error>
-        ensures reads { Reads ⟦<Self as BitRead>⟧.source (signed_entry E.order S.BITS_SIZE bits)
-            self.old (seen S.integer result) self.new }
-        // If too few bits are left, the reader stays where it was.
+        ensures reads { Reads ⟦<Self as BitRead>⟧.source (signed_decoder E.order S.BITS_SIZE bits)
+            self.old (result_map S.integer result) self.new }
         ensures stays { StaysAtEnd E.order self.old result self.new }
     {
         self.read_signed_word(bits, false)
@@ -82,9 +76,8 @@ impl<'a, E: Endianness> BitRead for SliceReader<'a, E> {
 
     #[inline(always)]
     fn read_signed<B: Width, S: SignedInteger>(&mut self) -> Result<S, Error>
-        ensures reads { Reads ⟦<Self as BitRead>⟧.source (signed_entry E.order S.BITS_SIZE B.BITS)
-            self.old (seen S.integer result) self.new }
-        // If too few bits are left, the reader stays where it was.
+        ensures reads { Reads ⟦<Self as BitRead>⟧.source (signed_decoder E.order S.BITS_SIZE B.BITS)
+            self.old (result_map S.integer result) self.new }
         ensures stays { StaysAtEnd E.order self.old result self.new }
     {
         self.read_signed_word(B::BITS, true)
@@ -92,9 +85,8 @@ impl<'a, E: Endianness> BitRead for SliceReader<'a, E> {
 
     #[inline(always)]
     fn read_to<V: Primitive>(&mut self) -> Result<V, Error>
-        ensures reads { Reads ⟦<Self as BitRead>⟧.source (bytes_entry E.order V.BYTES)
-            self.old (seen (value_bytes E.order V.be_bytes V.le_bytes) result) self.new }
-        // If too few bits are left, the reader stays where it was.
+        ensures reads { Reads ⟦<Self as BitRead>⟧.source (bytes_decoder E.order V.BYTES)
+            self.old (result_map (value_bytes E.order V.be_bytes V.le_bytes) result) self.new }
         ensures stays { StaysAtEnd E.order self.old result self.new }
     {
         self.read_as_to::<E, V>()
@@ -102,9 +94,8 @@ impl<'a, E: Endianness> BitRead for SliceReader<'a, E> {
 
     #[inline(always)]
     fn read_as_to<F: Endianness, V: Primitive>(&mut self) -> Result<V, Error>
-        ensures reads { Reads ⟦<Self as BitRead>⟧.source (bytes_entry E.order V.BYTES)
-            self.old (seen (value_bytes F.order V.be_bytes V.le_bytes) result) self.new }
-        // If too few bits are left, the reader stays where it was.
+        ensures reads { Reads ⟦<Self as BitRead>⟧.source (bytes_decoder E.order V.BYTES)
+            self.old (result_map (value_bytes F.order V.be_bytes V.le_bytes) result) self.new }
         ensures stays { StaysAtEnd E.order self.old result self.new }
     {
         let mut bytes = V::buffer();
@@ -114,8 +105,7 @@ impl<'a, E: Endianness> BitRead for SliceReader<'a, E> {
 
     #[inline(always)]
     fn read_unary<S: Width>(&mut self) -> Result<u32, Error>
-        ensures reads { Reads ⟦<Self as BitRead>⟧.source (unary_entry (S.BITS == 1)) self.old result self.new }
-        // If too few bits are left, the reader stays where it was.
+        ensures reads { Reads ⟦<Self as BitRead>⟧.source (unary_decoder (S.BITS == 1)) self.old result self.new }
         ensures stays { StaysAtEnd E.order self.old result self.new }
     {
         let stop = S::BITS == 1;
@@ -133,9 +123,8 @@ impl<'a, E: Endianness> BitRead for SliceReader<'a, E> {
 
     #[inline(always)]
     fn read_bytes(&mut self, buf: &mut [u8]) -> Result<(), Error>
-        ensures reads { Reads ⟦<Self as BitRead>⟧.source (bytes_entry E.order (length buf.old))
-            self.old (seen (λ _. buf.new) result) self.new }
-        // If too few bits are left, the reader stays where it was.
+        ensures reads { Reads ⟦<Self as BitRead>⟧.source (bytes_decoder E.order (length buf.old))
+            self.old (result_map (λ _. buf.new) result) self.new }
         ensures stays { StaysAtEnd E.order self.old result self.new }
     {
         if self.failed {
@@ -149,9 +138,8 @@ impl<'a, E: Endianness> BitRead for SliceReader<'a, E> {
     }
 
     fn skip(&mut self, bits: u32) -> Result<(), Error>
-        ensures reads { Reads ⟦<Self as BitRead>⟧.source (skip_entry bits)
+        ensures reads { Reads ⟦<Self as BitRead>⟧.source (skip_decoder bits)
             self.old result self.new }
-        // If too few bits are left, the reader stays where it was.
         ensures stays { StaysAtEnd E.order self.old result self.new }
     {
         if self.failed {

@@ -4,51 +4,50 @@ ghost use Rattle.bitstream_count.specs.Unary.{lead};
 ghost use Rattle.bitstream_number.specs.Word.{bits, word};
 ghost use Rattle.bitstream_stream.specs.Reading.Memory.{rest_bits};
 ghost use Rattle.bitstream_stream.specs.Reading.Reads.{Reads};
-ghost use Rattle.bitstream_stream.specs.Reading.ReadTable.{unary_entry};
+ghost use Rattle.bitstream_stream.specs.Reading.ReadTable.{unary_decoder};
 
 use super::SliceReader;
-use super::window::eight;
+use super::window::load_eight;
 use bitstream_count::error::Error;
 use bitstream_order::order::Endianness;
 
-/// Returns how many bits, behind the first few, come before the first one that is `stop`, if that stands
-/// in the first eight bytes.
+/// Returns the number of bits other than `stop` that come first after the first `bit` bits, if a
+/// stop bit follows them within the first eight bytes.
 #[inline(always)]
 pub(super) fn run_in_window<E: Endianness>(bytes: &[u8], bit: u32, stop: bool) -> u32
     requires few { bit < 8 }
     requires eight { 8 ≤ length bytes.now }
-    // The answer is at most 64.
     ensures most { result ≤ 64 }
-    // If `bit` and the answer make less than 64, so many bits come before the stop bit.
+    // If `bit` and the result are less than 64 together, the result is the number of bits before
+    // the stop bit.
     ensures run { result + bit < 64 → result ≡ lead stop (rest_bits E.order bytes.now bit) }
 {
-    E::lead_behind(eight::<E>(bytes), bit, stop)
+    E::lead_behind(load_eight::<E>(bytes), bit, stop)
 }
 
-/// Returns the number of 64 bits of which none is `stop`.
+/// Returns 64 bits that differ from `stop`, as a number.
 fn window_without<E: Endianness>(stop: bool) -> u64
     ensures { word E.order 64 result ≡ replicate 64 (not stop) }
 {
     if stop { 0 } else { u64::MAX }
 }
 
-/// Returns how many of the first bytes have no bit that is `stop`, counted eight at a time.
+/// Returns the number of first bytes that have no bit equal to `stop`, counted eight at a time.
 fn bytes_without<E: Endianness>(bytes: &[u8], stop: bool) -> usize
-    // There are so many bytes.
     ensures within { result ≤ length bytes.now }
-    // Their bits come before the first one that is `stop`.
+    // The bits of these bytes come before the first bit that is `stop`.
     ensures run { lead stop (bits E.order bytes.now)
         ≡ 8 * result + lead stop (bits E.order (drop result bytes.now)) }
 {
     let without = window_without::<E>(stop);
     let mut at = 0;
-    while bytes.len() - at >= 8 && eight::<E>(&bytes[at..]) == without {
+    while bytes.len() - at >= 8 && load_eight::<E>(&bytes[at..]) == without {
         at += 8;
     }
     at
 }
 
-/// Returns a number and how many bits of some bytes come before the first one that is `stop`.
+/// Returns `first` plus the number of bits other than `stop` at the start of some bytes.
 fn run_from<E: Endianness>(bytes: &[u8], first: u32, stop: bool) -> u128
     ensures { result ≡ first + lead stop (bits E.order bytes.now) }
 {
@@ -67,7 +66,8 @@ fn run_from<E: Endianness>(bytes: &[u8], first: u32, stop: bool) -> u128
     count
 }
 
-/// Returns how many bits of some bytes, behind the first few, come before the first one that is `stop`.
+/// Returns the number of bits other than `stop` that come first after the first `bit` bits of some
+/// bytes.
 pub(super) fn run_length<E: Endianness>(bytes: &[u8], bit: u32, stop: bool) -> u128
     requires few { bit < 8 }
     requires some { 0 < bit → 1 ≤ length bytes.now }
@@ -76,7 +76,7 @@ pub(super) fn run_length<E: Endianness>(bytes: &[u8], bit: u32, stop: bool) -> u
     if bit == 0 {
         return run_from::<E>(bytes, 0, stop);
     }
-    // The bits behind the rest of the first byte mean nothing, so a stop bit there is none.
+    // The bits after the rest of the first byte mean nothing, so a stop bit there does not count.
     let lead = E::run_length(E::rest(bytes[0], bit), stop);
     if lead < 8 - bit {
         return lead as u128;
@@ -91,9 +91,7 @@ impl<'a, E: Endianness> SliceReader<'a, E> {
     /// Reads a run near the end, or a long one.
     #[inline(never)]
     pub(super) fn read_run(&mut self, stop: bool) -> Result<u32, Error>
-        // Takes just the bits of the call and returns what they say, or returns an error.
-        ensures reads { Reads (memory_source E.order) (unary_entry stop) self.old result self.new }
-        // If too few bits are left, the reader stays where it was.
+        ensures reads { Reads (memory_source E.order) (unary_decoder stop) self.old result self.new }
         ensures stays { StaysAtEnd E.order self.old result self.new }
     {
         if self.failed {

@@ -13,15 +13,16 @@ impl<'a, E: Endianness> SliceReader<'a, E> {
     ghost use Rattle.bitstream_stream.specs.Reading.MemorySource.{memory_source};
     ghost use Rattle.bitstream_stream.specs.Reading.MemoryTakes.{IsAt};
 
-    /// Goes to a place in bits, and returns it: x for `Start(x)`, n bits back from the end of the bytes
-    /// for `End(n)` (unlike in std), and d bits on from where the reader stands for `Current(d)`. The
-    /// end itself is a place. A reader that had failed reads again, but not by `Current`. The bits read
-    /// stay counted from the first byte on.
+    /// Goes to a place in bits, and returns it: x for `Start(x)`, n bits back from the end of the
+    /// bytes for `End(n)` (unlike in std), and d bits after the reader's place for `Current(d)`.
+    /// The end itself is a place. A reader that had failed reads again, but not by `Current`. The
+    /// bits read are still counted from the first byte on.
     ///
     /// # Errors
     ///
-    /// - `Place` if the place is below 0, behind the end, or above 2^64 - 1. The reader stays as it was.
-    /// - `Failed` for `Current` if the reader has failed. It stays as it was.
+    /// - `Place` if the place is below 0, after the end, or above 2^64 - 1. The reader is
+    ///   unchanged.
+    /// - `Failed` for `Current` if the reader has failed. It is unchanged.
     ///
     /// # Examples
     ///
@@ -57,20 +58,20 @@ impl<'a, E: Endianness> SliceReader<'a, E> {
         }
     }
 
-    /// Returns the place in bits: how many were read.
+    /// Returns the place in bits: the number of bits read.
     ///
     /// # Errors
     ///
     /// - `Place` if the place is above 2^64 - 1.
-    /// - `Failed` if the reader has failed. [`bits_read`](SliceReader::bits_read) still tells its place.
+    /// - `Failed` if the reader has failed. [`bits_read`](SliceReader::bits_read) still reports its
+    ///   place.
     pub fn position_in_bits(&self) -> Result<u64, Error>
-        // If the reader has failed, `Failed` is answered.
         ensures failed { ((memory_source E.order).state self.now).failed ≡ true → result ≡ Err Failed }
-        // Else the number of bits taken is answered, if it is below 2^64.
+        // Unless the reader has failed, the number of bits taken is returned, if it is below 2^64.
         ensures place { ((memory_source E.order).state self.now).failed ≡ false
             → ((memory_source E.order).state self.now).taken < 2 ^ 64
             → result ≡ Ok ((memory_source E.order).state self.now).taken }
-        // Else `Place` is answered, if that number is 2^64 or more.
+        // Else `Place` is returned, if that number is 2^64 or more.
         ensures above { ((memory_source E.order).state self.now).failed ≡ false
             → 2 ^ 64 ≤ ((memory_source E.order).state self.now).taken → result ≡ Err Place }
     {
@@ -85,7 +86,7 @@ impl<'a, E: Endianness> SliceReader<'a, E> {
         }
     }
 
-    /// Returns how many bytes hold the bits that were taken.
+    /// Returns the number of bytes that hold the bits taken.
     fn fetched(&self) -> u64
         ensures { result ≡ ((memory_source E.order).state self.now).fetched }
     {
@@ -97,7 +98,7 @@ impl<'a, E: Endianness> SliceReader<'a, E> {
         }
     }
 
-    /// Goes to a place in bits, if there is one and it is not behind the end.
+    /// Goes to a place in bits, if there is one and it is not after the end.
     fn go_within(&mut self, place: Option<u64>) -> Result<u64, Error>
         ensures { GoesWithin E.order place self.old result self.new }
     {

@@ -1,11 +1,11 @@
 //! Numbers of bytes in memory: a window of eight bytes serves up to 56 bits.
 ghost use Rattle.std.specs.Prelude.{◌≡◌, ◌+◌, ◌*◌, ◌<◌, ◌≤◌, false, length};
-ghost use Rattle.bitstream_order.specs.Moving.Gather.{seen};
+ghost use Rattle.bitstream_order.specs.Moving.Gather.{result_map};
 ghost use Rattle.bitstream_stream.specs.Reading.Reads.{Reads};
-ghost use Rattle.bitstream_stream.specs.Reading.ReadTable.{unsigned_entry, signed_entry};
+ghost use Rattle.bitstream_stream.specs.Reading.ReadTable.{unsigned_decoder, signed_decoder};
 
 use super::SliceReader;
-use super::window::{fetch, first, load};
+use super::window::{load, load_bits, load_first};
 use bitstream_count::error::Error;
 use bitstream_number::number::{Numeric, SignedInteger, UnsignedInteger};
 use bitstream_order::kernels::sign::signed_of;
@@ -15,7 +15,7 @@ impl<'a, E: Endianness> SliceReader<'a, E> {
     ghost use Rattle.bitstream_stream.specs.Reading.MemorySource.{memory_source};
     ghost use Rattle.bitstream_stream.specs.Reading.MemoryTakes.{StaysAtEnd, TakesNumber};
 
-    /// Takes a number of at most 56 bits, which are there.
+    /// Takes a number of at most 56 bits. Its bits must be left.
     #[inline(always)]
     fn take_few(&mut self, bits: u32) -> u64
         requires few { bits ≤ 56 }
@@ -27,7 +27,7 @@ impl<'a, E: Endianness> SliceReader<'a, E> {
         value
     }
 
-    /// Takes a number of more than 56 bits, which are there.
+    /// Takes a number of more than 56 bits. Its bits must be left.
     #[inline(never)]
     fn take_many<U: UnsignedInteger>(&mut self, bits: u32) -> U
         requires many { 56 < bits }
@@ -47,7 +47,7 @@ impl<'a, E: Endianness> SliceReader<'a, E> {
         E::put(E::put(first, 56, second, 56), 112, last, more - 56)
     }
 
-    /// Takes a number, whose bits are there.
+    /// Takes a number. Its bits must be left.
     #[inline(always)]
     fn take_word<U: UnsignedInteger>(&mut self, bits: u32) -> U
         requires room { bits ≤ U.BITS_SIZE }
@@ -66,10 +66,8 @@ impl<'a, E: Endianness> SliceReader<'a, E> {
     fn read_slow<U: UnsignedInteger>(&mut self, bits: u32) -> Result<U, Error>
         requires fine { self.old.failed ≡ false }
         requires room { bits ≤ U.BITS_SIZE }
-        // Takes just the bits of the call and returns what they say, or returns an error.
-        ensures reads { Reads (memory_source E.order) (unsigned_entry E.order U.BITS_SIZE bits)
-            self.old (seen U.value result) self.new }
-        // If too few bits are left, the reader stays where it was.
+        ensures reads { Reads (memory_source E.order) (unsigned_decoder E.order U.BITS_SIZE bits)
+            self.old (result_map U.value result) self.new }
         ensures stays { StaysAtEnd E.order self.old result self.new }
     {
         if self.has(bits) {
@@ -79,17 +77,15 @@ impl<'a, E: Endianness> SliceReader<'a, E> {
         }
     }
 
-    /// Reads a number. `constant` tells whether `bits` is known as the program is compiled.
+    /// Reads a number. `constant` is true if `bits` is known at compile time.
     #[inline(always)]
     pub(super) fn read_word<U: UnsignedInteger>(
         &mut self,
         bits: u32,
         constant: bool,
     ) -> Result<U, Error>
-        // Takes just the bits of the call and returns what they say, or returns an error.
-        ensures reads { Reads (memory_source E.order) (unsigned_entry E.order U.BITS_SIZE bits)
-            self.old (seen U.value result) self.new }
-        // If too few bits are left, the reader stays where it was.
+        ensures reads { Reads (memory_source E.order) (unsigned_decoder E.order U.BITS_SIZE bits)
+            self.old (result_map U.value result) self.new }
         ensures stays { StaysAtEnd E.order self.old result self.new }
     {
         if self.failed {
@@ -99,11 +95,11 @@ impl<'a, E: Endianness> SliceReader<'a, E> {
         if bits > U::BITS_SIZE {
             return Err(Error::ReadBits);
         }
-        // Eight bytes have 56 bits, wherever in the first one these begin.
+        // Eight bytes have 56 bits, at any place in the first one.
         if bits > 56 {
             return self.read_slow(bits);
         }
-        match fetch::<E>(self.bytes, self.bit + bits, constant) {
+        match load_bits::<E>(self.bytes, self.bit + bits, constant) {
             Some(value) => {
                 let word = E::middle(value, self.bit, bits);
                 self.go_on(bits);
@@ -116,9 +112,7 @@ impl<'a, E: Endianness> SliceReader<'a, E> {
     /// Reads one bit as a number.
     #[inline(always)]
     pub(super) fn read_one(&mut self) -> Result<u64, Error>
-        // Takes just the bits of the call and returns what they say, or returns an error.
-        ensures reads { Reads (memory_source E.order) (unsigned_entry E.order 64 1) self.old result self.new }
-        // If too few bits are left, the reader stays where it was.
+        ensures reads { Reads (memory_source E.order) (unsigned_decoder E.order 64 1) self.old result self.new }
         ensures stays { StaysAtEnd E.order self.old result self.new }
     {
         if self.failed {
@@ -128,7 +122,7 @@ impl<'a, E: Endianness> SliceReader<'a, E> {
         if bytes.is_empty() {
             return Err(self.refuse());
         }
-        let bit = E::middle(first::<1, E>(bytes), self.bit, 1);
+        let bit = E::middle(load_first::<1, E>(bytes), self.bit, 1);
         self.go_on(1);
         Ok(bit)
     }
@@ -140,10 +134,8 @@ impl<'a, E: Endianness> SliceReader<'a, E> {
         bits: u32,
         constant: bool,
     ) -> Result<S, Error>
-        // Takes just the bits of the call and returns what they say, or returns an error.
-        ensures reads { Reads (memory_source E.order) (signed_entry E.order S.BITS_SIZE bits)
-            self.old (seen S.integer result) self.new }
-        // If too few bits are left, the reader stays where it was.
+        ensures reads { Reads (memory_source E.order) (signed_decoder E.order S.BITS_SIZE bits)
+            self.old (result_map S.integer result) self.new }
         ensures stays { StaysAtEnd E.order self.old result self.new }
     {
         if self.failed {

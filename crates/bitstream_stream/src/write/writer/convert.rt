@@ -24,7 +24,7 @@ impl<W: Target, E: Endianness> BitWriter<W, E> {
     ///
     /// # Warning
     ///
-    /// The bits behind the last whole byte are lost: call [`byte_align`](BitWrite::byte_align) first.
+    /// Bits after the last whole byte are lost: call [`byte_align`](BitWrite::byte_align) first.
     pub fn into_writer(self) -> W
         ensures { result ≡ writer_stream self }
     {
@@ -32,12 +32,12 @@ impl<W: Target, E: Endianness> BitWriter<W, E> {
     }
 
     /// Lends the stream, if the writer is at a byte boundary and has not failed. The writer does
-    /// not count what is then added to the stream.
+    /// not count bytes added to the stream meanwhile.
     pub fn writer(&mut self) -> Option<&mut W>
-        // Answers `Some` exactly if the writer has not failed and the bits written are whole bytes.
+        // The result is `Some` exactly if the writer has not failed and the bits written are whole
+        // bytes.
         ensures there { IsSome result ↔ (((⟦<Self as BitWrite>⟧.sink.failed self.old) ≡ false)
             × (⟦<Self as BitWrite>⟧.sink.len self.old % 8 ≡ 0)) }
-        // What is lent is the writer's stream.
         ensures stream { IfSome result (λ stream. stream.now ≡ writer_stream self.old) }
         // When the borrow ends, only the stream may have changed: it is as it was left.
         ensures* writes_back { sem 𝓛 (LendsIf (the_row W.row E.row) W.row self.entry result
@@ -51,13 +51,13 @@ impl<W: Target, E: Endianness> BitWriter<W, E> {
     }
 
     /// Writes zeros up to the next byte boundary, as [`byte_align`](BitWrite::byte_align) does, and
-    /// lends the stream. The writer does not count what is then added to the stream.
+    /// lends the stream. The writer does not count bytes added to the stream meanwhile.
     ///
     /// # Errors
     ///
     /// As [`byte_align`](BitWrite::byte_align).
     pub fn aligned_writer(&mut self) -> Result<&mut W, Error>
-        // If it succeeds, what is lent is the stream of the writer behind an alignment.
+        // If it succeeds, it lends the stream of the writer after an alignment.
         ensures stream { IfOk result
             (λ stream. IsAlignedStream ⟦<Self as BitWrite>⟧.sink self.old stream.now) }
         // When the borrow ends, the writer is aligned and its stream is as it was left. After an
@@ -71,13 +71,14 @@ impl<W: Target, E: Endianness> BitWriter<W, E> {
     }
 
     /// Returns a new writer of bytes to the stream, in the same order, if this writer is at a byte
-    /// boundary and has not failed: so no bit is lost. Call [`byte_align`](BitWrite::byte_align) first.
-    /// This writer does not count what the new one writes.
+    /// boundary and has not failed: so no bit is lost. Call [`byte_align`](BitWrite::byte_align)
+    /// first. This writer does not count the bytes that the new one writes.
     pub fn bytewriter<'a>(&'a mut self) -> Option<ByteWriter<Lent<'a, W>, E>>
-        // Answers `Some` exactly if the writer has not failed and the bits written are whole bytes.
+        // The result is `Some` exactly if the writer has not failed and the bits written are whole
+        // bytes.
         ensures there { IsSome result ↔ (((⟦<Self as BitWrite>⟧.sink.failed self.old) ≡ false)
             × (⟦<Self as BitWrite>⟧.sink.len self.old % 8 ≡ 0)) }
-        // The new one has sent nothing, and the bytes held are the stream's, if it tells them.
+        // The new one has sent nothing, and the bytes held are the stream's, if they are known.
         ensures state { IfSome result (λ writer.
             byte_writer_state ⟦<Lent<'a, W> as Target>⟧.stream writer
             ≡ new_port_state (W.stream.contents (writer_stream self.old))
@@ -93,7 +94,7 @@ impl<W: Target, E: Endianness> BitWriter<W, E> {
     fn byte_writer_of<'a>(stream: Option<&'a mut W>) -> Option<ByteWriter<Lent<'a, W>, E>>
         // There is one exactly if a stream was lent, and it reaches the stream by that reference.
         ensures name { name_if_some byte_writer_name result ≡ ghost_name_of stream.entry }
-        // The new one has sent nothing, and the bytes held are the stream's, if it tells them.
+        // The new one has sent nothing, and the bytes held are the stream's, if they are known.
         ensures state { IfSome stream.entry (λ lent. IfSome result (λ writer.
             byte_writer_state ⟦<Lent<'a, W> as Target>⟧.stream writer
             ≡ new_port_state (W.stream.contents lent.now) (by_name (byte_writer_name writer) ∷ W.stream.references lent.now))) }
@@ -108,7 +109,7 @@ impl<W: Target, E: Endianness> BitWriter<W, E> {
     ///
     /// # Warning
     ///
-    /// The bits behind the last whole byte are lost: call [`byte_align`](BitWrite::byte_align) first.
+    /// Bits after the last whole byte are lost: call [`byte_align`](BitWrite::byte_align) first.
     pub fn into_bytewriter(self) -> ByteWriter<W, E>
         ensures { byte_writer_state W.stream result
             ≡ new_port_state (W.stream.contents (writer_stream self))
@@ -129,7 +130,7 @@ impl<W: Target, E: Endianness> BitWriter<W, E> {
         // or the writer had failed.
         ensures flushes { Flushes (MayRefuseWrite W.stream) (writer_state W.stream self.old) result
             (writer_state W.stream self.new) }
-        // If it succeeds, the stream did what it says that a flush does.
+        // If it succeeds, its effect is the one that the stream states for a flush.
         ensures flushed { OnOk result (W.stream.flushes (writer_stream self.old) (writer_stream self.new)) }
     {
         if self.failed {

@@ -1,4 +1,4 @@
-//! What a writer to bytes in memory tells.
+//! The number of bits that a writer to bytes in memory has written.
 ghost use Rattle.std.specs.Prelude.{◌≡◌, ◌+◌, ◌-◌, ◌*◌, ◌<◌, ◌≤◌, ◌^◌, length};
 
 use super::BitWriter;
@@ -18,20 +18,21 @@ impl<'a, E: Endianness> BitWriter<SliceMut<'a>, E> {
         self.port.stream().as_slice()
     }
 
-    /// Returns how many bits were written, those of the last, unfinished byte among them: at most
-    /// 2^64 - 1, and exactly that number if it is less. A writer that has failed has lost those.
+    /// Returns the number of bits written, with the bits of the last, unfinished byte: exactly that
+    /// number, or 2^64 - 1 if there are more. A writer that has failed has lost the bits of the
+    /// last byte.
     pub fn bits_written(&self) -> u64
-        // The answer is at most the number of bits in the bytes written and in the queue.
+        // The result is at most the number of bits in the bytes written and in the queue.
         ensures most { result
             ≤ 8 * length (written_bytes (writer_stream self.now)) + queued_bits self.now }
-        // If that number is below 2^64, it is the answer.
+        // If that number is below 2^64, it is the result.
         ensures exact { 8 * length (written_bytes (writer_stream self.now)) + queued_bits self.now < 2 ^ 64
             → result ≡ 8 * length (written_bytes (writer_stream self.now)) + queued_bits self.now }
     {
         capped(8 * self.written().len() as u128 + self.queued as u128)
     }
 
-    /// Returns how many bytes are free. Bits of an unfinished byte will take one of them.
+    /// Returns the number of free bytes. Bits of an unfinished byte will take one of them.
     pub fn bytes_left(&self) -> usize
         ensures { result ≡ slice_capacity (writer_stream self.now)
             - length (written_bytes (writer_stream self.now)) }

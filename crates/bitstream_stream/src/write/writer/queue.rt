@@ -1,4 +1,4 @@
-//! What a writer holds, to be looked at.
+//! The queue of a writer, to be looked at.
 ghost use Rattle.std.specs.Prelude.{◌≡◌, ◌<◌, ◌^◌, [], Some};
 
 use super::BitWriter;
@@ -18,11 +18,9 @@ impl<W: Target, E: Endianness> BitWriter<W, E> {
         self.port.stream()
     }
 
-    /// Returns how many bits wait in the writer.
+    /// Returns the number of bits that wait in the writer.
     pub fn queued(&self) -> u32
-        // The answer is the number of bits that are queued.
         ensures bits { result ≡ queued_bits self.now }
-        // It is below 8.
         ensures few { result < 8 }
     {
         self.queued
@@ -30,9 +28,7 @@ impl<W: Target, E: Endianness> BitWriter<W, E> {
 
     /// Returns the number of the bits that wait in the writer.
     pub fn queue(&self) -> u8
-        // The answer is the number of the queued bits.
         ensures number { result ≡ queue_number self.now }
-        // It is below 2^n if n bits are queued.
         ensures small { result < 2 ^ queued_bits self.now }
     {
         self.queue
@@ -50,7 +46,7 @@ impl<A: Allocator, E: Endianness> BitWriter<Growing<A>, E> {
     ghost use Rattle.bitstream_order.specs.Streaming.Growing.{growing_stream};
     ghost use Rattle.bitstream_stream.specs.Writing.Writer.{writer_state, new_writer_state};
 
-    /// Removes all bits and bytes, also of a writer that has failed: it is as a new one is then. The
+    /// Removes all bits and bytes, even if the writer has failed: it is then like a new one. The
     /// vector keeps its memory.
     pub fn clear(&mut self)
         ensures { writer_state growing_stream self.new ≡ new_writer_state (Some []) [] }

@@ -6,7 +6,7 @@ ghost use Rattle.bitstream_value.specs.Nodes.{Joined};
 use crate::huffman::tree::{HuffmanTree, Node};
 use std::alloc::{AllocError, Allocator};
 
-/// Puts one tree's nodes behind another's, and returns all with the places of the two roots.
+/// Appends one tree's nodes to another's, and returns them all with the places of the two roots.
 ///
 /// # Errors
 ///

@@ -2,7 +2,7 @@
 ghost use Rattle.std.specs.Prelude.{◌≡◌, ◌+◌, ◌<◌, ◌≤◌, ◌↔◌, length, nat_le, if◌then◌else◌, IsTrue};
 ghost use Rattle.bitstream_value.specs.HuffmanTree.{nodes_of, tree_of};
 ghost use Rattle.bitstream_value.specs.Nodes.{FindsFirst, HasSymbol};
-ghost use Rattle.bitstream_value.specs.Tree.{path_entry, symbol_word};
+ghost use Rattle.bitstream_value.specs.Tree.{path_decoder, symbol_word};
 
 use crate::huffman::tree::{HuffmanTree, Node};
 use crate::huffman::{FromBits, NextBit, PutBit, ToBits};
@@ -12,7 +12,7 @@ use std::alloc::Allocator;
 impl<S: Copy + Eq, A: Allocator> FromBits for HuffmanTree<S, A> {
     type Symbol = S;
 
-    ghost entry = { λ code. path_entry (tree_of code) };
+    ghost decoder = { λ code. path_decoder (tree_of code) };
 
     fn from_bits<N: NextBit>(&self, next: &mut N) -> Result<S, Error> {
         let mut root = self.nodes.len() - 1;
@@ -66,7 +66,7 @@ impl<S: Copy + Eq, A: Allocator> HuffmanTree<S, A> {
         None
     }
 
-    /// Returns whether a leaf with the symbol stands at a place.
+    /// Returns true if a leaf with the symbol is at a place.
     fn has(&self, place: usize, symbol: S) -> bool
         requires { place < length (nodes_of self.now) }
         ensures { IsTrue result ↔ HasSymbol S.eq symbol (nodes_of self.now) place }
@@ -80,13 +80,15 @@ impl<S: Copy + Eq, A: Allocator> HuffmanTree<S, A> {
     /// Returns the place of the symbol's first leaf on a branch's side of 0, if it has one there.
     /// `leaf` is the symbol's first leaf below the branch.
     ///
-    /// If the side of 0 stands behind the other one, all of it is searched. It is the shorter of
-    /// the two then, so what a write searches in all grows as the number of nodes does.
+    /// If the side of 0 follows the side of 1, all of it is searched. It is then the shorter of the
+    /// two, so the searches of a write are linear in the number of nodes.
     fn leaf_on_zero_side(&self, zero: usize, one: usize, leaf: usize, symbol: S) -> Option<usize>
         requires { zero < length (nodes_of self.now) }
-        // If the side of 0 stands first, `leaf` is answered if it stands up to `zero`, else `None`.
+        // If the side of 0 comes first, the result is `leaf` if it is not after `zero`, else
+        // `None`.
         ensures inside { zero < one → result ≡ (if nat_le leaf zero then Some leaf else None) }
-        // If it stands behind the other, its first leaf with the symbol is answered, if it has one.
+        // If the side of 0 follows the other, its first leaf with the symbol is returned, if it has
+        // one.
         ensures looked { one ≤ zero
             → FindsFirst S.eq symbol (nodes_of self.now) (one + 1) (zero + 1) result }
     {

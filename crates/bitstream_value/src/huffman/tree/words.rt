@@ -6,7 +6,7 @@ use crate::huffman::{PutBit, ToBits};
 use bitstream_count::error::Error;
 use std::alloc::{AllocError, Allocator};
 
-/// A word of at most 63 bits. As a sink it takes bits behind those that it has.
+/// A word of at most 63 bits. As a sink, it appends bits to it.
 #[derive(Clone, Copy, Drop)]
 struct ShortWord {
     bits: u32,

@@ -3,12 +3,12 @@ use Rattle.std.specs.Fmt.{decimal}
 use Rattle.std.proofs.lemmas.Fmt.{decimal_step, decimal_digit, length-decimal-le}
 use Rattle.bitfields_core.proofs.fault_line.FaultLine.+push_decimal.Goals as goal
 
--- a number and its front
+-- a number and its prefix
 most : (n : ℕ) → n < 2 ^ 64 → length (decimal n) ≤ 20
 most n range = let below : 2 ^ 64 < 10 ^ 20 = lit< tt in length-decimal-le 20 n (lit< tt) (omega arith) range
 
-front_most : (n : ℕ) → n < 2 ^ 64 → length (decimal (n / 10)) ≤ 19
-front_most n range =
+prefix_most : (n : ℕ) → n < 2 ^ 64 → length (decimal (n / 10)) ≤ 19
+prefix_most n range =
     let below : 2 ^ 64 < 10 ^ 20 = lit< tt in
     let ten : 10 ^ 20 ≡ 10 * 10 ^ 19 = refl in
     length-decimal-le 19 (n / 10) (lit< tt) (omega arith) (omega arith)
@@ -34,7 +34,7 @@ returns-then-number-lt10 t c =
 
 pub push-requires-2 : goal.push-requires-2
 push-requires-2 t c =
-    let front = front_most c.args.number c.ranges.number.fits in
+    let prefix = prefix_most c.args.number c.ranges.number.fits in
     let so_far = simp length-append at (ap length c.push_decimal.ensures.text) in
     omega arith
 

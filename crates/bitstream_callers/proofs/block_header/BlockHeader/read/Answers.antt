@@ -1,5 +1,5 @@
 -- Made by `./format` from formats/block_header.fields: edit that file and make this one anew.
-use Rattle.bitstream_io.proofs.ReadsLemmas.{Reads-chain-ok as next, Reads-gives, exit}
+use Rattle.bitstream_io.proofs.ReadsLemmas.{Reads-and_then-ok as next, Reads-pure, exit}
 use Rattle.bitstream_callers.proofs.block_header.BlockHeader.read.Goals as goal
 
 pub returns-in_err-last : goal.returns-in_err-last
@@ -15,4 +15,4 @@ returns-in_err-size g c = next _ _ c.in_ok-last.ensures.reads (next _ _ c.in_ok-
 
 pub returns : goal.returns
 returns g c = next _ _ c.in_ok-last.ensures.reads (next _ _ c.in_ok-kind.ensures.reads (next _ _
-    c.in_ok-size.ensures.reads (Reads-gives _ _)))
+    c.in_ok-size.ensures.reads (Reads-pure _ _)))

@@ -2,8 +2,8 @@ use Rattle.std.proofs.Common.{◌≡◌, ◌+◌, ◌<◌, ap, ◌∙◌, arith,
 use Rattle.std.specs.Prelude.{map}
 use Rattle.std.specs.String.{string_bytes}
 use Rattle.std.proofs.lemmas.List.{map-append}
-use Rattle.bitstream_io.specs.Entry.{chain}
-use Rattle.bitstream_io.specs.ReadTable.{bytes_entry}
+use Rattle.bitstream_io.specs.Codec.{and_then}
+use Rattle.bitstream_io.specs.ReadTable.{bytes_decoder}
 use Rattle.bitstream_io.specs.Error.TheVariants.{Failed}
 use Rattle.bitstream_io.specs.Word.{Order, Low}
 use Rattle.bitstream_io.proofs.CallerLemmas.{is_error, go_grown, stop_grown, grown, part_go, part_stop, parts-begin, parts-push, parts-stop, parts-refused, grown_end, bytes_number-read, bytes_number-stops}
@@ -41,7 +41,7 @@ returns-in_err-read_entry g c =
 
 -- a reader that has failed reads no text
 text-on_failed : (o : Order) → (text_reads o).on_failed ≡ Err Failed
-unfolding chain bytes_entry
+unfolding and_then bytes_decoder
 text-on_failed o = refl
 
 pub returns-in_err-push : goal.returns-in_err-push

@@ -1,23 +1,23 @@
 -- Made by `./format` from formats/flac_start.fields: edit that file and make this one anew.
-use Rattle.bitstream_callers.specs.FlacStart.{flac_start_entry, flac_start_at, const_at_0}
+use Rattle.bitstream_callers.specs.FlacStart.{flac_start_decoder, flac_start_at, const_at_0}
 use Rattle.bitstream_callers.proofs.FlacStartLemmas.{flac_start_packs, told}
 use Rattle.bitstream_callers.specs.declared.flac_start.FlacStartError.TheVariants.{NoFlac}
 use Rattle.std.proofs.Common.{◌≡◌, ◌≢◌, ◌<◌, ◌*◌, ◌++◌, ◌∙◌, ℕ, List, Ok, Err, length, refl, ap, sym, arith}
 use Rattle.std.proofs.lemmas.Bool.{cases_lt}
 use Rattle.std.proofs.lemmas.Bool.Decides.{eqb_tells}
-use Rattle.bitstream_io.proofs.CallerLemmas.{Finds, inl, inr, is_error, own_answered, own_fields_there, own_fields_short, own_front_answered, slice_ends, bit-finds, unsigned-finds, const-finds, const-misses, gives-finds, chain-finds, packs-whole}
+use Rattle.bitstream_io.proofs.CallerLemmas.{Finds, inl, inr, is_error, own_answered, own_fields_there, own_fields_short, own_prefix_answered, slice_ends, bit-finds, unsigned-finds, const-finds, const-misses, pure-finds, and_then-finds, packs-whole}
 use Rattle.bitstream_io.specs.Callers.{High, bits}
 use Rattle.bitstream_callers.proofs.flac_start.FlacStart.parse.Goals as goal
 
 found : (packet : List ℕ) → const_at_0 (bits High packet) ≡ 1716281667
-    → Finds (bits High packet) 0 (flac_start_entry High) 64 (Ok (Ok (flac_start_at (bits High packet))))
-found packet is_0 = const-finds _ _ 32 64 _ High 1716281667 _ refl is_0 (chain-finds _ _ 32 0 _ _ _ _ (bit-finds _ _ 32
-    _ _ refl (unsigned-finds _ _ 7 31 _ High 8 _ refl refl (unsigned-finds _ _ 24 24 _ High 32 _ refl refl (gives-finds
-    _ _ _)))) (gives-finds _ _ _))
+    → Finds (bits High packet) 0 (flac_start_decoder High) 64 (Ok (Ok (flac_start_at (bits High packet))))
+found packet is_0 = const-finds _ _ 32 64 _ High 1716281667 _ refl is_0 (and_then-finds _ _ 32 0 _ _ _ _ (bit-finds _ _
+    32 _ _ refl (unsigned-finds _ _ 7 31 _ High 8 _ refl refl (unsigned-finds _ _ 24 24 _ High 32 _ refl refl
+    (pure-finds _ _ _)))) (pure-finds _ _ _))
 
 other_0 : (packet : List ℕ) → const_at_0 (bits High packet) ≢ 1716281667
-    → Finds (bits High packet) 0 (flac_start_entry High) 32 (Ok (Err NoFlac))
-other_0 packet differs = const-misses _ _ 32 32 _ High 1716281667 _ refl differs (gives-finds _ _ _)
+    → Finds (bits High packet) 0 (flac_start_decoder High) 32 (Ok (Err NoFlac))
+other_0 packet differs = const-misses _ _ 32 32 _ High 1716281667 _ refl differs (pure-finds _ _ _)
 
 pub returns-clause-answer : goal.returns-clause-answer
 returns-clause-answer c = own_answered slice_ends c.over.ensures.state refl c.read.ensures
@@ -33,8 +33,8 @@ returns-clause-there c = λ enough is_0. own_fields_there slice_ends c.over.ensu
 pub returns-clause-short : goal.returns-clause-short
 returns-clause-short c = λ few at_0.
     let all = bits High c.args.packet.now in
-    let ended = λ (n : ℕ) (x : _) (found : Finds all 0 (flac_start_entry High) n x) (less : 8 * length c.args.packet.now
-    < n). is_error _ _
+    let ended = λ (n : ℕ) (x : _) (found : Finds all 0 (flac_start_decoder High) n x) (less : 8 * length
+    c.args.packet.now < n). is_error _ _
     (own_fields_short slice_ends c.over.ensures.state refl c.read.ensures found less) in
     elim (eqb_tells (const_at_0 all) 1716281667) [
       | inl is_0 ↦ ended 64 _ (found _ is_0.1) (omega arith)
@@ -47,6 +47,6 @@ returns-clause-short c = λ few at_0.
 
 pub returns-clause-back : goal.returns-clause-back
 returns-clause-back c = λ value more fits is.
-    own_front_answered slice_ends c.over.ensures.state refl c.read.ensures (ap ((flac_start_entry High).reads 0) (is ∙
-    ap (λ w. w ++ more) (sym (told value) ∙ packs-whole (flac_start_packs High value fits) refl)) ∙
-    c.flac_start_goes_back.ensures.back High value 0 0 more fits)
+    own_prefix_answered slice_ends c.over.ensures.state refl c.read.ensures (ap ((flac_start_decoder High).reads 0) (is
+    ∙ ap (λ w. w ++ more) (sym (told value) ∙ packs-whole (flac_start_packs High value fits) refl)) ∙
+    c.flac_start_round_trip.ensures.back High value 0 0 more fits)

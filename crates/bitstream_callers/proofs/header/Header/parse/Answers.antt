@@ -1,16 +1,16 @@
 -- Made by `./format` from formats/header.fields: edit that file and make this one anew.
-use Rattle.bitstream_callers.specs.Header.{header_entry, header_at}
+use Rattle.bitstream_callers.specs.Header.{header_decoder, header_at}
 use Rattle.bitstream_callers.proofs.HeaderLemmas.{header_packs, told}
 use Rattle.std.proofs.Common.{◌++◌, ◌∙◌, ℕ, List, Ok, refl, ap, sym, arith}
-use Rattle.bitstream_io.proofs.CallerLemmas.{Finds, fields_there, fields_short, front_answered, slice_ends, bit-finds, signed-finds, unsigned-finds, gives-finds, packs-whole}
+use Rattle.bitstream_io.proofs.CallerLemmas.{Finds, fields_there, fields_short, prefix_answered, slice_ends, bit-finds, signed-finds, unsigned-finds, pure-finds, packs-whole}
 use Rattle.bitstream_io.proofs.SliceLemmas.{new_answer}
 use Rattle.bitstream_io.specs.Callers.{High, bits}
 use Rattle.bitstream_callers.proofs.header.Header.parse.Goals as goal
 
 found : (packet : List ℕ)
-    → Finds (bits High packet) 0 (header_entry High) 24 (Ok (header_at (bits High packet)))
+    → Finds (bits High packet) 0 (header_decoder High) 24 (Ok (header_at (bits High packet)))
 found packet = unsigned-finds _ _ 3 24 _ High 8 _ refl refl (bit-finds _ _ 21 _ _ refl (signed-finds _ _ 4 20 _ High 8 _
-    refl refl refl (unsigned-finds _ _ 16 16 _ High 16 _ refl refl (gives-finds _ _ _))))
+    refl refl refl (unsigned-finds _ _ 16 16 _ High 16 _ refl refl (pure-finds _ _ _))))
 
 pub returns-clause-answer : goal.returns-clause-answer
 returns-clause-answer c = new_answer slice_ends _ _ c.over.ensures.state c.read.ensures
@@ -24,6 +24,6 @@ returns-clause-short c = λ few. fields_short slice_ends c.over.ensures.state re
 
 pub returns-clause-back : goal.returns-clause-back
 returns-clause-back c = λ value more fits is.
-    front_answered slice_ends c.over.ensures.state refl c.read.ensures (ap ((header_entry High).reads 0) (is ∙ ap (λ w.
-    w ++ more) (sym (told value) ∙ packs-whole (header_packs High value fits) refl)) ∙
-    c.header_goes_back.ensures.back High value 0 0 more fits)
+    prefix_answered slice_ends c.over.ensures.state refl c.read.ensures (ap ((header_decoder High).reads 0) (is ∙ ap (λ
+    w. w ++ more) (sym (told value) ∙ packs-whole (header_packs High value fits) refl)) ∙
+    c.header_round_trip.ensures.back High value 0 0 more fits)

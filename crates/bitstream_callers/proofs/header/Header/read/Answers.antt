@@ -1,7 +1,7 @@
 -- Made by `./format` from formats/header.fields: edit that file and make this one anew.
 use borrow.Author.Rules.{sfits_of}
 use Rattle.bitstream_io.proofs.ReadSteps.{next_signed_read}
-use Rattle.bitstream_io.proofs.ReadsLemmas.{Reads-chain-ok as next, Reads-gives, exit}
+use Rattle.bitstream_io.proofs.ReadsLemmas.{Reads-and_then-ok as next, Reads-pure, exit}
 use Rattle.bitstream_callers.proofs.header.Header.read.Goals as goal
 
 pub returns-in_err-version : goal.returns-in_err-version
@@ -23,4 +23,4 @@ returns-in_err-length g c = next _ _ c.in_ok-version.ensures.reads (next _ _ c.i
 pub returns : goal.returns
 returns g c = next _ _ c.in_ok-version.ensures.reads (next _ _ c.in_ok-acknowledge.ensures.reads (next_signed_read _ _ _
     _ c.in_ok-priority.ensures.reads (search (sfits_of, c.in_ok-priority)) (next _ _ c.in_ok-length.ensures.reads
-    (Reads-gives _ _))))
+    (Reads-pure _ _))))

@@ -2,8 +2,8 @@ use Rattle.bitstream_io.proofs.CallerLemmas.{◌≡◌, ◌+◌, arith, refl, is
 use Rattle.std.proofs.Common.{Err, false}
 use Rattle.bitstream_io.specs.Error.TheVariants.{Failed}
 use Rattle.bitstream_io.specs.Word.{Order}
-use Rattle.bitstream_io.specs.Entry.{chain}
-use Rattle.bitstream_io.specs.ReadTable.{unsigned_entry}
+use Rattle.bitstream_io.specs.Codec.{and_then}
+use Rattle.bitstream_io.specs.ReadTable.{unsigned_decoder}
 use Rattle.bitstream_callers.specs.ParameterSet.{point_reads}
 use Rattle.bitstream_callers.proofs.parameter_set.ParameterSetFromBitStreamUsing.from_reader.Goals as goal
 
@@ -28,7 +28,7 @@ returns-in_err-parse g c =
 
 -- a reader that has failed reads no point
 point-on_failed : (o : Order) → (point_reads o).on_failed ≡ Err Failed
-unfolding chain unsigned_entry
+unfolding and_then unsigned_decoder
 point-on_failed o = refl
 
 pub returns-in_err-push : goal.returns-in_err-push

@@ -1,23 +1,23 @@
 -- Made by `./format` from formats/primary_header.fields: edit that file and make this one anew.
-use Rattle.bitstream_callers.specs.PrimaryHeader.{primary_header_entry, primary_header_at, const_at_0}
+use Rattle.bitstream_callers.specs.PrimaryHeader.{primary_header_decoder, primary_header_at, const_at_0}
 use Rattle.bitstream_callers.proofs.PrimaryHeaderLemmas.{primary_header_packs, told}
 use Rattle.bitstream_callers.specs.declared.primary_header.PrimaryHeaderError.TheVariants.{WrongVersion}
 use Rattle.std.proofs.Common.{◌≡◌, ◌≢◌, ◌<◌, ◌*◌, ◌++◌, ◌∙◌, ℕ, List, Ok, Err, length, refl, ap, sym, arith}
 use Rattle.std.proofs.lemmas.Bool.{cases_lt}
 use Rattle.std.proofs.lemmas.Bool.Decides.{eqb_tells}
-use Rattle.bitstream_io.proofs.CallerLemmas.{Finds, inl, inr, is_error, own_answered, own_fields_there, own_fields_short, own_front_answered, slice_ends, bit-finds, unsigned-finds, const-finds, const-misses, gives-finds, packs-whole}
+use Rattle.bitstream_io.proofs.CallerLemmas.{Finds, inl, inr, is_error, own_answered, own_fields_there, own_fields_short, own_prefix_answered, slice_ends, bit-finds, unsigned-finds, const-finds, const-misses, pure-finds, packs-whole}
 use Rattle.bitstream_io.specs.Callers.{High, bits}
 use Rattle.bitstream_callers.proofs.primary_header.PrimaryHeader.parse.Goals as goal
 
 found : (packet : List ℕ) → const_at_0 (bits High packet) ≡ 0
-    → Finds (bits High packet) 0 (primary_header_entry High) 48 (Ok (Ok (primary_header_at (bits High packet))))
+    → Finds (bits High packet) 0 (primary_header_decoder High) 48 (Ok (Ok (primary_header_at (bits High packet))))
 found packet is_0 = const-finds _ _ 3 48 _ High 0 _ refl is_0 (bit-finds _ _ 45 _ _ refl (bit-finds _ _ 44 _ _ refl
     (unsigned-finds _ _ 11 43 _ High 16 _ refl refl (unsigned-finds _ _ 2 32 _ High 8 _ refl refl (unsigned-finds _ _ 14
-    30 _ High 16 _ refl refl (unsigned-finds _ _ 16 16 _ High 16 _ refl refl (gives-finds _ _ _)))))))
+    30 _ High 16 _ refl refl (unsigned-finds _ _ 16 16 _ High 16 _ refl refl (pure-finds _ _ _)))))))
 
 other_0 : (packet : List ℕ) → const_at_0 (bits High packet) ≢ 0
-    → Finds (bits High packet) 0 (primary_header_entry High) 3 (Ok (Err WrongVersion))
-other_0 packet differs = const-misses _ _ 3 3 _ High 0 _ refl differs (gives-finds _ _ _)
+    → Finds (bits High packet) 0 (primary_header_decoder High) 3 (Ok (Err WrongVersion))
+other_0 packet differs = const-misses _ _ 3 3 _ High 0 _ refl differs (pure-finds _ _ _)
 
 pub returns-clause-answer : goal.returns-clause-answer
 returns-clause-answer c = own_answered slice_ends c.over.ensures.state refl c.read.ensures
@@ -33,7 +33,7 @@ returns-clause-there c = λ enough is_0. own_fields_there slice_ends c.over.ensu
 pub returns-clause-short : goal.returns-clause-short
 returns-clause-short c = λ few at_0.
     let all = bits High c.args.packet.now in
-    let ended = λ (n : ℕ) (x : _) (found : Finds all 0 (primary_header_entry High) n x) (less : 8 * length
+    let ended = λ (n : ℕ) (x : _) (found : Finds all 0 (primary_header_decoder High) n x) (less : 8 * length
     c.args.packet.now < n). is_error _ _
     (own_fields_short slice_ends c.over.ensures.state refl c.read.ensures found less) in
     elim (eqb_tells (const_at_0 all) 0) [
@@ -48,6 +48,6 @@ returns-clause-short c = λ few at_0.
 
 pub returns-clause-back : goal.returns-clause-back
 returns-clause-back c = λ value more fits is.
-    own_front_answered slice_ends c.over.ensures.state refl c.read.ensures (ap ((primary_header_entry High).reads 0) (is
-    ∙ ap (λ w. w ++ more) (sym (told value) ∙ packs-whole (primary_header_packs High value fits) refl)) ∙
-    c.primary_header_goes_back.ensures.back High value 0 0 more fits)
+    own_prefix_answered slice_ends c.over.ensures.state refl c.read.ensures (ap ((primary_header_decoder High).reads 0)
+    (is ∙ ap (λ w. w ++ more) (sym (told value) ∙ packs-whole (primary_header_packs High value fits) refl)) ∙
+    c.primary_header_round_trip.ensures.back High value 0 0 more fits)

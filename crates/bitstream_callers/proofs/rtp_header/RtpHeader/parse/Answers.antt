@@ -1,5 +1,5 @@
 -- Made by `./format` from formats/rtp_header.fields: edit that file and make this one anew.
-use Rattle.bitstream_callers.specs.RtpHeader.{rtp_header_entry, becomes_rtp_header}
+use Rattle.bitstream_callers.specs.RtpHeader.{rtp_header_decoder, becomes_rtp_header}
 use Rattle.std.proofs.Common.{◌∙◌, refl, ap, subst}
 use Rattle.bitstream_io.proofs.CallerLemmas.{inl, inr, is_error, slice_ends, own_grown_answered}
 use Rattle.bitstream_io.specs.Callers.{High, OwnAnswer, sure_answer}
@@ -15,9 +15,9 @@ returns-clause-answer c = elim (own_grown_answered slice_ends c.over.ensures.sta
 pub returns-clause-back : goal.returns-clause-back
 returns-clause-back c = λ value more fits is.
     elim (own_grown_answered slice_ends c.over.ensures.state refl c.read.ensures) [
-      | inl found ↦ inl (subst (λ front.
-          OwnAnswer becomes_rtp_header (λ answer. answer) (sure_answer front) c.read.result) (ap ((rtp_header_entry
-          High).reads 0) is ∙ c.rtp_header_goes_back.ensures.back High value 0 0 more fits) found)
+      | inl found ↦ inl (subst (λ prefix.
+          OwnAnswer becomes_rtp_header (λ answer. answer) (sure_answer prefix) c.read.result) (ap ((rtp_header_decoder
+          High).reads 0) is ∙ c.rtp_header_round_trip.ensures.back High value 0 0 more fits) found)
       | inr lack ↦ inr
           (is_error _ _ lack.0)
     ]

@@ -1,7 +1,7 @@
 -- Made by `./format` from formats/sample.fields: edit that file and make this one anew.
 use borrow.Author.Rules.{sfits_of}
 use Rattle.bitstream_io.proofs.ReadSteps.{next_signed_read}
-use Rattle.bitstream_io.proofs.ReadsLemmas.{Reads-chain-ok as next, Reads-gives, exit}
+use Rattle.bitstream_io.proofs.ReadsLemmas.{Reads-and_then-ok as next, Reads-pure, exit}
 use Rattle.bitstream_callers.proofs.sample.Sample.read.Goals as goal
 
 pub returns-in_err-seconds : goal.returns-in_err-seconds
@@ -23,4 +23,4 @@ returns-in_err-pressure g c = next _ _ c.in_ok-seconds.ensures.reads (next _ _ c
 pub returns : goal.returns
 returns g c = next _ _ c.in_ok-seconds.ensures.reads (next _ _ c.in_ok-running.ensures.reads (next_signed_read _ _ _ _
     c.in_ok-temperature.ensures.reads (search (sfits_of, c.in_ok-temperature)) (next _ _ c.in_ok-pressure.ensures.reads
-    (Reads-gives _ _))))
+    (Reads-pure _ _))))

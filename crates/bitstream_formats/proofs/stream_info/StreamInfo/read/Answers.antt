@@ -1,5 +1,5 @@
 -- Made by `./format` from formats/stream_info.fields: edit that file and make this one anew.
-use Rattle.bitstream_io.proofs.ReadsLemmas.{Reads-chain-ok as next, Reads-gives, exit}
+use Rattle.bitstream_io.proofs.ReadsLemmas.{Reads-and_then-ok as next, Reads-pure, exit}
 use Rattle.bitstream_formats.proofs.stream_info.StreamInfo.read.Goals as goal
 
 pub returns-in_err-minimum_block_size : goal.returns-in_err-minimum_block_size
@@ -58,4 +58,4 @@ returns g c = next _ _ c.in_ok-minimum_block_size.ensures.reads (next _ _ c.in_o
     _ _ c.in_ok-minimum_frame_size.ensures.reads (next _ _ c.in_ok-maximum_frame_size.ensures.reads (next _ _
     c.in_ok-sample_rate.ensures.reads (next _ _ c.in_ok-channels.ensures.reads (next _ _
     c.in_ok-bits_per_sample.ensures.reads (next _ _ c.in_ok-total_samples.ensures.reads (next _ _
-    c.in_ok-checksum.ensures.reads (Reads-gives _ _)))))))))
+    c.in_ok-checksum.ensures.reads (Reads-pure _ _)))))))))

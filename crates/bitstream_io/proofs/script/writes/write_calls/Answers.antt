@@ -1,12 +1,12 @@
 use Rattle.std.proofs.Common.{◌≡◌, ◌<◌, ℕ, ◌+◌, List, [], ◌∷◌, ◌++◌, length, take, set, Option, sym, ap, ◌∙◌, subst, arith}
 use Rattle.std.proofs.lemmas.List.{take_more, take_more_set}
 use Rattle.std.proofs.Math.Seq.{take-length}
-use Rattle.bitstream_count.specs.Entry.{WriteEntry}
+use Rattle.bitstream_count.specs.Codec.{Encoder}
 use Rattle.bitstream_count.specs.declared.error.Error.{Error}
-use Rattle.bitstream_io.specs.Script.{write_entry, limited, write_entries, WritesRun}
+use Rattle.bitstream_io.specs.Script.{write_encoder, limit_encoder, write_encoders, WritesSequence}
 use Rattle.bitstream_io.specs.declared.script.write_call.WriteCall.{WriteCall}
-use Rattle.bitstream_io.proofs.RunLemmas.{run_none, run_more}
-use Rattle.bitstream_io.proofs.ScriptLemmas.{counts, entries-append}
+use Rattle.bitstream_io.proofs.SequenceLemmas.{run_none, run_more}
+use Rattle.bitstream_io.proofs.ScriptLemmas.{counts, encoders-append}
 use Rattle.bitstream_io.proofs.script.writes.write_calls.Goals as goal
 
 pub loop-i-init : goal.loop-i-init
@@ -22,16 +22,16 @@ loop-i-preserved g c =
     let answer = c.err.result in
     let old = c.args.writer.now in
     let new = c.make.new.writer in
-    let entries-are : write_entries K.limit K.order (take (i + 1) calls) ≡ write_entries K.limit K.order (take i calls)
-    ++ limited K.limit (write_entry K.order call) ∷ [] =
-    ap (write_entries K.limit K.order) (take_more calls i call c.loop-i-test.true
+    let encoders-are : write_encoders K.limit K.order (take (i + 1) calls) ≡ write_encoders K.limit K.order (take i calls)
+    ++ limit_encoder K.limit (write_encoder K.order call) ∷ [] =
+    ap (write_encoders K.limit K.order) (take_more calls i call c.loop-i-test.true
     ∙ ap (λ (x : WriteCall). take i calls ++ x ∷ []) (sym c.index-calls-i.is))
-    ∙ entries-append K.limit K.order (take i calls) (call ∷ []) in
+    ∙ encoders-append K.limit K.order (take i calls) (call ∷ []) in
     let fits : i < length answers = omega arith in
-    subst (λ (es : List WriteEntry). WritesRun K es old (take (i + 1) (set answers i answer)) new) (sym entries-are)
-    (subst (λ (l : List (Option Error)). WritesRun K (write_entries K.limit K.order (take i calls)
-    ++ limited K.limit (write_entry K.order call) ∷ []) old l new) (sym (take_more_set answers i answer fits))
-    (run_more K (write_entries K.limit K.order (take i calls)) (write_entry K.order call) old c.loop-i.writer new
+    subst (λ (es : List Encoder). WritesSequence K es old (take (i + 1) (set answers i answer)) new) (sym encoders-are)
+    (subst (λ (l : List (Option Error)). WritesSequence K (write_encoders K.limit K.order (take i calls)
+    ++ limit_encoder K.limit (write_encoder K.order call) ∷ []) old l new) (sym (take_more_set answers i answer fits))
+    (run_more K (write_encoders K.limit K.order (take i calls)) (write_encoder K.order call) old c.loop-i.writer new
     (take i answers) answer c.make.result c.loop-i.invariant c.make.ensures.writes c.err.ensures.value))
 
 pub returns-clause-appends : goal.returns-clause-appends
@@ -41,9 +41,9 @@ returns-clause-appends g c =
     let answers = c.loop-i.answers in
     let every : c.loop-i.i ≡ length calls = omega arith in
     let same : c.loop-i.i ≡ length answers = omega arith in
-    subst (λ (l : List WriteCall). WritesRun K (write_entries K.limit K.order l) c.args.writer.now answers
+    subst (λ (l : List WriteCall). WritesSequence K (write_encoders K.limit K.order l) c.args.writer.now answers
     c.loop-i.writer) (ap (λ (n : ℕ). take n calls) every ∙ take-length calls)
-    (subst (λ (l : List (Option Error)). WritesRun K (write_entries K.limit K.order (take c.loop-i.i calls))
+    (subst (λ (l : List (Option Error)). WritesSequence K (write_encoders K.limit K.order (take c.loop-i.i calls))
     c.args.writer.now l c.loop-i.writer) (ap (λ (n : ℕ). take n answers) same
     ∙ take-length answers) c.loop-i.invariant)
 

@@ -1,13 +1,13 @@
 use Rattle.std.proofs.Common.{rules, arith, ◌+◌, ◌<◌, [], ◌∷◌, length, take, refl}
 use Rattle.std.proofs.lemmas.List.{take_more_set}
-use Rattle.bitstream_stream.proofs.Reading.BytesLemmas.{reads-none, stops-none, stops-front, reads-byte, stops-byte, reads-more, stops-more, seen_stops}
+use Rattle.bitstream_stream.proofs.Reading.BytesLemmas.{reads-none, stops-none, stops-prefix, reads-byte, stops-byte, reads-more, stops-more, map_stops}
 use Rattle.bitstream_stream.proofs.read.BitRead.read_bytes.Goals as goal
 
 pub returns-in_err-read_unsigned_var : goal.returns-in_err-read_unsigned_var
 returns-in_err-read_unsigned_var g c =
     record {
-      reads = seen_stops _ c.from_residual.result c.from_residual.ensures.1
-          (stops-front _ 0 _ _ _ _ (omega arith) (stops-none _ 8 _ _ _ c.in_err-read_unsigned_var.ensures.reads));
+      reads = map_stops _ c.from_residual.result c.from_residual.ensures.1
+          (stops-prefix _ 0 _ _ _ _ (omega arith) (stops-none _ 8 _ _ _ c.in_err-read_unsigned_var.ensures.reads));
     }
 
 pub loop-at-init : goal.loop-at-init
@@ -18,7 +18,7 @@ returns-in_err-buf g c =
     let o = g.Self.BitRead.source.order in
     let less : c.loop-at.at < length c.args.buf.now = search rules in
     record {
-      reads = seen_stops _ c.from_residual-in_err-buf.result c.from_residual-in_err-buf.ensures.1
+      reads = map_stops _ c.from_residual-in_err-buf.result c.from_residual-in_err-buf.ensures.1
           (stops-more o c.loop-at.at 1 (length c.args.buf.now) _ _ _ _ _ (omega (arith, less)) c.loop-at.invariant.reads
           (stops-byte o _ _ _ c.in_err-buf.ensures.reads));
     }

@@ -3,7 +3,7 @@ use Rattle.bitstream_number.proofs.Masks.{masked-is}
 use Rattle.bitstream_order.proofs.Moving.SignLemmas.{half_is}
 use Rattle.bitstream_stream.proofs.Reading.GroupLemmas.{apart, mask_below}
 use Rattle.bitstream_stream.proofs.Reading.VbrReads.{short_group-stops, short_group-takes, told-start, told-stop, told-end, Turn, turn-redundant, turn-ends, turn-overflows, turn-told, turn-below}
-use Rattle.bitstream_stream.proofs.Reading.BytesLemmas.{seen_stops}
+use Rattle.bitstream_stream.proofs.Reading.BytesLemmas.{map_stops}
 use Rattle.bitstream_stream.proofs.Reading.SignedLemmas.{Reads-fine}
 use Rattle.bitstream_stream.proofs.Reading.TableLemmas.{unsigned-on_failed}
 use Rattle.bitstream_stream.proofs.read.BitRead.read_groups.Given.{Over}
@@ -54,7 +54,7 @@ returns-in_err-group g c =
     let begins : c.loop-shift.shift < size = let less = c.loop-shift-test.true in let is = c.BITS_SIZE.ensures in
     omega (arith, less, is) in
     record {
-      reads = seen_stops _ c.from_residual.result c.from_residual.ensures.1
+      reads = map_stops _ c.from_residual.result c.from_residual.ensures.1
           (told-stop K c.args.strict g.F.Width.BITS size (2 ^ size) c.requires.some (omega (arith, c.requires.within)) _ _ _ _ _
           begins c.loop-shift.invariant.told _ c.in_err-group.ensures.reads);
     }
@@ -70,7 +70,7 @@ returns-in_err-read_unsigned g c =
     omega (arith, less, is) in
     let short : field ≤ 8 = let most = c.if-BITS-gt8.false in let is = c.BITS.ensures in omega (arith, most, is) in
     record {
-      reads = seen_stops _ c.from_residual-in_err-read_unsigned.result c.from_residual-in_err-read_unsigned.ensures.1
+      reads = map_stops _ c.from_residual-in_err-read_unsigned.result c.from_residual-in_err-read_unsigned.ensures.1
           (told-stop K c.args.strict field size (2 ^ size) c.requires.some (omega (arith, within)) _ _ _ _ _ begins inv.told _
           (short_group-stops K.order field size _ short (omega (arith, within)) c.in_err-read_unsigned.ensures.reads));
     }

@@ -1,12 +1,12 @@
 use Rattle.std.proofs.Common.{false}
-use Rattle.bitstream_stream.proofs.Reading.BytesLemmas.{seen_stops}
+use Rattle.bitstream_stream.proofs.Reading.BytesLemmas.{map_stops}
 use Rattle.bitstream_stream.proofs.Reading.VbrReads.{signed_vbr-stops, signed_vbr-takes}
 use Rattle.bitstream_stream.proofs.read.BitRead.read_signed_vbr_any.Goals as goal
 
 pub returns-in_err-place : goal.returns-in_err-place
 returns-in_err-place g c =
     record {
-      reads = seen_stops _ c.from_residual.result c.from_residual.ensures.1
+      reads = map_stops _ c.from_residual.result c.from_residual.ensures.1
           (signed_vbr-stops false _ _ _ _ g.met.S.SignedInteger.same_size_law _ c.in_err-place.ensures.reads);
     }
 

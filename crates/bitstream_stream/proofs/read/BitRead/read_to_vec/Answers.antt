@@ -1,13 +1,13 @@
 use Rattle.std.proofs.Common.{rules, arith, ◌≡◌, ◌+◌, ◌-◌, length, sym, ap, ◌∙◌, length-append}
-use Rattle.bitstream_stream.proofs.Reading.BytesLemmas.{reads-none, stops-none, stops-front, reads-more, stops-more, seen_stops, lacks-more, grown_length, grown_part}
+use Rattle.bitstream_stream.proofs.Reading.BytesLemmas.{reads-none, stops-none, stops-prefix, reads-more, stops-more, map_stops, lacks-more, grown_length, grown_part}
 use Rattle.bitstream_stream.proofs.Reading.ReadsLemmas.{Reads-growing}
 use Rattle.bitstream_stream.proofs.read.BitRead.read_to_vec.Goals as goal
 
 pub returns-in_err-read_unsigned_var : goal.returns-in_err-read_unsigned_var
 returns-in_err-read_unsigned_var g c =
     record {
-      reads = seen_stops _ c.from_residual.result c.from_residual.ensures.1
-          (Reads-growing (stops-front _ 0 _ _ _ _ (omega arith)
+      reads = map_stops _ c.from_residual.result c.from_residual.ensures.1
+          (Reads-growing (stops-prefix _ 0 _ _ _ _ (omega arith)
           (stops-none _ 8 _ _ _ c.in_err-read_unsigned_var.ensures.reads)));
     }
 
@@ -35,7 +35,7 @@ returns-in_err-read_bytes g c =
     let size : length all ≡ end = grown_length c.loop-at.buf.items all end is (omega (arith, inv.len)) in
     let fits : length c.read_bytes.new.buf ≡ length all - at = search rules in
     record {
-      reads = seen_stops _ c.from_residual-in_err-read_bytes.result c.from_residual-in_err-read_bytes.ensures.1
+      reads = map_stops _ c.from_residual-in_err-read_bytes.result c.from_residual-in_err-read_bytes.ensures.1
           (Reads-growing (stops-more _ at _ c.args.bytes _ _ _ _ _ (omega (
             arith,
             size,

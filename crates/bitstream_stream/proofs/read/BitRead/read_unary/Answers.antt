@@ -2,7 +2,7 @@ use Rattle.std.proofs.Common.{arith, ◌≡◌, ◌+◌, ◌^◌, subst, refl, O
 use Rattle.std.specs.Prelude.{◌==◌}
 use Rattle.bitstream_count.specs.declared.error.Error.TheVariants.{RunTooLong}
 use Rattle.bitstream_stream.specs.Reading.Reads.{Reads}
-use Rattle.bitstream_stream.specs.Reading.ReadTable.{unary_entry}
+use Rattle.bitstream_stream.specs.Reading.ReadTable.{unary_decoder}
 use Rattle.bitstream_stream.proofs.Reading.BytesLemmas.{stops}
 use Rattle.bitstream_stream.proofs.Reading.ReadsLemmas.{Begun-nil}
 use Rattle.bitstream_stream.proofs.Reading.UnaryReads.{unary-stops, unary-ends, unary-more, unary-too_long}
@@ -15,7 +15,7 @@ pub returns-in_err-read_bit : goal.returns-in_err-read_bit
 returns-in_err-read_bit g c =
     let stop = c.BITS-stop.result == 1 in
     record {
-      reads = subst (λ n. Reads g.Self.BitRead.source (unary_entry (n == 1)) c.args.self.now c.from_residual.result
+      reads = subst (λ n. Reads g.Self.BitRead.source (unary_decoder (n == 1)) c.args.self.now c.from_residual.result
           c.read_bit.new.self) c.BITS-stop.ensures
           (stops c.from_residual.result c.from_residual.ensures.1
           (unary-stops stop c.loop-self.count _ _ _ _ c.loop-self.invariant.few c.loop-self.invariant.begun
@@ -26,7 +26,7 @@ pub returns-then-branch-stop : goal.returns-then-branch-stop
 returns-then-branch-stop g c =
     let stop = c.BITS-stop.result == 1 in
     record {
-      reads = subst (λ n. Reads g.Self.BitRead.source (unary_entry (n == 1)) c.args.self.now (Ok c.loop-self.count)
+      reads = subst (λ n. Reads g.Self.BitRead.source (unary_decoder (n == 1)) c.args.self.now (Ok c.loop-self.count)
           c.read_bit.new.self) c.BITS-stop.ensures
           (unary-ends stop c.loop-self.count _ _ _ _ c.loop-self.invariant.few c.if-branch-stop.true
           c.loop-self.invariant.begun c.in_ok-read_bit.ensures.reads);
@@ -37,7 +37,7 @@ returns-then-count g c =
     let stop = c.BITS-stop.result == 1 in
     let last : c.loop-self.count + 1 ≡ 2 ^ 32 = omega arith in
     record {
-      reads = subst (λ n. Reads g.Self.BitRead.source (unary_entry (n == 1)) c.args.self.now (Err RunTooLong)
+      reads = subst (λ n. Reads g.Self.BitRead.source (unary_decoder (n == 1)) c.args.self.now (Err RunTooLong)
           c.fail.new.self) c.BITS-stop.ensures
           (unary-too_long stop (c.loop-self.count + 1) _ c.read_bit.new.self _ last
           (unary-more stop c.loop-self.count (c.loop-self.count + 1) _ _ _ _ refl c.if-branch-stop.false

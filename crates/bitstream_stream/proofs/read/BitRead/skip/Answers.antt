@@ -1,5 +1,5 @@
 use Rattle.std.proofs.Common.{arith, ◌+◌, ◌*◌, ◌%◌, Ok, Err, refl}
-use Rattle.bitstream_stream.proofs.Reading.BytesLemmas.{skips, skips-stop, skips-more, skips-front, stops}
+use Rattle.bitstream_stream.proofs.Reading.BytesLemmas.{skips, skips-stop, skips-more, skips-prefix, stops}
 use Rattle.bitstream_stream.proofs.read.BitRead.skip.Goals as goal
 
 pub returns-in_err-read_unsigned_var : goal.returns-in_err-read_unsigned_var
@@ -7,7 +7,7 @@ returns-in_err-read_unsigned_var g c =
     let first = c.args.bits % 128 in
     record {
       reads = stops c.from_residual.result c.from_residual.ensures.1
-          (skips-front first c.args.bits _ _ _ (omega arith)
+          (skips-prefix first c.args.bits _ _ _ (omega arith)
           (skips-stop _ 128 first _ _ _ (omega arith) c.in_err-read_unsigned_var.ensures.reads));
     }
 
@@ -22,7 +22,7 @@ returns-in_err-read_unsigned_var-2 g c =
     record {
       reads = stops c.from_residual-in_err-read_unsigned_var-2.result
           c.from_residual-in_err-read_unsigned_var-2.ensures.1
-          (skips-front (at + 128) c.args.bits _ _ _ (omega arith)
+          (skips-prefix (at + 128) c.args.bits _ _ _ (omega arith)
           (skips-more at 128 (at + 128) (Err _) _ _ _ refl c.loop-done.invariant
           (skips-stop _ 128 128 _ _ _ (omega arith) c.in_err-read_unsigned_var-2.ensures.reads)));
     }

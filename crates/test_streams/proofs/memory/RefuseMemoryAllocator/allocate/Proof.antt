@@ -37,7 +37,7 @@ use denote.RawPtr.{block_ptr}
 use denote.Builtin.{usize, RefOf}
 use denote.Triple.Call.{calls_at}
 use Rattle.std.proofs.alloc.Calls.{Al, α, seen, Answer, answer_val, Answer-typed, Answer-Ok, Answer-err, takes_key, Takes, at_takes, Answered, Takes-goes, Takes-gives, answers}
-use Rattle.test_streams.proofs.Asked.{Serves, at_serves, Serves-goes, Serves-gives}
+use Rattle.test_streams.proofs.Asked.{Serves, at_serves, Serves-goes, Serves-pure}
 use Rattle.test_streams.proofs.memory.serves.Symbol as c_sym
 use Rattle.test_streams.proofs.memory.serves.Met as c_met
 use Rattle.test_streams.specs.contracts.memory.RefuseMemory as wrapper
@@ -124,7 +124,7 @@ module _ (Z : Al) {M : Type 1} {𝓤 : Ura M} (𝓛 : Logic 𝓤) (at_mem : Memo
         use2 𝓛 (raw ((Serves 𝓛 at_mem run).pre (at_serves 𝓛 at_mem run κ₁ q₁ c))) (Serves-goes 𝓛 at_mem run κ₁ q₁ c) $
         calls_at ! (fm_of 𝓤 H 𝓛.laws 𝓣) (Serves 𝓛 at_mem run) kn (at_serves 𝓛 at_mem run κ₁ q₁ c)
         (and_then ! (get ! refl) (no_more !)) (λ u.
-        use1 𝓛 (later (some (λ (b : Bool). given (u ≡ vbool b) (‵ (flft κ₁ q₁))))) (Serves-gives 𝓛 at_mem run κ₁ q₁ c u)
+        use1 𝓛 (later (some (λ (b : Bool). given (u ≡ vbool b) (‵ (flft κ₁ q₁))))) (Serves-pure 𝓛 at_mem run κ₁ q₁ c u)
         $ await ! tt $ pick ! (λ b. learn ! (λ eu. lands_as ! eu refl (tt, tt) $ move ! (1 ∷ []) $
         first ! $ branches ! (get ! refl)
         (λ yes.

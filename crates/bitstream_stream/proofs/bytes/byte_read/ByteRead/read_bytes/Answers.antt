@@ -1,5 +1,5 @@
 use Rattle.std.proofs.Common.{take, arith}
-use Rattle.bitstream_stream.proofs.Reading.ReadsLemmas.{seen_err}
+use Rattle.bitstream_stream.proofs.Reading.ReadsLemmas.{map_err}
 use Rattle.bitstream_stream.proofs.WholeBytes.ByteReadsLemmas.{bytes_none, bytes_stop, byte_put}
 use Rattle.bitstream_stream.proofs.bytes.byte_read.ByteRead.read_bytes.Goals as goal
 
@@ -9,7 +9,7 @@ loop-i-init g c = bytes_none c.args.self.now
 pub returns-in_err-byte : goal.returns-in_err-byte
 returns-in_err-byte g c =
     record {
-      reads = rw (seen_err _ c.from_residual.result c.from_residual.ensures.1)
+      reads = rw (map_err _ c.from_residual.result c.from_residual.ensures.1)
           (bytes_stop c.loop-i.i 1 _ (take c.loop-i.i c.loop-i.buf) _ c.args.self.now c.loop-i.self c.read.new.self
           (omega arith) c.loop-i.invariant c.in_err-byte.ensures.reads);
     }

@@ -1,6 +1,6 @@
 use Rattle.std.proofs.Common.{rules, arith, ◌≡◌, ◌+◌, ◌-◌, length, sym, ap, ◌∙◌, length-append}
 use Rattle.bitstream_stream.proofs.Reading.BytesLemmas.{grown_length, grown_part}
-use Rattle.bitstream_stream.proofs.Reading.ReadsLemmas.{seen_err}
+use Rattle.bitstream_stream.proofs.Reading.ReadsLemmas.{map_err}
 use Rattle.bitstream_stream.proofs.WholeBytes.ByteReadsLemmas.{bytes_none, bytes_then, bytes_stop, bytes_starved}
 use Rattle.bitstream_stream.proofs.bytes.byte_read.ByteRead.read_to_vec.Goals as goal
 
@@ -14,7 +14,7 @@ loop-at-init g c = record {
 pub returns-in_err-grow : goal.returns-in_err-grow
 returns-in_err-grow g c =
     record {
-      reads = rw (seen_err _ c.from_residual.result c.from_residual.ensures.1)
+      reads = rw (map_err _ c.from_residual.result c.from_residual.ensures.1)
           (bytes_starved _ c.args.bytes _ c.args.self.now c.loop-at.self c.loop-at-test.true c.loop-at.invariant.reads);
     }
 
@@ -29,7 +29,7 @@ returns-in_err-read_bytes g c =
     let size : length all ≡ end = grown_length items all end is (omega (arith, inv.len)) in
     let fits : length c.read_bytes.new.buf ≡ length all - at = search rules in
     record {
-      reads = rw (seen_err _ c.from_residual-in_err-read_bytes.result c.from_residual-in_err-read_bytes.ensures.1)
+      reads = rw (map_err _ c.from_residual-in_err-read_bytes.result c.from_residual-in_err-read_bytes.ensures.1)
           (bytes_stop at _ c.args.bytes items _ c.args.self.now c.loop-at.self c.read_bytes.new.self
           (omega (arith, size, fits, c.read_bytes.auto.buf, c.min.ensures, inv.within)) inv.reads
           c.in_err-read_bytes.ensures.reads);

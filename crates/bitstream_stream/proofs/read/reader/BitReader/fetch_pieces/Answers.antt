@@ -2,7 +2,7 @@ use Rattle.std.proofs.Common.{rules, arith, ◌≡◌, ◌+◌, length, take, re
 use Rattle.std.proofs.lemmas.Slice.{take-put_mid}
 use Rattle.bitstream_order.specs.Moving.Pieces.{pieces}
 use Rattle.bitstream_stream.specs.Reading.Reader.{requests_made}
-use Rattle.bitstream_stream.proofs.Reading.BytesLemmas.{bytes-nothing, reads-more, stops-more, seen_stops}
+use Rattle.bitstream_stream.proofs.Reading.BytesLemmas.{bytes-nothing, reads-more, stops-more, map_stops}
 use Rattle.bitstream_stream.proofs.PieceCounts.{reaches-none, pieces-all}
 use Rattle.bitstream_stream.proofs.read.reader.BitReader.fetch_pieces.Goals as goal
 
@@ -24,7 +24,7 @@ pub returns-in_err-fetch_bytes-clause-reads : goal.returns-in_err-fetch_bytes-cl
 returns-in_err-fetch_bytes-clause-reads g c =
     let inv = c.loop-at.invariant.1 in
     let len : length c.fetch_bytes.new.buf ≡ c.min.result = search rules in
-    seen_stops _ c.from_residual.result c.from_residual.ensures.1
+    map_stops _ c.from_residual.result c.from_residual.ensures.1
     (stops-more g.E.Endianness.order c.loop-at.at _ _ _ _ _ _ _ (omega (
       arith,
       len,

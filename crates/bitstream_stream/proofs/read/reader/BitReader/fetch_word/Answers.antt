@@ -4,7 +4,7 @@ use Rattle.bitstream_order.specs.Port.{source_state}
 use Rattle.bitstream_order.proofs.PartLemmas.{first_below}
 use Rattle.bitstream_order.proofs.Moving.TakeLemmas.{takes_none, takes_as}
 use Rattle.bitstream_stream.specs.Reading.Reads.{was_done, was_refused}
-use Rattle.bitstream_stream.proofs.Reading.ReadsLemmas.{seen_err}
+use Rattle.bitstream_stream.proofs.Reading.ReadsLemmas.{map_err}
 use Rattle.bitstream_stream.proofs.Reading.ReaderLemmas.{answered, stopped, takes_fetched}
 use Rattle.bitstream_stream.proofs.read.reader.BitReader.fetch_word.Goals as goal
 
@@ -17,7 +17,7 @@ returns-in_err-value-clause-reads g c =
     let few = c.args.self.now.few in
     let o = g.E.Endianness.order in
     let queue = first_part o c.args.self.now.queue 8 queued in
-    rw (seen_err g.U.UnsignedInteger.value c.from_residual.result c.from_residual.ensures.1)
+    rw (map_err g.U.UnsignedInteger.value c.from_residual.result c.from_residual.ensures.1)
     (was_refused (stopped o _ _ queued queue c.args.bits queued queue ((c.args.bits - queued + 7) / 8) _ _ _ _ _ _ p p
     new c.requires.fine c.requires.room c.requires.more c.requires.more (omega arith) (omega (arith, c.add.ensures))
     (takes_none o queued queue queued p (first_below o c.args.self.now.queue 8 queued byte (omega arith)) refl)

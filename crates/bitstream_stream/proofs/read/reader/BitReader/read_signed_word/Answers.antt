@@ -1,5 +1,5 @@
 use Rattle.std.proofs.Common.{arith, refl}
-use Rattle.bitstream_stream.proofs.Reading.SignedLemmas.{signed-failed, signed-bare, signed-stops, signed-was_done, unsigned-below, unsigned-within, seen_is}
+use Rattle.bitstream_stream.proofs.Reading.SignedLemmas.{signed-failed, signed-bare, signed-stops, signed-was_done, unsigned-below, unsigned-within, map_is}
 use Rattle.bitstream_stream.proofs.read.reader.BitReader.read_signed_word.Goals as goal
 
 pub returns-then-self-clause-reads : goal.returns-then-self-clause-reads
@@ -14,7 +14,7 @@ returns-then-bits-eq0-clause-asks g c = (omega arith, λ _. refl)
 pub returns-in_err-word-clause-reads : goal.returns-in_err-word-clause-reads
 returns-in_err-word-clause-reads g c =
     rw (← g.met.S.SignedInteger.same_size_law)
-    (signed-stops _ _ _ (omega arith) (seen_is _ g.S.Numeric.integer c.from_residual.result c.from_residual.ensures.1)
+    (signed-stops _ _ _ (omega arith) (map_is _ g.S.Numeric.integer c.from_residual.result c.from_residual.ensures.1)
     c.in_err-word.ensures.reads)
 
 pub signed_of-requires-clause-within : goal.signed_of-requires-clause-within

@@ -1,7 +1,7 @@
 use Rattle.std.proofs.Common.{rules, ◌≡◌, ◌+◌, ◌*◌, ◌≤◌, take, length, Ok, refl, subst, arith, length-take-le}
 use Rattle.bitstream_stream.specs.Reading.Reads.{Reads}
 use Rattle.bitstream_stream.specs.Reading.Reader.{reader_source}
-use Rattle.bitstream_stream.specs.Reading.ReadTable.{skip_entry}
+use Rattle.bitstream_stream.specs.Reading.ReadTable.{skip_decoder}
 use Rattle.bitstream_stream.proofs.Reading.BytesLemmas.{skips-failed, skips-none, skips-bytes, skips-bytes-stop, stops}
 use Rattle.bitstream_stream.proofs.read.reader.BitReader.skip_bytes.Goals as goal
 
@@ -40,4 +40,4 @@ returns g c =
     let K = reader_source {E = g.row.E.Denot} g.R.Source.stream
     g.E.Endianness.order in
     let all : c.loop-left.invariant.0 ≡ c.args.bytes = omega (arith, c.loop-left-test.false, c.loop-left.invariant.1) in
-    subst (λ n. Reads K (skip_entry (8 * n)) c.args.self.now (Ok tt) c.loop-left.self) all c.loop-left.invariant.2
+    subst (λ n. Reads K (skip_decoder (8 * n)) c.args.self.now (Ok tt) c.loop-left.self) all c.loop-left.invariant.2

@@ -1,12 +1,12 @@
 use Rattle.std.proofs.Common.{arith, ◌<◌, ◌^◌, ◌∙◌, ap}
 use Rattle.bitstream_number.specs.Word.{count_width}
-use Rattle.bitstream_stream.proofs.Reading.SignedLemmas.{count-was_done, count-stops, count_never_above, seen_is}
+use Rattle.bitstream_stream.proofs.Reading.SignedLemmas.{count-was_done, count-stops, count_never_above, map_is}
 use Rattle.bitstream_stream.proofs.read.reader.BitReaderBitRead.read_count.Goals as goal
 
 pub returns-in_err-number-clause-reads : goal.returns-in_err-number-clause-reads
 returns-in_err-number-clause-reads g c =
     count-stops _ g.C.Count.MAX _ (c.count_bits.ensures.width ∙ ap count_width c.MAX.ensures) c.count_bits.ensures.bound
-    (seen_is _ g.C.Count.number c.from_residual.result c.from_residual.ensures.1) c.in_err-number.ensures.reads
+    (map_is _ g.C.Count.number c.from_residual.result c.from_residual.ensures.1) c.in_err-number.ensures.reads
 
 pub returns-in_err-number-clause-asks : goal.returns-in_err-number-clause-asks
 returns-in_err-number-clause-asks g c = rw (c.count_bits.ensures.width, c.MAX.ensures) at c.in_err-number.ensures.asks

@@ -1,5 +1,5 @@
 use Rattle.std.proofs.Common.{rules, ◌+◌, ◌-◌, ◌*◌, ◌/◌, ◌%◌, Ok, Err, refl, arith}
-use Rattle.bitstream_stream.proofs.Reading.BytesLemmas.{skips, skips-stop, skips-more, skips-front, stops}
+use Rattle.bitstream_stream.proofs.Reading.BytesLemmas.{skips, skips-stop, skips-more, skips-prefix, stops}
 use Rattle.bitstream_stream.proofs.read.reader.BitReaderBitRead.skip.Goals as goal
 
 pub returns-in_err-read_unsigned_var : goal.returns-in_err-read_unsigned_var
@@ -23,7 +23,7 @@ returns-in_err-read_unsigned_var-2 g c =
     record {
       reads = stops c.from_residual-in_err-read_unsigned_var-2.result
           c.from_residual-in_err-read_unsigned_var-2.ensures.1
-          (skips-front first c.args.bits _ _ _ (omega arith)
+          (skips-prefix first c.args.bits _ _ _ (omega arith)
           (skips-stop _ 8 first _ _ _ (omega arith) c.in_err-read_unsigned_var-2.ensures.reads));
     }
 
@@ -35,7 +35,7 @@ returns-in_err-skip_bytes g c =
     let whole = 8 * ((c.args.bits - first) / 8) in
     record {
       reads = stops c.from_residual-in_err-skip_bytes.result c.from_residual-in_err-skip_bytes.ensures.1
-          (skips-front (first + whole) c.args.bits _ _ _ (omega arith)
+          (skips-prefix (first + whole) c.args.bits _ _ _ (omega arith)
           (skips-more first whole _ (Err _) _ _ _ refl
           (skips _ 8 first first _ _ _ (omega arith) refl c.in_ok-read_unsigned_var-2.ensures.reads)
           c.in_err-skip_bytes.ensures));

@@ -1,5 +1,5 @@
 use Rattle.std.proofs.Math.Nat.{min-eq_left, min-le_left}
-use Rattle.std.proofs.Common.{◌∙◌, ap, sym, ◌≡◌, ◌-◌, ◌*◌, ◌≤◌, ◌<◌, ◌^◌, length, arith}
+use Rattle.std.proofs.Common.{◌∙◌, ◌≡◌, ◌≤◌, ◌<◌, ◌^◌, arith}
 use Rattle.bitstream_stream.proofs.Reading.MemoryLemmas.{left_known, left_of_all}
 use Rattle.bitstream_stream.proofs.read.slice_reader.SliceReader.bits_left.Goals as goal
 

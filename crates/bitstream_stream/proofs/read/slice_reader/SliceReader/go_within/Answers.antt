@@ -1,4 +1,4 @@
-use Rattle.std.proofs.Common.{◌≡◌, ◌*◌, ◌≤◌, length, refl, arith}
+use Rattle.std.proofs.Common.{◌*◌, ◌≤◌, length, refl, arith}
 use Rattle.bitstream_stream.specs.Reading.MemorySeek.{GoesWithin}
 use Rattle.bitstream_stream.proofs.Reading.MemorySeeks.{stands}
 use Rattle.bitstream_stream.proofs.read.slice_reader.SliceReader.go_within.Goals as goal

@@ -32,5 +32,5 @@ returns-clause-reads g c =
     ] in
     number_read o 64 1 _ c.args.self.now _ c.if-self.false (omega arith)
     (fetched o 1 _ _ c.args.self.now c.go_on.new.self (omega (arith, few))
-    (first_agree o c.args.self.now.bytes.now 1 (c.args.self.now.bit + 1) c.first.result there (omega (arith, few))
-    (omega arith) c.first.ensures) c.middle-bit.ensures c.go_on.ensures)
+    (first_agree o c.args.self.now.bytes.now 1 (c.args.self.now.bit + 1) c.load_first.result there (omega (arith, few))
+    (omega arith) c.load_first.ensures) c.middle-bit.ensures c.go_on.ensures)

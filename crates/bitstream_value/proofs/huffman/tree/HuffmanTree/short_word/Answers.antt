@@ -10,7 +10,7 @@ pub returns-in-Ok : goal.returns-in-Ok
 returns-in-Ok g c =
     let w = symbol_word g.S.PartialEq.eq (tree_of c.args.self.now) c.args.symbol in
     all-behind w c.new-word.result c.to_bits.new.put c.in-Ok.ensures.writes
-    ∙ ap (λ (front : List Bool). front ++ w) c.new-word.ensures
+    ∙ ap (λ (prefix : List Bool). prefix ++ w) c.new-word.ensures
 
 pub returns-in-Err : goal.returns-in-Err
 returns-in-Err g c =

@@ -2,7 +2,7 @@ use Rattle.std.proofs.Common.{◌≡◌, ◌<◌, ℕ, ◌+◌, List, ◌++◌, 
 use Rattle.std.specs.Prelude.{flat_map}
 use Rattle.std.proofs.lemmas.Result.{err_from_is_err_and}
 use Rattle.std.proofs.Math.Seq.{take-length}
-use Rattle.bitstream_count.specs.Entry.{WriteEntry}
+use Rattle.bitstream_count.specs.Codec.{Encoder}
 use Rattle.bitstream_stream.specs.Writing.Sink.{WritesAll}
 use Rattle.bitstream_stream.proofs.Writing.WriteParts.{all_none, all_append, all_stop, flat_map-take, flat_map-split}
 use Rattle.bitstream_value.proofs.integer.array.ArrayVBRInteger.write_vbr.Goals as goal
@@ -20,7 +20,7 @@ returns-in_err-write_vbr g c =
     let x = get_or xs k c.item-item.result in
     let fits : k < length xs = omega arith in
     record {
-      writes = subst (λ (es : List WriteEntry). WritesAll K es c.args.writer.now c.from_residual.result
+      writes = subst (λ (es : List Encoder). WritesAll K es c.args.writer.now c.from_residual.result
           c.write_vbr.new.writer) (sym (flat_map-split f xs k c.item-item.result fits))
           (all_append K (flat_map f (take k xs)) (f x ++ flat_map f (drop (k + 1) xs)) c.args.writer.now
           c.loop-item.writer c.from_residual.result c.write_vbr.new.writer c.loop-item.invariant
@@ -36,7 +36,7 @@ loop-item-preserved g c =
     let k = c.loop-item.item-index in
     let x = get_or xs k c.item-item.result in
     let fits : k < length xs = omega arith in
-    subst (λ (es : List WriteEntry). WritesAll K es c.args.writer.now (Ok tt) c.write_vbr.new.writer)
+    subst (λ (es : List Encoder). WritesAll K es c.args.writer.now (Ok tt) c.write_vbr.new.writer)
     (sym (flat_map-take f xs k c.item-item.result fits))
     (all_append K (flat_map f (take k xs)) (f x) c.args.writer.now c.loop-item.writer (Ok tt) c.write_vbr.new.writer
     c.loop-item.invariant c.in_ok-write_vbr.ensures.writes)

@@ -1,0 +1,9 @@
+-- Made by `./format` from formats/rtp_header.fields: edit that file and make this one anew.
+use Rattle.bitstream_callers.proofs.RtpHeaderLemmas.{rtp_header_goes, rtp_header_packs}
+use Rattle.bitstream_callers.proofs.rtp_header.rtp_header_round_trip.Goals as goal
+
+pub returns-clause-back : goal.returns-clause-back
+returns-clause-back c = λ o value at from more fits. (rtp_header_goes o value fits).back at from more
+
+pub returns-clause-size : goal.returns-clause-size
+returns-clause-size c = λ o value at fits. (rtp_header_packs o value fits).size at

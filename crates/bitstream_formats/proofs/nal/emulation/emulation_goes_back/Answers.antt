@@ -1,5 +1,0 @@
-use Rattle.bitstream_formats.proofs.EmulationLemmas.{without-with}
-use Rattle.bitstream_formats.proofs.nal.emulation.emulation_goes_back.Goals as goal
-
-pub returns : goal.returns
-returns c = without-with 0
