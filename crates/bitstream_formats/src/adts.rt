@@ -4,7 +4,7 @@ ghost use Rattle.bitstream_formats.specs.AdtsFrame.{HasHeader, header_bytes};
 
 use crate::adts_header::{AdtsHeader, AdtsHeaderError};
 use crate::at::At;
-use crate::element::{Element, Syntax};
+use crate::element::{Element, Index, Syntax};
 use bitstream_io::{BE, BitRead, Error, SliceReader};
 
 /// Errors of [`Frames::next_frame`].
@@ -113,7 +113,7 @@ fn header_bytes(header: &AdtsHeader) -> usize
 /// `blocks` such blocks.
 fn read_checksum(syntax: &mut Syntax<'_, '_, '_, BE>, blocks: u8) -> Result<(), Error> {
     for at in 0..blocks as u32 {
-        syntax.index = Some(at.saturating_add(1));
+        syntax.index = Some(Index::One(at.saturating_add(1)));
         syntax.number("raw_data_block_position", 16)?;
     }
     syntax.index = None;

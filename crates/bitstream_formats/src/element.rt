@@ -4,6 +4,27 @@ ghost use Rattle.std.specs.Prelude.{◌<◌, ◌^◌, IfOk};
 use bitstream_io::{BitRead, BitReadExt, Endianness, Error, SliceReader};
 use std::fmt;
 
+/// The numbers of an element of a list, or of a list of lists. They are displayed in brackets.
+#[derive(Clone, Copy, Debug, PartialEq)]
+pub enum Index {
+    /// Its number in a list.
+    One(u32),
+    /// The number of its list, and its number in it.
+    Two(u32, u32),
+    /// The numbers of two lists, and its number in the inner one.
+    Three(u32, u32, u32),
+}
+
+impl fmt::Display for Index {
+    fn fmt<W: fmt::Write>(&self, f: &mut fmt::Formatter<W>) -> fmt::Result {
+        match *self {
+            Index::One(at) => write!(f, "[{at}]"),
+            Index::Two(list, at) => write!(f, "[{list}][{at}]"),
+            Index::Three(outer, list, at) => write!(f, "[{outer}][{list}][{at}]"),
+        }
+    }
+}
+
 /// An element that was read. It is displayed as its place, its name and its value.
 #[derive(Clone, Copy, Debug, PartialEq)]
 pub struct Element {
@@ -11,8 +32,8 @@ pub struct Element {
     pub place: u64,
     /// The name in the format's document.
     pub name: &'static str,
-    /// The index among elements of the same name.
-    pub index: Option<u32>,
+    /// The indexes among elements of the same name.
+    pub index: Option<Index>,
     /// The value. For an unsigned number of 64 bits, the signed number with the same bits.
     pub value: i64,
 }
@@ -20,7 +41,7 @@ pub struct Element {
 impl fmt::Display for Element {
     fn fmt<W: fmt::Write>(&self, f: &mut fmt::Formatter<W>) -> fmt::Result {
         match self.index {
-            Some(index) => write!(f, "{} {}[{index}] {}", self.place, self.name, self.value),
+            Some(index) => write!(f, "{} {}{index} {}", self.place, self.name, self.value),
             None => write!(f, "{} {} {}", self.place, self.name, self.value),
         }
     }
@@ -33,8 +54,8 @@ pub(crate) struct Syntax<'r, 'a, 'b, E: Endianness> {
     pub(crate) reader: &'r mut SliceReader<'a, E>,
     /// The elements read.
     pub(crate) elements: &'b mut Vec<Element>,
-    /// The number of the elements that are being read.
-    pub(crate) index: Option<u32>,
+    /// The numbers of the elements that are being read.
+    pub(crate) index: Option<Index>,
     /// The place of the reader's first bit.
     pub(crate) start: u64,
 }

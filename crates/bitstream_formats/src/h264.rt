@@ -6,43 +6,29 @@ ghost use Rattle.std.specs.Prelude.{◌≡◌, IsErr};
 
 use crate::at::At;
 use crate::element::{Element, Syntax};
+use crate::nal::{UnitError, check_delimiter, last_one, read_trailing_bits};
 use bitstream_io::{BE, BitRead, Error, SliceReader};
 use std::alloc::Global;
 
-mod emulation;
-mod golomb;
 mod pps;
 mod scaling;
 mod sets;
 mod sps;
 mod stream;
-mod trailing;
-mod units;
 mod vui;
 
-pub use emulation::{emulation_round_trip, remove_emulation};
+pub use crate::nal::{Units, emulation_round_trip, remove_emulation};
 use pps::read_pps;
 pub use sets::{ParameterSets, PictureSet, SequenceSet};
 use sps::read_sps;
-pub use stream::{RefusedUnit, Stream};
-use trailing::{check_end, last_one, read_trailing_bits};
-pub use units::Units;
+pub use stream::Stream;
 
 /// The reason why a unit is refused.
 #[derive(Debug, Drop, thiserror::Error)]
 pub enum H264Error {
-    /// The bits were not read, or memory was refused.
+    /// The unit is wrong, whatever it holds.
     #[error("{0}")]
-    Reader(Error),
-    /// The stream has no start code.
-    #[error("no start code of H.264")]
-    NoStartCode,
-    /// The unit has no byte.
-    #[error("an empty unit")]
-    EmptyUnit,
-    /// The first bit of the unit is not 0.
-    #[error("the forbidden bit is set")]
-    Forbidden,
+    Unit(UnitError),
     /// The number of a sequence parameter set is above 31.
     #[error("the number of a sequence parameter set is {0}, and the greatest is 31")]
     SequenceNumber(u32),
@@ -52,12 +38,6 @@ pub enum H264Error {
     /// A picture parameter set names a sequence parameter set that was not read.
     #[error("sequence parameter set {0} is missing")]
     MissingSequence(u32),
-    /// The bit `rbsp_stop_one_bit` at the end of a unit's contents is 0 or missing.
-    #[error("rbsp_stop_one_bit is not 1")]
-    NoStopBit,
-    /// A bit after `rbsp_stop_one_bit` is 1.
-    #[error("a bit after rbsp_stop_one_bit is 1")]
-    BitAfterStop,
     /// A buffer has more than 32 schedules.
     #[error("more than 32 schedules of a buffer")]
     TooManySchedules,
@@ -69,9 +49,15 @@ pub enum H264Error {
     TooManyFrames,
 }
 
+impl From<UnitError> for H264Error {
+    fn from(error: UnitError) -> H264Error {
+        H264Error::Unit(error)
+    }
+}
+
 impl From<Error> for H264Error {
     fn from(error: Error) -> H264Error {
-        H264Error::Reader(error)
+        H264Error::Unit(UnitError::Reader(error))
     }
 }
 
@@ -111,7 +97,7 @@ pub fn read_unit(
         Ok(payload) => payload,
         Err(_) => return Err(At {
             bit: 0,
-            error: H264Error::Reader(Error::OutOfMemory),
+            error: H264Error::Unit(UnitError::Reader(Error::OutOfMemory)),
         }),
     };
     let bytes = payload.as_slice();
@@ -140,10 +126,10 @@ fn read_set(
     ensures { IsErr result → sets.new ≡ sets.old }
 {
     if syntax.reader.is_at_end() {
-        return Err(H264Error::EmptyUnit);
+        return Err(H264Error::Unit(UnitError::EmptyUnit));
     }
     if syntax.flag("forbidden_zero_bit")? {
-        return Err(H264Error::Forbidden);
+        return Err(H264Error::Unit(UnitError::Forbidden));
     }
     syntax.number("nal_ref_idc", 2)?;
     match syntax.number("nal_unit_type", 5)? {
@@ -163,5 +149,15 @@ fn read_set(
             check_end(syntax, kind, last)?;
             Ok(Unit::Other)
         }
+    }
+}
+
+/// Checks the end of a unit of some type of which only the header is read. If what it holds ends in trailing
+/// bits, a 1 follows the header: the last 1 of the unit, at `last`, is the stop bit, and zeros follow it.
+fn check_end(syntax: &mut Syntax<'_, '_, '_, BE>, kind: u32, last: u64) -> Result<(), UnitError> {
+    match kind {
+        9 => check_delimiter(syntax, last),
+        1..=6 | 12 | 13 | 15 | 19..=21 if last < 8 => Err(UnitError::NoStopBit),
+        _ => Ok(()),
     }
 }

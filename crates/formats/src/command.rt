@@ -5,6 +5,7 @@ use crate::print::Printer;
 use crate::readers::audio::{AdtsUnits, FlacUnits};
 use crate::readers::compressed::GzipUnits;
 use crate::readers::containers::{OggUnits, TsUnits};
+use crate::readers::h265::H265Units;
 use crate::readers::video::{Av1Units, H264Units};
 use crate::report::Report;
 use crate::status::Status;
@@ -27,6 +28,8 @@ pub enum Command {
     GzipHeaders,
     /// Prints the elements of the units of H.264.
     H264,
+    /// Prints the elements of the units of H.265.
+    H265,
     /// Prints the elements of the OBUs of AV1.
     Av1,
     /// Prints the elements of the frames of AAC.
@@ -46,6 +49,7 @@ impl Command {
             "gunzip" => Some(Command::Gunzip),
             "gzip-headers" => Some(Command::GzipHeaders),
             "h264" => Some(Command::H264),
+            "h265" => Some(Command::H265),
             "av1" => Some(Command::Av1),
             "adts" => Some(Command::Adts),
             "ogg" => Some(Command::Ogg),
@@ -89,6 +93,10 @@ pub fn play<W: Write, P: Write>(
         }
         Command::H264 => {
             let mut units = H264Units::over(file);
+            show(alloc, name, &mut units, printer, out, report)
+        }
+        Command::H265 => {
+            let mut units = H265Units::over(file);
             show(alloc, name, &mut units, printer, out, report)
         }
         Command::Av1 => {

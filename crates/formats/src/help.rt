@@ -11,6 +11,7 @@ usage: formats COMMAND [OPTION..] FILE..     FILE is - for standard input
        formats --version
 
   h264           NAL units of H.264, with parameter sets (profile, size, reference frames)
+  h265           NAL units of H.265, with parameter sets (profile, level, size)
   av1            OBUs of AV1 with sequence headers, bare or in IVF
   adts           frames of AAC in ADTS, also after ID3v2
   ogg            pages and packets of Ogg; the codecs are named
@@ -45,6 +46,14 @@ Reads an H.264 byte stream (annex B). A unit is a NAL unit: the header of each, 
 picture parameter sets, with the names and places of the standard. Places count in the unit, without its start code
 and its bytes against emulation. A sequence parameter set also has its profile, width, height and reference_frames.
 e.g.   formats h264 --json FILE | jq -c 'select(.type == \"SPS\") | .about'
+",
+        Command::H265 => "\
+usage: formats h265 [--json | --table | --errors] [--only NAME].. FILE..
+
+Reads an H.265 byte stream (annex B). A unit is a NAL unit: the header of each, and all elements of video, sequence
+and picture parameter sets, with the names and places of the standard. Places count in the unit, without its start
+code and its bytes against emulation. A sequence parameter set also has its profile, tier, level, width and height.
+e.g.   formats h265 --json FILE | jq -c 'select(.type == \"SPS\") | .about'
 ",
         Command::Av1 => "\
 usage: formats av1 [--json | --table | --errors] [--only NAME].. FILE..

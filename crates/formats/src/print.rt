@@ -268,7 +268,7 @@ fn end_member<W: Write>(out: &mut W, name: &Name) -> io::Result<()> {
 fn print_columns<W: Write>(out: &mut W, element: &Element) -> io::Result<()> {
     let (place, value, name) = (element.place, element.value, element.name);
     match element.index {
-        Some(index) => writeln!(out, "{place:>12} {value:>20}  {name}[{index}]"),
+        Some(index) => writeln!(out, "{place:>12} {value:>20}  {name}{index}"),
         None => writeln!(out, "{place:>12} {value:>20}  {name}"),
     }
 }

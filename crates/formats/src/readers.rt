@@ -3,4 +3,5 @@
 pub mod audio;
 pub mod compressed;
 pub mod containers;
+pub mod h265;
 pub mod video;

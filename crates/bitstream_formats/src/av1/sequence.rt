@@ -1,6 +1,7 @@
 //! Sequence headers (section 5.5).
 
 use super::Obu;
+use crate::element::Index;
 use bitstream_io::{BitRead, BitReadExt, Bits, Error};
 
 /// Reads an unsigned number of variable length, `uvlc()`.
@@ -23,7 +24,7 @@ pub(super) fn read_sequence(syntax: &mut Obu<'_, '_, '_>) -> Result<(), Error> {
     syntax.flag("still_picture")?;
     let reduced = syntax.flag("reduced_still_picture_header")?;
     if reduced {
-        syntax.index = Some(0);
+        syntax.index = Some(Index::One(0));
         syntax.number("seq_level_idx", 5)?;
         syntax.index = None;
     } else {
@@ -75,7 +76,7 @@ fn read_operating_points(
 ) -> Result<(), Error> {
     let count = syntax.number("operating_points_cnt_minus_1", 5)?;
     for at in 0..count + 1 {
-        syntax.index = Some(at);
+        syntax.index = Some(Index::One(at));
         read_operating_point(syntax, delay_length, delays)?;
     }
     syntax.index = None;

@@ -4,10 +4,10 @@ ghost use Rattle.std.specs.Prelude.{◌≡◌};
 ghost use Rattle.bitstream_formats.specs.ScalingLists.{lists_of_picture};
 
 use super::H264Error;
-use super::golomb::{read_se, read_ue};
 use super::scaling::read_scaling_lists;
 use super::sets::{ParameterSets, PictureSet, SequenceSet};
 use crate::element::Syntax;
+use crate::nal::{read_se, read_ue};
 use bitstream_io::BE;
 
 /// Reads a picture parameter set and returns its number. The last 1 of the unit is at `last`.

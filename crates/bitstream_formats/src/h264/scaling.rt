@@ -1,7 +1,7 @@
 //! Scaling lists (section 7.3.2.1.1.1).
 
-use super::golomb::read_se;
-use crate::element::Syntax;
+use crate::element::{Index, Syntax};
+use crate::nal::read_se;
 use bitstream_io::{BE, Error};
 
 /// Reads a flag for each of some scaling lists, and the lists whose flag is set.
@@ -11,7 +11,7 @@ pub(super) fn read_scaling_lists(
     count: u32,
 ) -> Result<(), Error> {
     for at in 0..count {
-        syntax.index = Some(at);
+        syntax.index = Some(Index::One(at));
         let present = syntax.flag(name)?;
         syntax.index = None;
         if present {
@@ -25,7 +25,7 @@ pub(super) fn read_scaling_lists(
 fn read_scaling_list(syntax: &mut Syntax<'_, '_, '_, BE>, size: u32) -> Result<(), Error> {
     let mut last = 8i32;
     for at in 0..size {
-        syntax.index = Some(at);
+        syntax.index = Some(Index::One(at));
         let delta = read_se(syntax, "delta_scale")?;
         last = last.wrapping_add(delta).wrapping_add(256).rem_euclid(256);
         if last == 0 {

@@ -1,11 +1,11 @@
 //! Sequence parameter sets (section 7.3.2.1.1).
 
 use super::H264Error;
-use super::golomb::{read_se, read_ue};
 use super::scaling::read_scaling_lists;
 use super::sets::SequenceSet;
 use super::vui::read_vui;
-use crate::element::Syntax;
+use crate::element::{Index, Syntax};
+use crate::nal::{read_se, read_ue};
 use bitstream_io::{BE, Error};
 
 /// Returns true if the parameter sets of a profile have a chroma format.
@@ -99,7 +99,7 @@ fn read_cycle(syntax: &mut Syntax<'_, '_, '_, BE>) -> Result<(), H264Error> {
         return Err(H264Error::TooManyFrames);
     }
     for at in 0..count {
-        syntax.index = Some(at);
+        syntax.index = Some(Index::One(at));
         read_se(syntax, "offset_for_ref_frame")?;
     }
     syntax.index = None;

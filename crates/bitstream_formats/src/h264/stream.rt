@@ -1,35 +1,11 @@
 //! A byte stream that is read unit by unit.
 
 use super::sets::ParameterSets;
-use super::units::Units;
 use super::{H264Error, Unit, read_unit};
 use crate::at::At;
 use crate::element::Element;
+use crate::nal::{RefusedUnit, UnitError, Units};
 use std::alloc::Global;
-use std::fmt;
-
-/// A unit that was refused. It is displayed as its number, its place, and the error.
-#[derive(Debug, Drop)]
-pub struct RefusedUnit {
-    /// The number of the unit in the stream, from 0.
-    pub number: u64,
-    /// The place of its first byte in the stream, after its start code.
-    pub byte: usize,
-    /// The place of the reader, in bits of the unit without its bytes against emulation.
-    pub bit: u64,
-    /// The error.
-    pub error: H264Error,
-}
-
-impl fmt::Display for RefusedUnit {
-    fn fmt<W: fmt::Write>(&self, f: &mut fmt::Formatter<W>) -> fmt::Result {
-        write!(
-            f,
-            "unit {} at byte {}, bit {}: {}",
-            self.number, self.byte, self.bit, self.error
-        )
-    }
-}
 
 /// A byte stream, and the parameter sets that were read of it.
 ///
@@ -38,8 +14,6 @@ impl fmt::Display for RefusedUnit {
 pub struct Stream<'a> {
     units: Units<'a>,
     sets: ParameterSets,
-    // The number of units taken.
-    taken: u64,
 }
 
 impl<'a> Stream<'a> {
@@ -48,15 +22,14 @@ impl<'a> Stream<'a> {
     /// # Errors
     ///
     /// `NoStartCode` if `bytes` have no start code, so that there is no unit.
-    pub fn over(bytes: &'a [u8]) -> Result<Stream<'a>, H264Error> {
+    pub fn over(bytes: &'a [u8]) -> Result<Stream<'a>, UnitError> {
         let units = Units::over(bytes);
         if units.is_at_end() {
-            return Err(H264Error::NoStartCode);
+            return Err(UnitError::NoStartCode);
         }
         Ok(Stream {
             units,
             sets: ParameterSets::new(),
-            taken: 0,
         })
     }
 
@@ -72,7 +45,7 @@ impl<'a> Stream<'a> {
 
     /// Returns the number of units that were read or refused.
     pub fn units_taken(&self) -> u64 {
-        self.taken
+        self.units.taken()
     }
 
     /// Returns the place of the next unit's first byte in the stream, after its start code.
@@ -89,13 +62,12 @@ impl<'a> Stream<'a> {
         &mut self,
         alloc: Global,
         elements: &mut Vec<Element>,
-    ) -> Result<Option<Unit>, RefusedUnit> {
+    ) -> Result<Option<Unit>, RefusedUnit<H264Error>> {
         let byte = self.units.place();
-        let number = self.taken;
+        let number = self.units.taken();
         let Some(unit) = self.units.next_unit() else {
             return Ok(None);
         };
-        self.taken = number.saturating_add(1);
         match read_unit(alloc, &mut self.sets, unit, elements) {
             Ok(unit) => Ok(Some(unit)),
             Err(At { bit, error }) => Err(RefusedUnit {

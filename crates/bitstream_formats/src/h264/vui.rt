@@ -1,13 +1,13 @@
 //! Video usability information, with the parameters of hypothetical decoders (annex E).
 
 use super::H264Error;
-use super::golomb::read_ue;
-use crate::element::Syntax;
+use crate::element::{Index, Syntax};
+use crate::nal::{read_signal, read_ue};
 use bitstream_io::{BE, Error};
 
 /// Reads video usability information.
 pub(super) fn read_vui(syntax: &mut Syntax<'_, '_, '_, BE>) -> Result<(), H264Error> {
-    read_display(syntax)?;
+    read_signal(syntax)?;
     if syntax.flag("timing_info_present_flag")? {
         syntax.number("num_units_in_tick", 32)?;
         syntax.number("time_scale", 32)?;
@@ -31,33 +31,6 @@ pub(super) fn read_vui(syntax: &mut Syntax<'_, '_, '_, BE>) -> Result<(), H264Er
     Ok(())
 }
 
-/// Reads how pictures are shown.
-fn read_display(syntax: &mut Syntax<'_, '_, '_, BE>) -> Result<(), Error> {
-    if syntax.flag("aspect_ratio_info_present_flag")? {
-        if syntax.number("aspect_ratio_idc", 8)? == 255 {
-            syntax.number("sar_width", 16)?;
-            syntax.number("sar_height", 16)?;
-        }
-    }
-    if syntax.flag("overscan_info_present_flag")? {
-        syntax.flag("overscan_appropriate_flag")?;
-    }
-    if syntax.flag("video_signal_type_present_flag")? {
-        syntax.number("video_format", 3)?;
-        syntax.flag("video_full_range_flag")?;
-        if syntax.flag("colour_description_present_flag")? {
-            syntax.number("colour_primaries", 8)?;
-            syntax.number("transfer_characteristics", 8)?;
-            syntax.number("matrix_coefficients", 8)?;
-        }
-    }
-    if syntax.flag("chroma_loc_info_present_flag")? {
-        read_ue(syntax, "chroma_sample_loc_type_top_field")?;
-        read_ue(syntax, "chroma_sample_loc_type_bottom_field")?;
-    }
-    Ok(())
-}
-
 /// Reads the parameters of a hypothetical decoder.
 fn read_hrd(syntax: &mut Syntax<'_, '_, '_, BE>) -> Result<(), H264Error> {
     let count = read_ue(syntax, "cpb_cnt_minus1")?;
@@ -67,7 +40,7 @@ fn read_hrd(syntax: &mut Syntax<'_, '_, '_, BE>) -> Result<(), H264Error> {
         return Err(H264Error::TooManySchedules);
     }
     for at in 0..count + 1 {
-        syntax.index = Some(at);
+        syntax.index = Some(Index::One(at));
         read_ue(syntax, "bit_rate_value_minus1")?;
         read_ue(syntax, "cpb_size_value_minus1")?;
         syntax.flag("cbr_flag")?;

@@ -114,15 +114,13 @@ fn note_picture(alloc: Global, unit: &mut Unit) -> Result<(), AllocError> {
     let frames = unit.value_of("frame_mbs_only_flag") != Some(0);
     let (across, down) = crop_units(unit, frames);
     let width = size_of(
-        columns,
-        16,
+        blocks_of(columns, 16),
         across,
         unit.value_of("frame_crop_left_offset"),
         unit.value_of("frame_crop_right_offset"),
     );
     let height = size_of(
-        rows,
-        if frames { 16 } else { 32 },
+        blocks_of(rows, if frames { 16 } else { 32 }),
         down,
         unit.value_of("frame_crop_top_offset"),
         unit.value_of("frame_crop_bottom_offset"),
@@ -136,7 +134,7 @@ fn note_picture(alloc: Global, unit: &mut Unit) -> Result<(), AllocError> {
 }
 
 /// Returns the samples of a unit of cropping, across and down.
-fn crop_units(unit: &Unit, frames: bool) -> (i64, i64) {
+pub fn crop_units(unit: &Unit, frames: bool) -> (i64, i64) {
     let separate = unit.value_of("separate_colour_plane_flag") == Some(1);
     let chroma = match unit.value_of("chroma_format_idc") {
         _ if separate => 0,
@@ -148,19 +146,15 @@ fn crop_units(unit: &Unit, frames: bool) -> (i64, i64) {
     (across, if frames { down } else { 2 * down })
 }
 
-/// Returns the number of samples of a side, from its number of blocks, without the cropped ones.
-fn size_of(
-    minus_one: i64,
-    block: i64,
-    crop_unit: i64,
-    first: Option<i64>,
-    last: Option<i64>,
-) -> i64 {
+/// Returns the samples of so many blocks and one more.
+fn blocks_of(minus_one: i64, block: i64) -> i64 {
+    minus_one.saturating_add(1).saturating_mul(block)
+}
+
+/// Returns the samples of a side without those that are cropped at both ends.
+pub fn size_of(samples: i64, crop_unit: i64, first: Option<i64>, last: Option<i64>) -> i64 {
     let cropped = first.unwrap_or(0).saturating_add(last.unwrap_or(0));
-    minus_one
-        .saturating_add(1)
-        .saturating_mul(block)
-        .saturating_sub(cropped.saturating_mul(crop_unit))
+    samples.saturating_sub(cropped.saturating_mul(crop_unit))
 }
 
 /// The OBUs of an AV1 stream, bare or in a file of IVF.

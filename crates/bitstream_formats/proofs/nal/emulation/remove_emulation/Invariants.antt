@@ -1,6 +1,6 @@
 use Rattle.std.proofs.Common.{◌≡◌, ◌++◌, drop}
 use Rattle.bitstream_formats.specs.Emulation.{without_emulation}
-use Rattle.bitstream_formats.proofs.h264.emulation.remove_emulation.Given as goal
+use Rattle.bitstream_formats.proofs.nal.emulation.remove_emulation.Given as goal
 
 abbrev pub invariant-loop-byte : goal.invariant-loop-byte
 invariant-loop-byte l =

@@ -1,5 +1,5 @@
 use Rattle.bitstream_formats.proofs.EmulationLemmas.{without-with}
-use Rattle.bitstream_formats.proofs.h264.emulation.emulation_round_trip.Goals as goal
+use Rattle.bitstream_formats.proofs.nal.emulation.emulation_round_trip.Goals as goal
 
 pub returns : goal.returns
 returns c = without-with 0

@@ -1,10 +1,10 @@
-//! Exponential Golomb numbers (section 9.1), which are noted as elements.
+//! Exponential Golomb numbers (section 9.1 of H.264, 9.2 of H.265), which are noted as elements.
 
 use crate::element::Syntax;
 use bitstream_io::{BE, Error, golomb};
 
 /// Reads an unsigned number, `ue(v)`.
-pub(super) fn read_ue(
+pub(crate) fn read_ue(
     syntax: &mut Syntax<'_, '_, '_, BE>,
     name: &'static str,
 ) -> Result<u32, Error> {
@@ -15,7 +15,7 @@ pub(super) fn read_ue(
 }
 
 /// Reads a signed number, `se(v)`.
-pub(super) fn read_se(
+pub(crate) fn read_se(
     syntax: &mut Syntax<'_, '_, '_, BE>,
     name: &'static str,
 ) -> Result<i32, Error> {

@@ -7,6 +7,8 @@ pub struct Units<'a> {
     rest: Option<&'a [u8]>,
     // The number of bytes of the stream before them.
     before: usize,
+    // How many units were returned.
+    taken: u64,
 }
 
 /// The place of a start code.
@@ -44,10 +46,12 @@ impl<'a> Units<'a> {
             Ok(start) => Units {
                 rest: bytes.get(start.end..),
                 before: start.end,
+                taken: 0,
             },
             Err(_) => Units {
                 rest: None,
                 before: bytes.len(),
+                taken: 0,
             },
         }
     }
@@ -62,6 +66,11 @@ impl<'a> Units<'a> {
         self.rest.unwrap_or(&[])
     }
 
+    /// Returns how many units were returned.
+    pub fn taken(&self) -> u64 {
+        self.taken
+    }
+
     /// Returns the place of the next unit's first byte in the stream.
     pub fn place(&self) -> usize {
         self.before
@@ -71,6 +80,7 @@ impl<'a> Units<'a> {
     /// code follows another one.
     pub fn next_unit(&mut self) -> Option<&'a [u8]> {
         let bytes = self.rest?;
+        self.taken = self.taken.saturating_add(1);
         match find_start(bytes) {
             Ok(start) => {
                 self.rest = bytes.get(start.end..);

@@ -1,0 +1,37 @@
+//! The parameter sets of a stream that were read.
+
+/// The facts of a video parameter set that the reading of other units needs.
+#[derive(Clone, Copy, Debug, PartialEq, Eq)]
+pub struct VideoSet {
+    /// The number of temporal sub-layers: 1 to 7.
+    pub sub_layers: u32,
+}
+
+/// The video parameter sets that were read, by their numbers: at most 16. A set replaces the one of its number.
+/// The other sets are read without one another, so nothing of them is kept.
+#[derive(Debug, Drop)]
+pub struct ParameterSets {
+    videos: [Option<VideoSet>; 16],
+}
+
+impl ParameterSets {
+    /// Returns no set.
+    pub fn new() -> ParameterSets {
+        ParameterSets { videos: [None; 16] }
+    }
+
+    /// Returns the video parameter set of a number, or `None` if none was read.
+    pub fn video(&self, number: u32) -> Option<VideoSet> {
+        match self.videos.as_slice().get(number as usize) {
+            Some(set) => *set,
+            None => None,
+        }
+    }
+
+    /// Keeps a video parameter set. A number above 15 is ignored.
+    pub(super) fn keep_video(&mut self, number: u32, set: VideoSet) {
+        if let Some(kept) = self.videos.as_mut_slice().get_mut(number as usize) {
+            *kept = Some(set);
+        }
+    }
+}

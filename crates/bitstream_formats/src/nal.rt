@@ -1,0 +1,47 @@
+//! NAL units, of which the streams of H.264 and H.265 consist: the units of a byte stream, the bytes against the
+//! emulation of a start code, and the elements that both formats have.
+
+use bitstream_io::Error;
+
+mod emulation;
+mod golomb;
+mod refused;
+mod signal;
+mod trailing;
+mod units;
+
+pub use emulation::{emulation_round_trip, remove_emulation};
+pub(crate) use golomb::{read_se, read_ue};
+pub use refused::RefusedUnit;
+pub(crate) use signal::read_signal;
+pub(crate) use trailing::{check_delimiter, last_one, read_trailing_bits};
+pub use units::Units;
+
+/// The reason why a unit is refused, whatever it holds.
+#[derive(Debug, Drop, thiserror::Error)]
+pub enum UnitError {
+    /// The bits were not read, or memory was refused.
+    #[error("{0}")]
+    Reader(Error),
+    /// The stream has no start code.
+    #[error("no start code")]
+    NoStartCode,
+    /// The unit has no byte.
+    #[error("an empty unit")]
+    EmptyUnit,
+    /// The first bit of the unit is not 0.
+    #[error("the forbidden bit is set")]
+    Forbidden,
+    /// The bit `rbsp_stop_one_bit`, which ends what a unit holds, is 0 or missing.
+    #[error("rbsp_stop_one_bit is not 1")]
+    NoStopBit,
+    /// A bit after `rbsp_stop_one_bit` is 1.
+    #[error("a bit after rbsp_stop_one_bit is 1")]
+    BitAfterStop,
+}
+
+impl From<Error> for UnitError {
+    fn from(error: Error) -> UnitError {
+        UnitError::Reader(error)
+    }
+}
