@@ -1,7 +1,7 @@
 -- Subframes: from what was written the decoder reads the samples, and every call is accepted.
-use Rattle.std.proofs.Common.{arith, ◌≡◌, ◌∙◌, ◌++◌, ◌+◌, ◌-◌, ◌*◌, ◌/◌, ◌%◌, ◌^◌, ◌<◌, ◌≤◌, ◌==◌, ℕ, ℤ, zero, suc, true, false, List, [], ◌∷◌, Result, Ok, length, take, drop, refl, sym, ap, subst, append-nil, get_or, w64, pos, negsuc, SFits}
+use Rattle.std.proofs.Common.{arith, ◌≡◌, ◌∙◌, ◌++◌, ◌+◌, ◌-◌, ◌*◌, ◌/◌, ◌%◌, ◌^◌, ◌<◌, ◌≤◌, ◌==◌, ℕ, ℤ, zero, suc, true, false, List, [], ◌∷◌, Result, Ok, Err, length, take, drop, refl, sym, ap, subst, append-nil, get_or, w64, pos, negsuc, SFits}
 use Rattle.std.specs.Prelude.{nat_lt, replicate}
-use Rattle.std.specs.List.{All}
+use Rattle.std.specs.List.{All, flat_map}
 use native.Mathlib.Nat.{mod-lt, div-le_self}
 use Rattle.std.proofs.Math.Pow.{pow_mono}
 use Rattle.std.proofs.Math.Facts.{sfits_to_z}
@@ -9,7 +9,9 @@ use Rattle.std.proofs.lemmas.Nat.{pow_pos}
 use Rattle.std.proofs.lemmas.Bool.{le-leb, le-ltb, ne_eqb}
 use Rattle.std.proofs.lemmas.List.{length-drop, length-take-le, take-append-drop}
 use Rattle.std.proofs.lemmas.List.Elements.{All-drop, All-take, All-weaker}
-use Rattle.bitstream_io.specs.Callers.{Order, Decoder, Encoder, and_then, stores, list_item, signed_decoder, items_decoder, part_then, Error, FitsSignedBits, Sink, WritesAll}
+use Rattle.bitstream_io.specs.Codec.{and_then}
+use Rattle.bitstream_io.specs.Grows.{parts_decoder}
+use Rattle.bitstream_io.specs.Callers.{Order, Decoder, Encoder, pure, stores, list_item, signed_decoder, items_decoder, part_then, unsigned, Error, FitsSignedBits, Sink, WritesAll}
 use Rattle.bitstream_io.specs.ReadBack.{IsReadAs}
 use Rattle.bitstream_io.specs.Loop.{parts_size}
 use Rattle.bitstream_io.specs.Unary.{unary}
@@ -19,7 +21,8 @@ use Rattle.bitstream_io.proofs.PackLemmas.{Packs, bit-written, packs-more, packs
 use Rattle.bitstream_io.proofs.CallerLemmas.{RoundTrip, bit-back, computed-back, else-back, items-read, last-back, part-back, signed-back, unsigned-back}
 use Rattle.flac_codec.specs.Predict.{fixed_weights, predicted, residual, restored, weighted}
 use Rattle.flac_codec.specs.Rice.{rice_decoder, rice_writes}
-use Rattle.flac_codec.specs.Subframe.{fixed_decoder, fixed_writes, headed, kind_decoder, numbers_decoder, numbers_writes, residual_decoder, residual_writes, sample_writes, samples_decoder, samples_writes, subframe_decoder, verbatim_writes, constant_writes, WritesValue}
+use Rattle.flac_codec.specs.Residual.{partition_decoder, partitions_decoder, residual_decoder, samples_decoder}
+use Rattle.flac_codec.specs.Subframe.{fixed_decoder, fixed_writes, headed, kind_decoder, numbers_writes, residual_writes, samples_writes, sample_writes, subframe_decoder, verbatim_writes, constant_writes, WritesValue}
 use Rattle.flac_codec.specs.declared.error.FlacError.{FlacError}
 use Rattle.flac_codec.proofs.PredictLemmas.{restored-residual}
 use Rattle.flac_codec.proofs.RiceLemmas.{rice-back}
@@ -89,16 +92,37 @@ module _ (o : Order) (width : ℕ) (some : 1 ≤ width) (within : width ≤ 64) 
       (last-back (samples_decoder o width (length xs)) (λ v. Ok v) (samples_writes o width xs) xs
       (samples-read o width some within xs fit))
 
-  pub residual-back : (k : ℕ) (rest : List ℤ) → k < 15 → All (λ x. zig x < 2 ^ 32) rest
-      → RoundTrip (residual_decoder o (length rest)) (residual_writes o k rest) (Ok rest)
-  residual-back k rest small fit =
-      let parameter : k < 2 ^ 4 = omega (arith, small) in
-      let numbers : RoundTrip (numbers_decoder o (length rest) k) (numbers_writes o k rest) (Ok rest) =
-      else-back _ _ _ _ (k == 15) (ne_eqb k 15 (λ e. omega (arith, e, small)))
+-- a residual with one partition
+module _ (o : Order) (k : ℕ) (rest : List ℤ) (few : k < 15) (fit : All (λ x. zig x < 2 ^ 32) rest) where
+  partition-back : RoundTrip (partition_decoder o 4 (length rest)) (unsigned o 32 4 k ∷ numbers_writes o k rest) (Ok rest)
+  partition-back =
+      unsigned-back o 4 _ _ 32 k _ refl (omega (arith, few))
+      (else-back _ _ _ _ (k == 2 ^ 4 - 1) (ne_eqb k 15 (λ e. omega (arith, e, few)))
       (last-back (items_decoder (list_item (rice_decoder o k)) (length rest)) (λ v. Ok v) (numbers_writes o k rest) rest
-      (numbers-read o k rest (omega (arith, small)) fit)) in
+      (numbers-read o k rest (omega (arith, few)) fit)))
+
+  no_more : (n : ℕ) → RoundTrip (and_then (parts_decoder (partition_decoder o 4 n) 0) (part_then (λ parts.
+      pure {A = Result (List ℤ) FlacError} (Ok (rest ++ flat_map (λ part. part) parts))))) [] (Ok rest)
+  unfolding and_then parts_decoder
+  no_more n = record { back = λ len p more. rw (append-nil rest) refl }
+
+  partitions-back : (n : ℕ) → RoundTrip (partitions_decoder o 4 (length rest) n 0)
+      (unsigned o 32 4 k ∷ numbers_writes o k rest) (Ok rest)
+  partitions-back n =
+      let ws = unsigned o 32 4 k ∷ numbers_writes o k rest in
+      subst (λ vs. RoundTrip (partitions_decoder o 4 (length rest) n 0) vs (Ok rest)) (append-nil ws)
+      (part-back (partition_decoder o 4 (length rest)) _ ws [] (Ok rest) (Ok rest) partition-back.back (no_more n))
+
+  pub residual-back : (n order : ℕ) → order ≤ n → length rest ≡ n - order
+      → RoundTrip (residual_decoder o n order) (residual_writes o k rest) (Ok rest)
+  residual-back n order long is =
+      let whole : n % 2 ^ 0 ≡ 0 = omega arith in
+      let same : n / 2 ^ 0 ≡ n = omega arith in
+      let one : RoundTrip (partitions_decoder o 4 (n - order) n 0) (unsigned o 32 4 k ∷ numbers_writes o k rest) (Ok rest) =
+      subst (λ m. RoundTrip (partitions_decoder o 4 m n 0) (unsigned o 32 4 k ∷ numbers_writes o k rest) (Ok rest)) is
+      (partitions-back n) in
       unsigned-back o 2 _ _ 8 0 _ refl (omega arith) (unsigned-back o 4 _ _ 32 0 _ refl (omega arith)
-      (unsigned-back o 4 _ _ 32 k _ refl parameter numbers))
+      (rw (whole, same, le-ltb n order long) one))
 
 kind-fixed : (o : Order) (width block order : ℕ) → order ≤ 4
     → kind_decoder o width block (8 + order) ≡ fixed_decoder o width block order
@@ -132,22 +156,19 @@ module _ (o : Order) (width : ℕ) (some : 1 ≤ width) (within : width ≤ 64) 
   fixed-back most long small fit few =
       let make = λ (r : List ℤ). stores {A = Result (List ℤ) FlacError}
       (Ok (restored (predicted (fixed_weights order)) first r)) in
-      let residual_read : RoundTrip (residual_decoder o (length samples - order)) (residual_writes o k rest) (Ok rest) =
-      subst (λ n. RoundTrip (residual_decoder o n) (residual_writes o k rest) (Ok rest)) rest-length
-      (residual-back o width some within k rest small few) in
-      let behind : RoundTrip (and_then (residual_decoder o (length samples - order)) (part_then make)) (residual_writes o k rest) (Ok samples) =
-      subst (λ ws. RoundTrip (and_then (residual_decoder o (length samples - order)) (part_then make)) ws (Ok samples))
+      let residual_read = residual-back o k rest small few (length samples) order long rest-length in
+      let behind : RoundTrip (and_then (residual_decoder o (length samples) order) (part_then make)) (residual_writes o k rest) (Ok samples) =
+      subst (λ ws. RoundTrip (and_then (residual_decoder o (length samples) order) (part_then make)) ws (Ok samples))
       (append-nil (residual_writes o k rest))
-      (part-back (residual_decoder o (length samples - order)) (part_then make) (residual_writes o k rest) [] (Ok rest) (Ok samples)
+      (part-back (residual_decoder o (length samples) order) (part_then make) (residual_writes o k rest) [] (Ok rest) (Ok samples)
       residual_read.back (stored-back _ _ (ap Ok (restored-all fit)))) in
       let first_read : IsReadAs (samples_writes o width first) (samples_decoder o width order) first =
       subst (λ n. IsReadAs (samples_writes o width first) (samples_decoder o width n) first)
       (length-take-le order samples long)
       (samples-read o width some within first (All-take (FitsSignedBits width) order samples fit)) in
       let whole : RoundTrip (fixed_decoder o width (length samples) order) (samples_writes o width first ++ residual_writes o k rest) (Ok samples) =
-      else-back _ _ _ _ (nat_lt (length samples) order) (le-ltb (length samples) order long)
-      (part-back (samples_decoder o width order) _ (samples_writes o width first) (residual_writes o k rest) first (Ok samples)
-      first_read behind) in
+      part-back (samples_decoder o width order) _ (samples_writes o width first) (residual_writes o k rest) first (Ok samples)
+      first_read behind in
       headed-back o width (length samples) (8 + order) _ samples (omega (arith, most))
       (subst (λ e. RoundTrip e (samples_writes o width first ++ residual_writes o k rest) (Ok samples))
       (sym (kind-fixed o width (length samples) order most)) whole)

@@ -4,15 +4,12 @@ use Rattle.std.specs.List.{flat_map}
 use Rattle.bitstream_io.specs.Callers.{Decoder, Encoder, ◌>>=◌, pure, stores, list_item, bit_decoder, unsigned_decoder, signed_decoder, items_decoder, part_then, Error, Order, High, OutOfMemory, bits, Done, Sink, WritesAll, AllAccepted, bit, unsigned, signed}
 use Rattle.bitstream_io.specs.ReadBack.{IsReadAs}
 use Rattle.flac_codec.specs.Predict.{fixed_weights, predicted, restored}
-use Rattle.flac_codec.specs.Rice.{rice_decoder, rice_writes}
+use Rattle.flac_codec.specs.Residual.{residual_decoder, samples_decoder}
+use Rattle.flac_codec.specs.Rice.{rice_writes}
 use Rattle.flac_codec.specs.declared.error.FlacError.{FlacError}
-use Rattle.flac_codec.specs.declared.error.FlacError.TheVariants.{ReservedBit, ReservedSubframe, ReservedResidual, ShortBlock}
+use Rattle.flac_codec.specs.declared.error.FlacError.TheVariants.{ReservedBit, ReservedSubframe}
 
 -- ---- the decoder
-
--- samples that are not coded
-abbrev pub samples_decoder : Order → ℕ → ℕ → Decoder (List ℤ)
-samples_decoder o width count = items_decoder (list_item (signed_decoder o 64 width)) count
 
 -- one sample for all samples of the block
 abbrev pub constant_decoder : Order → ℕ → ℕ → Decoder (Result (List ℤ) FlacError)
@@ -26,30 +23,11 @@ verbatim_decoder o width block_size = do
   samples ← samples_decoder o width block_size
   pure (Ok samples)
 
--- Rice numbers after their parameter; the parameter 15 stands for numbers that are not coded
-abbrev pub numbers_decoder : Order → ℕ → ℕ → Decoder (Result (List ℤ) FlacError)
-numbers_decoder o count parameter =
-    if parameter == 15 then pure (Err ReservedResidual)
-    else items_decoder (list_item (rice_decoder o parameter)) count >>= (λ numbers. pure (Ok numbers))
-
--- a residual after its partition order, which must be 0: one partition
-abbrev pub partition_decoder : Order → ℕ → ℕ → Decoder (Result (List ℤ) FlacError)
-partition_decoder o count partition_order =
-    if partition_order == 0 then unsigned_decoder o 32 4 >>= numbers_decoder o count
-    else pure (Err ReservedResidual)
-
--- a residual of `count` numbers
-abbrev pub residual_decoder : Order → ℕ → Decoder (Result (List ℤ) FlacError)
-residual_decoder o count = unsigned_decoder o 8 2 >>= (λ coding.
-    if coding == 0 then unsigned_decoder o 32 4 >>= partition_decoder o count
-    else pure (Err ReservedResidual))
-
 -- the first samples, and the residual of the others after a fixed prediction
 abbrev pub fixed_decoder : Order → ℕ → ℕ → ℕ → Decoder (Result (List ℤ) FlacError)
 fixed_decoder o width block_size order =
-    if nat_lt block_size order then pure (Err ShortBlock)
-    else samples_decoder o width order >>= (λ first.
-    residual_decoder o (block_size - order) >>= part_then (λ rest.
+    samples_decoder o width order >>= (λ first.
+    residual_decoder o block_size order >>= part_then (λ rest.
     stores (Ok (restored (predicted (fixed_weights order)) first rest))))
 
 -- a subframe of a type after its header

@@ -1,7 +1,7 @@
 //! What is wrong with an encoded subframe or frame.
 
 use bitstream_io::Error;
-use std::alloc::AllocFailed;
+use std::alloc::{AllocError, AllocFailed};
 
 /// Why samples are not decoded.
 #[derive(Debug, Drop, thiserror::Error)]
@@ -15,10 +15,13 @@ pub enum FlacError {
     /// The type of the subframe is reserved, or is not decoded here.
     #[error("the type of the subframe is reserved")]
     ReservedSubframe,
-    /// The coding of the residual is reserved, or is not decoded here.
+    /// The coding of the residual is reserved.
     #[error("the coding of the residual is reserved")]
     ReservedResidual,
-    /// The block has fewer samples than the prediction needs.
+    /// The block is not of whole partitions.
+    #[error("the block is not of whole partitions")]
+    Partitions,
+    /// The first partition has fewer samples than the prediction needs.
     #[error("the block is too short for its prediction")]
     ShortBlock,
     /// The checksum of the frame's header is not that of its bits.
@@ -47,6 +50,18 @@ impl<T: Drop> From<AllocFailed<T>> for FlacError {
     ghost from_gives = { λ _ error. error ≡ Reader OutOfMemory };
 
     fn from(_refused: AllocFailed<T>) -> FlacError {
+        FlacError::Reader(Error::OutOfMemory)
+    }
+}
+
+impl From<AllocError> for FlacError {
+    ghost use Rattle.std.specs.Prelude.{◌≡◌};
+    ghost use Rattle.bitstream_io.specs.Callers.{OutOfMemory};
+    ghost use Rattle.flac_codec.specs.declared.error.FlacError.TheVariants.{Reader};
+
+    ghost from_gives = { λ _ error. error ≡ Reader OutOfMemory };
+
+    fn from(_refused: AllocError) -> FlacError {
         FlacError::Reader(Error::OutOfMemory)
     }
 }

@@ -12,6 +12,7 @@ mod lossless;
 mod numbers;
 mod predict;
 mod reading;
+mod residual;
 mod rice;
 mod writing;
 

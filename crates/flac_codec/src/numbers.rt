@@ -1,14 +1,15 @@
 //! Sequences of numbers: samples that are not coded, and Rice numbers.
-ghost use Rattle.std.specs.Prelude.{◌≡◌, ◌<◌, ◌^◌, IfOk, length};
+ghost use Rattle.std.specs.Prelude.{◌≡◌, ◌<◌, ◌^◌, IfOk, length, replicate};
 ghost use Rattle.std.specs.List.{All};
 ghost use Rattle.bitstream_io.specs.Callers.{items_decoder, list_item, result_map, GrowingOutcome, WritesAll};
 ghost use Rattle.bitstream_io.specs.Word.{zig};
 ghost use Rattle.flac_codec.specs.Rice.{rice_decoder};
-ghost use Rattle.flac_codec.specs.Subframe.{numbers_writes, samples_decoder, samples_writes};
+ghost use Rattle.flac_codec.specs.Residual.{samples_decoder};
+ghost use Rattle.flac_codec.specs.Subframe.{numbers_writes, samples_writes};
 
 use crate::rice::{read_rice, write_rice};
 use bitstream_io::{BitRead, BitReadExt, BitWrite, BitWriteExt, Error};
-use std::alloc::Global;
+use std::alloc::{AllocFailed, Global};
 
 /// Reads `count` samples of `width` bits that are not coded.
 pub(crate) fn read_samples<R: BitRead>(
@@ -24,6 +25,17 @@ pub(crate) fn read_samples<R: BitRead>(
     let mut found = Vec::new(alloc);
     for _ in 0..count {
         found.push(reader.read_var::<i64>(width)?)?;
+    }
+    Ok(found)
+}
+
+/// Returns a sample `count` times.
+pub(crate) fn repeated(alloc: Global, sample: i64, count: u32) -> Result<Vec<i64>, AllocFailed<i64>>
+    ensures { IfOk result (λ found. found.items ≡ replicate count sample) }
+{
+    let mut found = Vec::new(alloc);
+    for _ in 0..count {
+        found.push(sample)?;
     }
     Ok(found)
 }

@@ -1,23 +1,23 @@
 //! Subframes, read (section 9.2).
-ghost use Rattle.std.specs.Prelude.{◌≡◌, ◌≤◌, IfOk, replicate};
+ghost use Rattle.std.specs.Prelude.{◌≡◌, ◌≤◌};
 ghost use Rattle.bitstream_io.specs.Callers.{result_map, GrowsOwn};
 ghost use Rattle.flac_codec.specs.Errors.{becomes_flac};
-ghost use Rattle.flac_codec.specs.Subframe.{constant_decoder, fixed_decoder, kind_decoder, numbers_decoder, partition_decoder, residual_decoder, subframe_decoder, typed_decoder, verbatim_decoder};
+ghost use Rattle.flac_codec.specs.Subframe.{constant_decoder, fixed_decoder, kind_decoder, subframe_decoder, typed_decoder, verbatim_decoder};
 
 use crate::error::FlacError;
-use crate::numbers::{read_numbers, read_samples};
+use crate::numbers::{read_samples, repeated};
 use crate::predict::restore_fixed;
+use crate::residual::read_residual;
 use bitstream_io::{BitRead, BitReadExt, Bits};
-use std::alloc::{AllocFailed, Global};
+use std::alloc::Global;
 
-/// Reads a subframe of `block_size` samples of `width` bits: constant, verbatim, or after a fixed prediction with one
-/// partition of Rice numbers.
+/// Reads a subframe of `block_size` samples of `width` bits: constant, verbatim, or with a fixed prediction.
 ///
 /// # Errors
 ///
-/// `ReservedBit` for a first bit 1 and for wasted bits, `ReservedSubframe` for another type, `ReservedResidual` for
-/// another coding of the residual, and `ShortBlock` for a block that is shorter than the order of its prediction. Those
-/// of the reader; memory was refused.
+/// `ReservedBit` for a first bit 1 and for wasted bits, `ReservedSubframe` for another type, `ReservedResidual` for a
+/// reserved coding, `Partitions` for a block that is not of whole partitions, and `ShortBlock` for a first partition that
+/// is shorter than the order of the prediction. Those of the reader; memory was refused.
 pub fn read_subframe<R: BitRead>(
     reader: &mut R,
     alloc: Global,
@@ -78,17 +78,6 @@ fn read_kind<R: BitRead>(
     read_fixed(reader, alloc, width, block_size, kind - 8)
 }
 
-/// Returns a sample `count` times.
-fn repeated(alloc: Global, sample: i64, count: u32) -> Result<Vec<i64>, AllocFailed<i64>>
-    ensures { IfOk result (λ found. found.items ≡ replicate count sample) }
-{
-    let mut found = Vec::new(alloc);
-    for _ in 0..count {
-        found.push(sample)?;
-    }
-    Ok(found)
-}
-
 /// Reads one sample for all samples of the block.
 fn read_constant<R: BitRead>(
     reader: &mut R,
@@ -128,62 +117,8 @@ fn read_fixed<R: BitRead>(
     ensures { GrowsOwn R.source becomes_flac (fixed_decoder R.source.order width block_size order)
         reader.old (result_map (λ found. found.items) result) reader.new }
 {
-    if block_size < order {
-        return Err(FlacError::ShortBlock);
-    }
     let mut samples = read_samples(reader, alloc, width, order)?;
-    let residual = read_residual(reader, alloc, block_size - order)?;
+    let residual = read_residual(reader, alloc, block_size, order)?;
     restore_fixed(&mut samples, residual.as_slice(), order)?;
     Ok(samples)
-}
-
-/// Reads a residual of `count` numbers.
-fn read_residual<R: BitRead>(
-    reader: &mut R,
-    alloc: Global,
-    count: u32,
-) -> Result<Vec<i64>, FlacError>
-    ensures { GrowsOwn R.source becomes_flac (residual_decoder R.source.order count)
-        reader.old (result_map (λ found. found.items) result) reader.new }
-{
-    let coding = reader.read::<Bits<2>, u8>()?;
-    if coding == 0 {
-        let partition_order = reader.read::<Bits<4>, u32>()?;
-        return read_partition(reader, alloc, count, partition_order);
-    }
-    Err(FlacError::ReservedResidual)
-}
-
-/// Reads the one partition of a residual.
-fn read_partition<R: BitRead>(
-    reader: &mut R,
-    alloc: Global,
-    count: u32,
-    partition_order: u32,
-) -> Result<Vec<i64>, FlacError>
-    ensures { GrowsOwn R.source becomes_flac (partition_decoder R.source.order count partition_order)
-        reader.old (result_map (λ found. found.items) result) reader.new }
-{
-    if partition_order == 0 {
-        let parameter = reader.read::<Bits<4>, u32>()?;
-        return read_coded(reader, alloc, count, parameter);
-    }
-    Err(FlacError::ReservedResidual)
-}
-
-/// Reads the numbers of a partition after its parameter.
-fn read_coded<R: BitRead>(
-    reader: &mut R,
-    alloc: Global,
-    count: u32,
-    parameter: u32,
-) -> Result<Vec<i64>, FlacError>
-    requires { parameter ≤ 15 }
-    ensures { GrowsOwn R.source becomes_flac (numbers_decoder R.source.order count parameter)
-        reader.old (result_map (λ found. found.items) result) reader.new }
-{
-    if parameter == 15 {
-        return Err(FlacError::ReservedResidual);
-    }
-    Ok(read_numbers(reader, alloc, parameter, count)?)
 }
