@@ -1,0 +1,95 @@
+/* The calls of bits.h: they test for null pointers, and call the proved functions. */
+#include "bits.h"
+
+struct bits_unsigned {
+    int32_t status;
+    uint64_t value;
+};
+
+struct bits_signed {
+    int32_t status;
+    int64_t value;
+};
+
+/* The proved functions. */
+struct bits_unsigned proved_bits_read_unsigned(struct bits_reader *reader, uint32_t width);
+struct bits_signed proved_bits_read_signed(struct bits_reader *reader, uint32_t width);
+int32_t proved_bits_skip(struct bits_reader *reader, uint64_t count);
+void proved_bits_align(struct bits_reader *reader);
+uint64_t proved_bits_left(const struct bits_reader *reader);
+
+/* The layout that the proved functions have: with another one this type has a negative size. */
+typedef char bits_layout[sizeof(struct bits_reader) == 24 && offsetof(struct bits_reader, at) == 16 ? 1 : -1];
+
+/* What a reader of no bytes points to: the proved functions expect no null pointer in a struct. */
+static const uint8_t none[1];
+
+static int is_null(const struct bits_reader *reader)
+{
+    return !reader || !reader->bytes;
+}
+
+enum bits_status bits_open(struct bits_reader *reader, const uint8_t *bytes, size_t length)
+{
+    if (!reader || (!bytes && length))
+        return BITS_NULL;
+    reader->bytes = bytes ? bytes : none;
+    reader->length = length;
+    reader->at = 0;
+    return BITS_OK;
+}
+
+enum bits_status bits_read_unsigned(struct bits_reader *reader, uint32_t width, uint64_t *value)
+{
+    struct bits_unsigned read;
+    if (is_null(reader) || !value)
+        return BITS_NULL;
+    read = proved_bits_read_unsigned(reader, width);
+    if (read.status == BITS_OK)
+        *value = read.value;
+    return (enum bits_status)read.status;
+}
+
+enum bits_status bits_read_signed(struct bits_reader *reader, uint32_t width, int64_t *value)
+{
+    struct bits_signed read;
+    if (is_null(reader) || !value)
+        return BITS_NULL;
+    read = proved_bits_read_signed(reader, width);
+    if (read.status == BITS_OK)
+        *value = read.value;
+    return (enum bits_status)read.status;
+}
+
+enum bits_status bits_skip(struct bits_reader *reader, uint64_t count)
+{
+    return is_null(reader) ? BITS_NULL : (enum bits_status)proved_bits_skip(reader, count);
+}
+
+enum bits_status bits_align(struct bits_reader *reader)
+{
+    if (is_null(reader))
+        return BITS_NULL;
+    proved_bits_align(reader);
+    return BITS_OK;
+}
+
+uint64_t bits_left(const struct bits_reader *reader)
+{
+    return is_null(reader) ? 0 : proved_bits_left(reader);
+}
+
+const char *bits_status_text(enum bits_status status)
+{
+    switch (status) {
+    case BITS_OK:
+        return "the call did its work";
+    case BITS_END_OF_INPUT:
+        return "fewer bits are left";
+    case BITS_WIDTH:
+        return "more than 64 bits, or a signed number of no bits";
+    case BITS_NULL:
+        return "a pointer is null";
+    }
+    return "no status";
+}
