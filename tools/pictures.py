@@ -201,6 +201,8 @@ HOLDS = {
     "test_streams": "streams of the tests",
     "bitstream_bench": "tests",
     "bitstream_vectors": "test vectors",
+    "bits_c": "a reader of bits for C",
+    "ccsds_c": "a printed format for C, Rust and Python",
     "bench_port": "functions of the benchmark",
     "bench_parsers": "functions of the benchmark",
 }

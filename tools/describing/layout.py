@@ -171,7 +171,7 @@ class Format:
     """A format of a crate: its description, its lines, and what all back ends derive from them."""
 
     def __init__(self, crate: str, module: str, description: m.Description, path: str) -> None:
-        self.crate, self.m, self.description = crate, module, description
+        self.crate, self.m, self.description, self.path = crate, module, description, path
         self.lines = lines_of(description)
         self.made = f"Made by `./format` from {path}: edit that file and make this one anew."
         self.type, self.doc, self.error = description.name, description.doc, description.error

@@ -6,7 +6,7 @@ from typing import TypeAlias
 
 Table: TypeAlias = dict[str, str]  # the names of each module, with blanks between them
 
-SYMBOLS = {it: f"◌{it}◌" for it in "≡ ≢ ∷ ++ ^ < ≤ + - * ∙ == ⊎".split()}
+SYMBOLS = {it: f"◌{it}◌" for it in "≡ ≢ ∷ ++ ^ < ≤ + - * ∙ == ⊎ ↔".split()}
 SYMBOLS |= {"[]": "[]", "if": "if◌then◌else◌", "←": "◌>>=◌"}
 TOKEN = re.compile(r"\+\+|==|\[\]|[^\W\d][\w]*(?:-[^\W\d][\w]*)*(?:-\d+)?|\S")
 

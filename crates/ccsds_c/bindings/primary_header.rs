@@ -1,0 +1,164 @@
+//! Made by `./format --c` from ../bitstream_callers/formats/primary_header.fields: edit that file and make this one anew.
+//!
+//! The primary header of a CCSDS space packet.
+//!
+//! ```text
+//!  0                   1                   2                   3
+//!  0 1 2 3 4 5 6 7 8 9 0 1 2 3 4 5 6 7 8 9 0 1 2 3 4 5 6 7 8 9 0 1
+//! +-+-+-+-+-+-+-+-+-+-+-+-+-+-+-+-+-+-+-+-+-+-+-+-+-+-+-+-+-+-+-+-+
+//! |  =0 |t|s|         apid        |seq|           count           |
+//! +-+-+-+-+-+-+-+-+-+-+-+-+-+-+-+-+-+-+-+-+-+-+-+-+-+-+-+-+-+-+-+-+
+//! |             length            |
+//! +-+-+-+-+-+-+-+-+-+-+-+-+-+-+-+-+
+//! ```
+
+/// The primary header of a CCSDS space packet.
+#[derive(Clone, Copy, Debug, PartialEq, Eq, Hash)]
+pub struct PrimaryHeader {
+    /// True if the packet is a telecommand, and not telemetry.
+    pub telecommand: bool,
+    /// True if a secondary header follows.
+    pub secondary: bool,
+    /// The application of the packet. Below 2^11.
+    pub apid: u16,
+    /// The sequence flags. Below 2^2.
+    pub sequence: u8,
+    /// The number of the packet in its sequence. Below 2^14.
+    pub count: u16,
+    /// The bytes of the data field, less 1.
+    pub length: u16,
+}
+
+/// The reason why a `PrimaryHeader` was not parsed or packed.
+#[derive(Clone, Copy, Debug, PartialEq, Eq, Hash)]
+pub enum PrimaryHeaderError {
+    /// The bytes end before the fields do.
+    EndOfInput,
+    /// The buffer is too short.
+    NoRoom,
+    /// A field does not fit its bits.
+    DoesNotFit,
+    /// The version is not 0.
+    WrongVersion,
+}
+
+impl core::fmt::Display for PrimaryHeaderError {
+    fn fmt(&self, f: &mut core::fmt::Formatter<'_>) -> core::fmt::Result {
+        f.write_str(match self {
+            PrimaryHeaderError::EndOfInput => "the bytes end before the fields do",
+            PrimaryHeaderError::NoRoom => "the buffer is too short",
+            PrimaryHeaderError::DoesNotFit => "a field does not fit its bits",
+            PrimaryHeaderError::WrongVersion => "the version is not 0",
+        })
+    }
+}
+
+impl core::error::Error for PrimaryHeaderError {}
+
+fn done(status: i32) -> Result<(), PrimaryHeaderError> {
+    match status {
+        0 => Ok(()),
+        1 => Err(PrimaryHeaderError::EndOfInput),
+        2 => Err(PrimaryHeaderError::NoRoom),
+        5 => Err(PrimaryHeaderError::WrongVersion),
+        _ => Err(PrimaryHeaderError::DoesNotFit),
+    }
+}
+
+#[repr(C)]
+#[derive(Clone, Copy)]
+pub(crate) struct PrimaryHeaderC {
+    telecommand: u8,
+    secondary: u8,
+    apid: u16,
+    sequence: u8,
+    count: u16,
+    length: u16,
+}
+
+impl PrimaryHeaderC {
+    pub(crate) fn new(value: &PrimaryHeader) -> PrimaryHeaderC {
+        PrimaryHeaderC {
+            telecommand: u8::from(value.telecommand),
+            secondary: u8::from(value.secondary),
+            apid: value.apid,
+            sequence: value.sequence,
+            count: value.count,
+            length: value.length,
+        }
+    }
+
+    pub(crate) fn fields(&self) -> Option<PrimaryHeader> {
+        Some(PrimaryHeader {
+            telecommand: self.telecommand != 0,
+            secondary: self.secondary != 0,
+            apid: self.apid,
+            sequence: self.sequence,
+            count: self.count,
+            length: self.length,
+        })
+    }
+}
+
+#[repr(C)]
+struct Parsed {
+    status: i32,
+    value: PrimaryHeaderC,
+}
+
+#[repr(C)]
+struct Packed {
+    status: i32,
+    written: usize,
+}
+
+extern "C" {
+    fn proved_primary_header_parse(bytes: *const u8, length: usize) -> Parsed;
+    fn proved_primary_header_pack(value: &PrimaryHeaderC, buffer: *mut u8, length: usize) -> Packed;
+}
+
+// The layout that the proved functions have.
+const _: () = assert!(core::mem::size_of::<PrimaryHeaderC>() == 10);
+const _: () = assert!(core::mem::offset_of!(PrimaryHeaderC, length) == 8);
+
+impl PrimaryHeader {
+    /// The bytes that the fields take.
+    pub const SIZE: usize = 6;
+
+    /// Parses the fields at the start of `bytes`.
+    ///
+    /// # Errors
+    ///
+    /// `WrongVersion`, `EndOfInput` for fewer than 6 bytes.
+    pub fn parse(bytes: &[u8]) -> Result<PrimaryHeader, PrimaryHeaderError> {
+        // SAFETY: the pointer and the length are a slice's.
+        let parsed = unsafe { proved_primary_header_parse(bytes.as_ptr(), bytes.len()) };
+        done(parsed.status)?;
+        parsed.value.fields().ok_or(PrimaryHeaderError::DoesNotFit)
+    }
+
+    /// Writes the fields to the first 6 bytes of a buffer, and returns 6. The other bytes
+    /// stay as they were. After an error all bytes are as before.
+    ///
+    /// # Errors
+    ///
+    /// `DoesNotFit` if a field does not fit its bits; else `NoRoom` for fewer than 6 bytes.
+    pub fn pack_into(&self, buffer: &mut [u8]) -> Result<usize, PrimaryHeaderError> {
+        let value = PrimaryHeaderC::new(self);
+        // SAFETY: the pointer and the length are a slice's, which is borrowed mutably.
+        let packed = unsafe { proved_primary_header_pack(&value, buffer.as_mut_ptr(), buffer.len()) };
+        done(packed.status)?;
+        Ok(packed.written)
+    }
+
+    /// Returns the 6 bytes of the fields.
+    ///
+    /// # Errors
+    ///
+    /// `DoesNotFit` if a field does not fit its bits.
+    pub fn pack(&self) -> Result<[u8; 6], PrimaryHeaderError> {
+        let mut bytes = [0; 6];
+        self.pack_into(&mut bytes)?;
+        Ok(bytes)
+    }
+}

@@ -1,0 +1,2 @@
+pub mod PrimaryHeaderLemmas
+pub mod SharedLemmas

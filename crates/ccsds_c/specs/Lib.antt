@@ -1,0 +1,2 @@
+pub mod PrimaryHeader
+pub mod Shared

@@ -1,0 +1,376 @@
+"""The Rattle module of a format for C: its structs, the conversions, and the two functions with their contracts."""
+from __future__ import annotations
+
+import re
+from typing import assert_never
+
+from describing import model as m
+from describing.c import decided
+from describing.c.cross import Crossed, base, comment, count, enums, fields, is_partial, parts, rust_type
+from describing.c.imports import ghost_uses
+from describing.c.status import DOES_NOT_FIT, END_OF_INPUT, NO_ROOM, own
+from describing.c.target import Target
+from describing.layout import Format
+from describing.rust.reads import places_code
+
+INLINE = "#[inline(always)]"
+EXPORT = "#[unsafe(no_mangle)]"
+
+
+def code(t: Target) -> str:
+    """Returns the text of the module."""
+    f = t.f
+    body = [*struct_code(f), *parsed_code(f), *conversions(f), *helpers(f), *fit_code(f), *answer_code(f)]
+    body += [*parse_code(f), *put_code(f), *pack_code(f)]
+    text = "\n".join(body)
+    head = [f"//! {t.made}", "//!", f"//! `{f.type}` for C.", *ghost_uses(t, text), "", *uses(f, text), ""]
+    return "\n".join([*head, text]) + "\n"
+
+
+def uses(f: Format, text: str) -> list[str]:
+    """Returns the imports of the code."""
+    names = sorted(
+        {f.type, *[f.error] * bool(f.error), *[it.name for it in enums(f.description) if f"{it.name}::" in text]}
+    )
+    out = ["use crate::shared::{Packed, refused};"]
+    out += [f"use crate::{it.module}::{{self, {it.name}C}};" for it in parts(f.description)]
+    out += [f"use {f.crate}::{f.m}::{{{', '.join(names)}}};"]
+    out += ["use bitstream_io::Error;"] * (not f.error)
+    return out + ["use std::num::NonZero;"] * ("NonZero<" in text)
+
+
+def struct_code(f: Format) -> list[str]:
+    """Returns the struct of C."""
+    out = [f"/// `struct {f.m}` of C.", "#[repr(C)]", "#[derive(Clone, Copy)]", f"pub struct {f.type}C {{"]
+    for it in fields(f.description):
+        out += [f"    /// {comment(it)}", f"    pub {it.name}: {rust_type(it)},"]
+    return [*out, "}", ""]
+
+
+def parsed_code(f: Format) -> list[str]:
+    """Returns the result of a parse."""
+    return [
+        "/// The result of a parse.",
+        "#[repr(C)]",
+        "#[derive(Clone, Copy)]",
+        f"pub struct {f.type}Parsed {{",
+        "    /// The status.",
+        "    pub status: i32,",
+        "    /// The fields, if the status is 0.",
+        f"    pub value: {f.type}C,",
+        "}",
+        "",
+    ]
+
+
+# ---- conversions
+
+
+def to_c(kind: Crossed) -> str:
+    """Returns the field of C for a field."""
+    v = f"value.{kind.name}"
+    match kind:
+        case m.Bool():
+            return f"{v} as u8"
+        case m.Number() | m.Array():
+            return v
+        case m.NonZero():
+            return f"{v}.get()"
+        case m.MaybeNonZero():
+            return f"number_{base(kind)}({v})"
+        case m.Enum():
+            return f"{v}.number()"
+        case m.Part():
+            return f"{kind.use.name}C::new(&{v})"
+    assert_never(kind)
+
+
+def from_c(kind: Crossed) -> str:
+    """Returns the field for a field of C; the value of a partial one has its name already."""
+    v = f"self.{kind.name}"
+    match kind:
+        case m.Bool():
+            return f"{v} != 0"
+        case m.Number() | m.Array():
+            return v
+        case m.NonZero():
+            return f"option_{base(kind)}({v})"
+        case m.MaybeNonZero():
+            return f"option_{base(kind)}({v})"
+        case m.Enum():
+            return f"{kind.enum.name}::of({v})"
+        case m.Part():
+            return f"{v}.fields()"
+    assert_never(kind)
+
+
+def zero(kind: Crossed) -> str:
+    """Returns the field of C after an error."""
+    if isinstance(kind, m.Part):
+        return f"{kind.use.module}::zero()"
+    return f"[0; {kind.count}]" if isinstance(kind, m.Array) else "0"
+
+
+def conversions(f: Format) -> list[str]:
+    """Returns the functions from the fields to the struct of C and back."""
+    t, all_fields = f.type, fields(f.description)
+    return [
+        f"impl {t}C {{",
+        "    /// Returns the struct of C with these fields.",
+        f"    {INLINE}",
+        f"    pub(crate) fn new(value: &{t}) -> {t}C",
+        f"        ensures {{ result ≡ {f.m}_to_c value.now }}",
+        "    {",
+        f"        {t}C {{",
+        *[f"            {it.name}: {to_c(it)}," for it in all_fields],
+        "        }",
+        "    }",
+        "",
+        "    /// Returns the fields, or `None` if a number of C is no value of its field.",
+        f"    {INLINE}",
+        f"    pub(crate) fn fields(&self) -> Option<{t}>",
+        f"        ensures {{ result ≡ {f.m}_from_c self.now }}",
+        "    {",
+        *[line for it in all_fields if is_partial(it) for line in let_code(it)],
+        f"        Some({t} {{",
+        *[f"            {it.name}{'' if is_partial(it) else f': {from_c(it)}'}," for it in all_fields],
+        "        })",
+        "    }",
+        "}",
+        "",
+        "/// Returns the struct of C after an error.",
+        INLINE,
+        f"pub(crate) fn zero() -> {t}C",
+        f"    ensures {{ result ≡ {f.m}_zero }}",
+        "{",
+        f"    {t}C {{",
+        *[f"        {it.name}: {zero(it)}," for it in all_fields],
+        "    }",
+        "}",
+        "",
+    ]
+
+
+def let_code(kind: Crossed) -> list[str]:
+    """Returns the statement that returns `None` unless a number of C is a value."""
+    case = "Ok" if isinstance(kind, m.Enum) else "Some"
+    return [f"        let {case}({kind.name}) = {from_c(kind)} else {{", "            return None;", "        };"]
+
+
+# ---- the functions that some fields need
+
+
+def helpers(f: Format) -> list[str]:
+    """Returns the functions that the conversions and the tests of the fields call, each once."""
+    found: dict[str, list[str]] = {}
+    for it in fields(f.description):
+        if isinstance(it, m.NonZero | m.MaybeNonZero):
+            found[f"option_{base(it)}"] = option_code(base(it))
+        if isinstance(it, m.MaybeNonZero):
+            found[f"number_{base(it)}"] = number_code(base(it))
+        if isinstance(it, m.Array):
+            found[items_name(it)] = items_code(it)
+    return [line for it in found.values() for line in it]
+
+
+def option_code(number: str) -> list[str]:
+    """Returns the function from a number to a `NonZero`."""
+    return [
+        "/// Returns the `NonZero` of a number, `None` for 0.",
+        f"fn option_{number}(number: {number}) -> Option<NonZero<{number}>>",
+        f"    ensures {{ result ≡ if_any non_zero_{number} number }}",
+        "{",
+        f"    NonZero::<{number}>::new(number)",
+        "}",
+        "",
+    ]
+
+
+def number_code(number: str) -> list[str]:
+    """Returns the function from an optional `NonZero` to its number."""
+    return [
+        "/// Returns the number of an `Option`, 0 for `None`.",
+        f"fn number_{number}(value: Option<NonZero<{number}>>) -> {number}",
+        f"    ensures {{ result ≡ number_or_zero non_zero_{number}_get value }}",
+        "{",
+        "    match value {",
+        "        None => 0,",
+        "        Some(value) => value.get(),",
+        "    }",
+        "}",
+        "",
+    ]
+
+
+def items_name(kind: m.Array) -> str:
+    """Returns the name of the function that tests the items of an array."""
+    width = kind.item.width
+    return f"all_fit_{base(kind)}_{width}" if isinstance(kind.item, m.Integer) else "all_bytes"
+
+
+def items_code(kind: m.Array) -> list[str]:
+    """Returns the function that tests the items of an array."""
+    item, says, test = kind.item, "λ b. b < 256", "u16::from(*x) < 256"
+    if isinstance(item, m.Integer) and item.signed:
+        says, test = f"FitsSignedBits {item.width}", f"*x >= {item.least} && *x <= {item.most}"
+    elif isinstance(item, m.Integer):
+        says, test = f"λ x. x < 2 ^ {item.width}", f"*x <= {item.most}"
+    return [
+        "/// Returns true if each item fits its bits.",
+        f"fn {items_name(kind)}(items: &[{base(kind)}]) -> bool",
+        f"    ensures {{ IsTrue result ↔ All ({says}) items.now }}",
+        "{",
+        f"    items.iter().all(|x| {test})",
+        "}",
+        "",
+    ]
+
+
+def tests(kind: Crossed) -> list[str]:
+    """Returns the tests that a field fits its bits."""
+    v = f"value.{kind.name}"
+    match kind:
+        case m.Bool():
+            return []
+        case m.Number():
+            return [f"{v} >= {kind.integer.least}"] * kind.integer.signed + [f"{v} <= {kind.integer.most}"]
+        case m.NonZero():
+            return [f"{v}.get() - 1 <= {kind.integer.most}"]
+        case m.MaybeNonZero():
+            return [f"number_{base(kind)}({v}) <= {kind.integer.most}"]
+        case m.Enum():
+            again = [f"{v}.number() <= {2**kind.enum.width - 1}", f"{kind.enum.name}::of({v}.number()) == {v}"]
+            return again if kind.enum.other else []
+        case m.Array():
+            return [f"{items_name(kind)}(&{v})"]
+        case m.Part():
+            return [f"{kind.use.module}::is_fit(&{v})"]
+    assert_never(kind)
+
+
+def fit_code(f: Format) -> list[str]:
+    """Returns the function that tests whether all fields fit their bits."""
+    found = [test for it in fields(f.description) for test in tests(it)] or ["true"]
+    return [
+        "/// Returns true if each field fits its bits.",
+        INLINE,
+        f"pub(crate) fn is_fit(value: &{f.type}) -> bool",
+        "    ensures { IsTrue result ↔ Fits value.now }",
+        "{",
+        "    " + "\n        && ".join(found),
+        "}",
+        "",
+    ]
+
+
+# ---- parse
+
+
+def answer_code(f: Format) -> list[str]:
+    """Returns the functions that make the result of a parse."""
+    t, cases = f.type, [(f"{f.error}::Reader(_)" if f.error else "_", END_OF_INPUT)]
+    cases += [(f"{f.error}::{it.case}", it.number) for it in own(f)]
+    return [
+        "/// Returns the result of a parse for C.",
+        INLINE,
+        f"fn parsed(answer: Result<{t}, {f.e}>) -> {t}Parsed",
+        f"    ensures {{ result ≡ {f.m}_parsed answer }}",
+        "{",
+        "    match answer {",
+        f"        Ok(value) => {t}Parsed {{",
+        "            status: 0,",
+        f"            value: {t}C::new(&value),",
+        "        },",
+        *[f"        Err({case}) => failed({number})," for case, number in cases],
+        "    }",
+        "}",
+        "",
+        "/// Returns the result of a parse that failed.",
+        INLINE,
+        f"fn failed(status: i32) -> {t}Parsed",
+        f"    ensures {{ result ≡ record {{ status = status; value = {f.m}_zero }} }}",
+        "{",
+        f"    {t}Parsed {{",
+        "        status,",
+        "        value: zero(),",
+        "    }",
+        "}",
+        "",
+    ]
+
+
+def parse_code(f: Format) -> list[str]:
+    """Returns the function that parses bytes."""
+    answer = f"{f.m}_answer (sure_answer (({f.m}_decoder {f.o}).reads 0 (bits {f.o} bytes.now)))"
+    return [
+        "/// Parses the fields at the start of `bytes`.",
+        EXPORT,
+        f'pub extern "C" fn proved_{f.m}_parse(bytes: &[u8]) -> {f.type}Parsed',
+        f"    ensures answer {{ result ≡ {answer} }}",
+        *decided.clause(f),
+        *[told(f, it)[4:] for it in places_code(f)],
+        f"    ensures round_trip {{ (value : {f.type}) → Fits value",
+        f"        → bits {f.o} (take {f.bytes} bytes.now) ≡ {f.m}_bits value → result ≡ {f.m}_parsed (Ok value) }}",
+        "{",
+        f"    parsed({f.type}::parse(bytes))",
+        "}",
+        "",
+    ]
+
+
+def told(f: Format, line: str) -> str:
+    """Returns a line of a clause of the format's `parse` for the result that C gets."""
+    line = line.replace("packet.now", "bytes.now")
+    if f.error:
+        line = line.replace(f"Err ({f.error}.", "Err (")
+    line = re.sub(r"Err \((\w+)\) }$", r"Err \1 }", line)
+    return re.sub(r"result ≡ (.*) }$", rf"result ≡ {f.m}_parsed (\1) }}", line)
+
+
+# ---- pack
+
+
+def put_code(f: Format) -> list[str]:
+    """Returns the function that packs fields."""
+    n = f.bytes
+    return [
+        "/// Writes the fields to the first bytes of a buffer.",
+        INLINE,
+        f"fn put(fields: &{f.type}, buffer: &mut [u8]) -> Packed",
+        f"    ensures {{ PacksInto (Fits fields.now) {f.o} {n} ({f.m}_bits fields.now) buffer.old result buffer.new }}",
+        "{",
+        "    if !is_fit(fields) {",
+        f"        return refused({DOES_NOT_FIT});",
+        "    }",
+        f"    if buffer.len() < {n} {{",
+        f"        return refused({NO_ROOM});",
+        "    }",
+        f"    let mut whole = [0u8; {n}];",
+        "    match fields.pack_into(&mut whole) {",
+        f"        Ok(packed) => buffer[..{n}].copy_from_slice(packed.as_slice()),",
+        "        Err(_) => unreachable!(),",
+        "    }",
+        "    Packed {",
+        "        status: 0,",
+        f"        written: {n},",
+        "    }",
+        "}",
+        "",
+    ]
+
+
+def pack_code(f: Format) -> list[str]:
+    """Returns the function that packs the struct of C."""
+    c = f"({f.m}_from_c value.now)"
+    return [
+        "/// Writes the fields to the first bytes of a buffer.",
+        EXPORT,
+        f'pub extern "C" fn proved_{f.m}_pack(value: &{f.type}C, buffer: &mut [u8]) -> Packed',
+        f"    ensures {{ PacksInto (IsSomeAnd {c} Fits) {f.o} {f.bytes} ({f.m}_held {c}) buffer.old result buffer.new }}",
+        "{",
+        "    match value.fields() {",
+        "        Some(fields) => put(&fields, buffer),",
+        f"        None => refused({DOES_NOT_FIT}),",
+        "    }",
+        "}",
+    ]

@@ -1,0 +1,111 @@
+"""Prints the files of a format into a crate for C."""
+from __future__ import annotations
+
+import glob
+import os
+import re
+import tempfile
+
+from describing.c import header, python, rust, shared
+from describing.c.code import code
+from describing.c.cross import check, parts
+from describing.c.proofs import answer_files
+from describing.c.specs import specs
+from describing.c.target import Target, target
+from describing.layout import Format
+from describing.model import Refused
+from describing.printing import add_line, format_of, lay_out, put, text_of
+
+ROOT = """//! What C, Rust and Python call of the library `LIBRARY`, a module for each format.
+//!
+//! Each function is proved to do what its contract says, in each call that meets what the header asks for.
+#![tactic(auto)]
+
+mod shared;
+"""
+
+
+def files_of(t: Target) -> dict[str, str]:
+    """Returns the texts of the crate by their places in it."""
+    f = t.f
+    found = {f"src/{f.m}.rt": code(t), f"specs/{f.spec}.antt": specs(t)} | answer_files(t) | shared.files(t.crate)
+    return found | binding_files(t)
+
+
+def binding_files(t: Target) -> dict[str, str]:
+    """Returns the texts for other languages by their places in the crate."""
+    m = t.f.m
+    return {
+        f"bindings/{m}.h": header.header(t),
+        f"bindings/{m}.c": header.source(t),
+        f"bindings/{m}.rs": rust.module(t),
+        f"bindings/{m}.py": python.module(t),
+        "bindings/_library.py": python.library_module(t.library),
+    }
+
+
+def target_of(description: str, folder: str) -> Target:
+    """Returns the target of a description `crates/NAME/formats/MODULE.fields`, whose format is printed already."""
+    home = os.path.dirname(os.path.dirname(os.path.abspath(description)))
+    name = os.path.basename(description).removesuffix(".fields")
+    if not os.path.exists(os.path.join(home, "src", f"{name}.rt")):
+        raise Refused(f"`{name}` is not printed: run `./format {description} {os.path.relpath(home)}` first")
+    f = format_of(description, home, name)
+    f.path = os.path.relpath(description, folder)
+    check(f.description)
+    return target(f, os.path.basename(os.path.abspath(folder)))
+
+
+def check_parts(f: Format, folder: str) -> None:
+    """Refuses a part that is not printed for C."""
+    for it in parts(f.description):
+        if not os.path.exists(os.path.join(folder, "src", f"{it.module}.rt")):
+            raise Refused(f"`{it.module}` is not printed for C: run `./format --c` on `{it.module}.fields` first")
+
+
+def printed(description: str, folder: str) -> tuple[Target, dict[str, str]]:
+    """Returns the target of a description, and the texts of its files by place, as `rt fmt` lays them out."""
+    t = target_of(description, folder)
+    with tempfile.TemporaryDirectory() as room:
+        crate = os.path.join(room, "crates", t.crate)
+        texts = files_of(t)
+        for place, text in texts.items():
+            put(crate, place, text)
+        put(room, "crates.txt", f"{t.crate} staticlib:\n")
+        put(crate, "src/lib.rt", f"mod {t.f.m};\nmod shared;\n")
+        lay_out(crate)
+        return t, {place: text_of(crate, place) for place in texts}
+
+
+def listed(t: Target) -> dict[str, list[str]]:
+    """Returns the lines that name the files, by the file that has them."""
+    return {
+        "src/lib.rt": [f"mod {t.f.m};"],
+        "specs/Lib.antt": [f"pub mod {t.f.spec}", "pub mod Shared"],
+        "proofs/Lib.antt": [f"pub mod {t.f.spec}Lemmas", "pub mod SharedLemmas"],
+    }
+
+
+def descriptions_for_c(folder: str) -> list[str]:
+    """Returns the descriptions that the headers of a crate were printed from, parts first."""
+    found = list[tuple[int, str]]()
+    for it in sorted(glob.glob(os.path.join(folder, "bindings", "*.h"))):
+        text = text_of(it)
+        said = re.match(r"/\* Made by `./format --c` from (\S+): ", text)
+        if said:
+            found.append((text.count('#include "'), os.path.normpath(os.path.join(folder, said.group(1)))))
+    return [it for _, it in sorted(found)]
+
+
+def write(description: str, folder: str) -> int:
+    """Writes the files of a format, and the lines that name them; returns the number of lines."""
+    t, texts = printed(description, folder)
+    check_parts(t.f, folder)
+    for place, text in texts.items():
+        put(folder, place, text)
+    if not os.path.exists(os.path.join(folder, "src", "lib.rt")):
+        put(folder, "src/lib.rt", ROOT.replace("LIBRARY", t.library))
+    for place, lines in listed(t).items():
+        for line in lines:
+            add_line(folder, place, line)
+    return sum(text.count("\n") for text in texts.values())

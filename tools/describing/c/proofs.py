@@ -1,0 +1,108 @@
+"""The proofs of a format for C."""
+from __future__ import annotations
+
+from describing import model as m
+from describing.c import decided
+from describing.c.cross import base, fields
+from describing.c.imports import lemma_uses, parse_uses
+from describing.c.target import Target
+
+
+HEAD = "-- The number of bytes of a `{}`, its bits before others, and when a parse succeeds."
+
+
+def lemmas(t: Target) -> str:
+    """Returns the lemmas of a format: its number of bytes, and its bits before others."""
+    f, o, n = t.f, t.f.o, t.f.bytes
+    all_bits = f"bits {o} bytes"
+    text = f"""-- the number of bytes
+pub bytes_count : (value : {f.type}) (bytes : List ℕ) → Fits value
+    → {all_bits} ≡ {f.m}_bits value → length bytes ≡ {n}
+bytes_count value bytes fits is =
+    let all = {f.m}_packs {o} value fits in
+    let count : length ({all_bits}) ≡ {f.total} =
+    ap length (is ∙ sym (told value) ∙ packs-whole all refl) ∙ all.size 0 in
+    omega (arith, count, length-bits {o} bytes)
+
+-- the bits of bytes whose first ones are known
+pub first_bytes : (value : {f.type}) (bytes : List ℕ) → bits {o} (take {n} bytes) ≡ {f.m}_bits value
+    → {all_bits} ≡ {f.m}_bits value ++ bits {o} (drop {n} bytes)
+first_bytes value bytes is =
+    ap (bits {o}) (sym (take-append-drop {n} bytes)) ∙ bits-append {o} (take {n} bytes) (drop {n} bytes)
+    ∙ ap (λ first. first ++ bits {o} (drop {n} bytes)) is
+"""
+    text += decided.lemma(t)
+    return "\n".join([f"-- {t.made}", HEAD.format(f.type), *lemma_uses(t, text), "", text])
+
+
+def put_answers(t: Target) -> str:
+    """Returns the proof of the function that packs fields."""
+    f, o, n = t.f, t.f.o, t.f.bytes
+    fits = "let fits : Fits c.args.fields.now = search rules in"
+    count = f"bytes_count _ _ fits (ap (bits {o}) c.as_slice.ensures ∙ c.in-Ok.ensures.packed)"
+    return f"""-- {t.made}
+use Rattle.std.proofs.Common.{{◌≡◌, ◌∙◌, length, ap, arith, rules}}
+use Rattle.std.proofs.lemmas.List.{{length-take-le, take_at, drop_at}}
+use {f.specs_path}.{{Fits}}
+use Rattle.bitstream_io.specs.Callers.{{{o}, bits}}
+use Rattle.{t.crate}.proofs.SharedLemmas.{{packs-done}}
+use Rattle.{t.crate}.proofs.{f.spec}Lemmas.{{bytes_count}}
+use Rattle.{t.crate}.proofs.{f.m}.put.Goals as goal
+
+pub copy_from_slice-requires : goal.copy_from_slice-requires
+copy_from_slice-requires c =
+    {fits}
+    let count = {count} in
+    omega (arith, count, length-take-le {n} c.args.buffer.now)
+
+pub returns : goal.returns
+returns c =
+    {fits}
+    let count = {count} in
+    let same : c.copy_from_slice.new.self ≡ c.as_slice.result.now = cc in
+    let size : length c.copy_from_slice.new.self ≡ {n} = ap length same ∙ count in
+    packs-done fits (omega arith)
+    (ap (bits {o}) (take_at _ _ {n} size ∙ same ∙ c.as_slice.ensures) ∙ c.in-Ok.ensures.packed) (drop_at _ _ {n} size)
+"""
+
+
+def parse_answers(t: Target) -> str:
+    """Returns the proof of the function that parses bytes."""
+    f = t.f
+    text = f"""pub returns-clause-round_trip : goal.returns-clause-round_trip
+returns-clause-round_trip c = λ value fits is.
+    c.parsed.ensures ∙ ap {f.m}_parsed (c.parse.ensures.back value (bits {f.o} (drop {f.bytes} c.args.bytes.now)) fits
+    (first_bytes value _ is))
+"""
+    text += decided.answer(t)
+    return "\n".join([f"-- {t.made}", *parse_uses(t, text), "", text])
+
+
+def option_answers(t: Target, number: str) -> str:
+    """Returns the proof of the function from a number to a `NonZero`."""
+    kind, get = f"NonZero{number.upper()}", f"non_zero_{number}_get"
+    return f"""-- {t.made}
+use Rattle.std.proofs.Common.{{◌≡◌, ◌∙◌, ℕ, Option, None, Some, ap, sym, refl}}
+use Rattle.std.specs.Prelude.{{MatchOption}}
+use Rattle.std.specs.Int.NonZero.{{{get}}}
+use Rattle.std.specs.declared.num.{kind}.{{{kind}}}
+use Rattle.bitstream_io.specs.Callers.{{if_any, non_zero_{number}, number_or_zero}}
+use Rattle.bitstream_io.proofs.CallerLemmas.{{option_{number}-again}}
+use Rattle.{t.crate}.proofs.{t.f.m}.option_{number}.Goals as goal
+
+made : (r : Option {kind}) (n : ℕ) → MatchOption r (n ≡ 0) (λ x. {get} x ≡ n) → r ≡ if_any non_zero_{number} n
+made None n is = ap (if_any non_zero_{number}) (sym is)
+made (Some x) n is = sym (option_{number}-again (Some x)) ∙ ap (if_any non_zero_{number}) is
+
+pub returns : goal.returns
+returns c = made _ _ c.new.ensures
+"""
+
+
+def answer_files(t: Target) -> dict[str, str]:
+    """Returns the proofs of the functions by their places."""
+    m_ = t.f.m
+    numbers = [base(it) for it in fields(t.f.description) if isinstance(it, m.NonZero | m.MaybeNonZero)]
+    found = {f"proofs/{m_}/option_{it}/Answers.antt": option_answers(t, it) for it in numbers}
+    found[f"proofs/{m_}/proved_{m_}_parse/Answers.antt"] = parse_answers(t)
+    return found | {f"proofs/{m_}/put/Answers.antt": put_answers(t), f"proofs/{t.f.spec}Lemmas.antt": lemmas(t)}
