@@ -67,11 +67,6 @@ def from_c(kind: Crossed, name: str) -> str:
     assert_never(kind)
 
 
-def part_value(kind: Crossed) -> str:
-    """Returns the field for a part none of whose numbers is refused."""
-    return from_c(kind, f"c.{kind.name}")
-
-
 def partial_type(t: Target, kind: Crossed) -> str:
     """Returns the type of what a partial field is made from."""
     match kind:
@@ -82,11 +77,6 @@ def partial_type(t: Target, kind: Crossed) -> str:
         case m.Part():
             return f"Option {kind.use.name}"
     raise AssertionError(kind)
-
-
-def is_held(kind: Crossed, some: list[Crossed]) -> bool:
-    """Returns true if the value of a field is known from a pattern."""
-    return isinstance(kind, m.Part) or kind in some
 
 
 def given(t: Target) -> list[Crossed]:

@@ -3,7 +3,6 @@ from __future__ import annotations
 
 from dataclasses import dataclass
 
-from describing import model as m
 from describing.layout import Format
 from describing.model import snake
 from describing.rust.calls import refusal
@@ -57,8 +56,3 @@ def statuses(f: Format) -> list[Status]:
 def refused(f: Format) -> list[Status]:
     """Returns the statuses that a caller in Rust or Python may see as an error."""
     return [it for it in statuses(f) if it.number not in (OK, NULL)]
-
-
-def errors(description: m.Description) -> bool:
-    """Returns true if the format has an error of its own."""
-    return bool(description.error)
