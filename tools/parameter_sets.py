@@ -213,12 +213,10 @@ def predicted_set(bits: Bits, before: list[int], after: list[int]) -> tuple[list
     by = (bits.range(0, 7) + 1) * (-1 if sign else 1)
     moved: list[int] = []
     for at, distance in enumerate(before + after + [0]):
-        is_current = bits.flag()
-        is_used = is_current or (bits.flag() if len(moved) < 15 else bits.flag(0))
+        part = 0.5 if len(moved) < 15 else 0
+        is_used = bits.flag(part) or bits.flag(part)
         if is_used and distance + by:
             moved.append(distance + by)
-        if len(moved) == 16:
-            raise ValueError("too many pictures")
     return sorted((it for it in moved if it < 0), reverse=True), sorted(it for it in moved if it > 0)
 
 
@@ -433,8 +431,8 @@ def sets(draw: random.Random) -> bytes:
 
 
 def with_sets(draw: random.Random, stream: bytes) -> bytes:
-    """A stream with more parameter sets before its first one, or after its first picture parameter set."""
+    """A stream with more parameter sets after its first picture parameter set, if it has one."""
     starts = [it.start() for it in re.finditer(rb"\x00?\x00\x00\x01", stream)]
-    first = next(at for at in starts if stream[at:].lstrip(b"\0")[1] >> 1 == 34)
-    after = next(at for at in starts if at > first)
-    return stream[:after] + sets(draw) + stream[after:]
+    first = [at for at in starts if stream[at:].lstrip(b"\0")[1] >> 1 == 34][:1]
+    after = [at for at in starts if first and at > first[0]]
+    return stream[: after[0]] + sets(draw) + stream[after[0] :] if after else stream

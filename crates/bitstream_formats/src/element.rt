@@ -4,14 +4,14 @@ ghost use Rattle.std.specs.Prelude.{◌<◌, ◌^◌, IfOk};
 use bitstream_io::{BitRead, BitReadExt, Endianness, Error, SliceReader};
 use std::fmt;
 
-/// The numbers of an element of a list, or of a list of lists. They are displayed in brackets.
+/// The indexes of an element of a list, or of a list of lists. They are displayed in brackets.
 #[derive(Clone, Copy, Debug, PartialEq)]
 pub enum Index {
-    /// Its number in a list.
+    /// The index in a list.
     One(u32),
-    /// The number of its list, and its number in it.
+    /// The index of a list, and the index in it.
     Two(u32, u32),
-    /// The numbers of two lists, and its number in the inner one.
+    /// The indexes of two lists, and the index in the inner one.
     Three(u32, u32, u32),
 }
 
@@ -54,7 +54,7 @@ pub(crate) struct Syntax<'r, 'a, 'b, E: Endianness> {
     pub(crate) reader: &'r mut SliceReader<'a, E>,
     /// The elements read.
     pub(crate) elements: &'b mut Vec<Element>,
-    /// The numbers of the elements that are being read.
+    /// The indexes of the next elements.
     pub(crate) index: Option<Index>,
     /// The place of the reader's first bit.
     pub(crate) start: u64,

@@ -26,7 +26,7 @@ pub use stream::Stream;
 /// The reason why a unit is refused.
 #[derive(Debug, Drop, thiserror::Error)]
 pub enum H264Error {
-    /// The unit is wrong, whatever it holds.
+    /// An error of the unit itself, whatever its contents are.
     #[error("{0}")]
     Unit(UnitError),
     /// The number of a sequence parameter set is above 31.
@@ -152,8 +152,9 @@ fn read_set(
     }
 }
 
-/// Checks the end of a unit of some type of which only the header is read. If what it holds ends in trailing
-/// bits, a 1 follows the header: the last 1 of the unit, at `last`, is the stop bit, and zeros follow it.
+/// Checks the end of a unit of a type with only its header read. If its contents end in trailing
+/// bits, a 1 follows the header: the last 1 of the unit, at `last`, is the stop bit, and zeros
+/// follow it.
 fn check_end(syntax: &mut Syntax<'_, '_, '_, BE>, kind: u32, last: u64) -> Result<(), UnitError> {
     match kind {
         9 => check_delimiter(syntax, last),

@@ -1,5 +1,6 @@
-//! H.265 (ITU-T H.265, ISO/IEC 23008-2): the units of a byte stream, and the elements of its video, sequence and
-//! picture parameter sets. [`Stream`] reads a whole stream, and goes on after a unit that it refuses.
+//! H.265 (ITU-T H.265, ISO/IEC 23008-2): the units of a byte stream, and the elements of its video,
+//! sequence and picture parameter sets. [`Stream`] reads a whole stream, and continues after a unit
+//! that it refuses.
 
 ghost use Rattle.std.specs.Prelude.{◌≡◌, IsErr};
 
@@ -32,7 +33,7 @@ use vps::read_vps;
 /// The reason why a unit is refused.
 #[derive(Debug, Drop, thiserror::Error)]
 pub enum H265Error {
-    /// The unit is wrong, whatever it holds.
+    /// An error of the unit itself, whatever its contents are.
     #[error("{0}")]
     Unit(UnitError),
     /// The number of a sequence parameter set is above 15.
@@ -56,8 +57,8 @@ pub enum H265Error {
     /// A buffer has more than 32 schedules.
     #[error("more than 32 schedules of a buffer")]
     TooManySchedules,
-    /// The number of a picture's order has more than 16 bits.
-    #[error("more than 16 bits of a picture's order")]
+    /// The order count of a picture has more than 16 bits.
+    #[error("more than 16 bits of the order count of a picture")]
     OrderTooLong,
     /// Samples have more than 16 bits.
     #[error("samples of more than 16 bits")]
@@ -83,8 +84,8 @@ pub enum H265Error {
     /// A palette has more than 128 colors.
     #[error("more than 128 colors of a palette")]
     PaletteTooLong,
-    /// A palette comes in a set that gets the depth of samples from another layer.
-    #[error("a palette without the depth of its samples: not supported")]
+    /// A set has a palette, and no bit depth of its own.
+    #[error("a palette without the bit depth of its samples: not supported")]
     PaletteDepth,
     /// A set maps the colors of one layer to those of another.
     #[error("a table that maps colors: not supported")]
@@ -106,7 +107,7 @@ impl From<Error> for H265Error {
     }
 }
 
-/// What a unit is.
+/// The kind of a unit.
 #[derive(Clone, Copy, Debug, PartialEq, Eq)]
 pub enum Unit {
     /// A video parameter set.
@@ -115,25 +116,26 @@ pub enum Unit {
     Sequence,
     /// A picture parameter set.
     Picture,
-    /// Another one. Only its header is read.
+    /// Another kind of unit. Only its header is read.
     Other,
 }
 
-/// A reader of the bits of a unit, with the elements that were read.
+/// A reader of the bits of a unit, with the elements read.
 type Nal<'r, 'a, 'b> = Syntax<'r, 'a, 'b, BE>;
 
 /// Reads a unit without its start code, and appends the elements of its header and of a parameter set. Their
 /// places are counted in bits of the unit without its bytes against emulation, as the standard counts them.
 ///
-/// A video parameter set that was read whole is kept in `sets`, in place of the one of its number. A sequence
-/// parameter set of another layer may get its number of sub-layers from it.
+/// A video parameter set that was read whole is kept in `sets`, and replaces the one of its number.
+/// A sequence parameter set of another layer may get its number of sub-layers from it.
 ///
 /// The end of a unit is checked: the stop bit is 1 and the bits after it are 0. What the other units hold is
 /// not read, so their last 1 counts as the stop bit. It must come after the header.
 ///
 /// # Errors
 ///
-/// Those of [`H265Error`]: `sets` are unchanged, and the elements that were read before are appended.
+/// The errors of [`H265Error`]: `sets` are unchanged, and the elements that were read before are
+/// appended.
 pub fn read_unit(
     alloc: Global,
     sets: &mut ParameterSets,
@@ -207,8 +209,9 @@ fn read_set(
     }
 }
 
-/// Checks the end of a unit of some type of which only the header is read. If what it holds ends in trailing
-/// bits, a 1 follows the header: the last 1 of the unit, at `last`, is the stop bit, and zeros follow it.
+/// Checks the end of a unit of a type with only its header read. If its contents end in trailing
+/// bits, a 1 follows the header: the last 1 of the unit, at `last`, is the stop bit, and zeros
+/// follow it.
 fn check_end(syntax: &mut Nal<'_, '_, '_>, kind: u32, last: u64) -> Result<(), UnitError> {
     match kind {
         35 => check_delimiter(syntax, last),

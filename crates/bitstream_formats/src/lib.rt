@@ -15,8 +15,8 @@
 //! - [`element`]: elements of a format, which are read one by one
 //! - [`flac`]: FLAC: the metadata of a file, and its samples
 //! - [`h264`]: H.264: the units of a byte stream, and its parameter sets
-//! - [`h265`]: H.265: the same, with video parameter sets
-//! - [`nal`]: what H.264 and H.265 have in common: units, and bytes against emulation
+//! - [`h265`]: H.265: the units of a byte stream, and its parameter sets
+//! - [`nal`]: NAL units and bytes against emulation, for H.264 and H.265
 //! - [`ogg`]: Ogg: pages and packets, and the first byte of a packet of Opus
 //! - [`stream_info`]: the properties of all frames of a FLAC file, printed by `./format`
 //! - [`ts`]: MPEG transport streams: packets, and the headers of PES packets

@@ -1,5 +1,5 @@
-//! NAL units, of which the streams of H.264 and H.265 consist: the units of a byte stream, the bytes against the
-//! emulation of a start code, and the elements that both formats have.
+//! NAL units, the parts of a stream of H.264 or H.265: how a byte stream separates them, the bytes
+//! against the emulation of a start code, and the elements that both formats share.
 
 use bitstream_io::Error;
 
@@ -17,7 +17,7 @@ pub(crate) use signal::read_signal;
 pub(crate) use trailing::{check_delimiter, last_one, read_trailing_bits};
 pub use units::Units;
 
-/// The reason why a unit is refused, whatever it holds.
+/// The reason why a unit is refused, whatever its contents are.
 #[derive(Debug, Drop, thiserror::Error)]
 pub enum UnitError {
     /// The bits were not read, or memory was refused.
@@ -32,7 +32,7 @@ pub enum UnitError {
     /// The first bit of the unit is not 0.
     #[error("the forbidden bit is set")]
     Forbidden,
-    /// The bit `rbsp_stop_one_bit`, which ends what a unit holds, is 0 or missing.
+    /// The bit `rbsp_stop_one_bit` at the end of a unit's contents is 0 or missing.
     #[error("rbsp_stop_one_bit is not 1")]
     NoStopBit,
     /// A bit after `rbsp_stop_one_bit` is 1.

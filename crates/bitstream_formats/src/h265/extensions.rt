@@ -1,5 +1,5 @@
-//! The extensions of sequence and picture parameter sets: of format ranges, of several layers, and of screen content
-//! (sections 7.3.2.2, 7.3.2.3 and F.7.3.2.3).
+//! The extensions of sequence and picture parameter sets: format ranges, several layers, and screen
+//! content (sections 7.3.2.2, 7.3.2.3 and F.7.3.2.3).
 
 use super::palette::{Depths, read_colors};
 use super::{H265Error, Nal};
@@ -7,7 +7,7 @@ use crate::element::Index;
 use crate::nal::{read_se, read_ue};
 use bitstream_io::Error;
 
-/// Which extensions a set has.
+/// The extensions of a set.
 #[derive(Clone, Copy)]
 struct Extensions {
     range: bool,
@@ -17,7 +17,7 @@ struct Extensions {
     more: bool,
 }
 
-/// Reads bits of which nothing is known, up to the last 1 of the unit.
+/// Reads the bits of unknown extensions, up to the last 1 of the unit.
 pub(super) fn read_extension_data(
     syntax: &mut Nal<'_, '_, '_>,
     name: &'static str,
@@ -29,7 +29,7 @@ pub(super) fn read_extension_data(
     Ok(())
 }
 
-/// Reads the extensions of a sequence parameter set. The depths of its samples are `None` if it has none.
+/// Reads the extensions of a sequence parameter set. `depths` are `None` if the set has no bit depths.
 pub(super) fn read_sps_extensions(
     syntax: &mut Nal<'_, '_, '_>,
     depths: Option<Depths>,
@@ -60,7 +60,7 @@ pub(super) fn read_sps_extensions(
     Ok(())
 }
 
-/// Reads the extension of format ranges of a sequence parameter set.
+/// Reads the range extension of a sequence parameter set.
 fn read_sps_range(syntax: &mut Nal<'_, '_, '_>) -> Result<(), Error> {
     syntax.flag("transform_skip_rotation_enabled_flag")?;
     syntax.flag("transform_skip_context_enabled_flag")?;
@@ -74,7 +74,7 @@ fn read_sps_range(syntax: &mut Nal<'_, '_, '_>) -> Result<(), Error> {
     Ok(())
 }
 
-/// Reads the extension of screen content of a sequence parameter set.
+/// Reads the screen content extension of a sequence parameter set.
 fn read_sps_screen(syntax: &mut Nal<'_, '_, '_>, depths: Option<Depths>) -> Result<(), H265Error> {
     syntax.flag("sps_curr_pic_ref_enabled_flag")?;
     if syntax.flag("palette_mode_enabled_flag")? {
@@ -99,7 +99,7 @@ fn read_sps_palette(syntax: &mut Nal<'_, '_, '_>, depths: Option<Depths>) -> Res
     read_colors(syntax, name, count.saturating_add(1), depths)
 }
 
-/// Reads the extensions of a picture parameter set. `skips` says whether it lets the transform be skipped.
+/// Reads the extensions of a picture parameter set. `skips` is true if the transform may be skipped.
 pub(super) fn read_pps_extensions(
     syntax: &mut Nal<'_, '_, '_>,
     skips: bool,
@@ -130,7 +130,7 @@ pub(super) fn read_pps_extensions(
     Ok(())
 }
 
-/// Reads the extension of format ranges of a picture parameter set.
+/// Reads the range extension of a picture parameter set.
 fn read_pps_range(syntax: &mut Nal<'_, '_, '_>, skips: bool) -> Result<(), H265Error> {
     if skips {
         read_ue(syntax, "log2_max_transform_skip_block_size_minus2")?;
@@ -144,7 +144,7 @@ fn read_pps_range(syntax: &mut Nal<'_, '_, '_>, skips: bool) -> Result<(), H265E
     Ok(())
 }
 
-/// Reads the offsets of chroma among which a block chooses.
+/// Reads the list of chroma offsets for blocks.
 fn read_chroma_offsets(syntax: &mut Nal<'_, '_, '_>) -> Result<(), H265Error> {
     read_ue(syntax, "diff_cu_chroma_qp_offset_depth")?;
     let more = read_ue(syntax, "chroma_qp_offset_list_len_minus1")?;
@@ -160,7 +160,7 @@ fn read_chroma_offsets(syntax: &mut Nal<'_, '_, '_>) -> Result<(), H265Error> {
     Ok(())
 }
 
-/// Reads the extension of several layers of a picture parameter set.
+/// Reads the multilayer extension of a picture parameter set.
 fn read_pps_layers(syntax: &mut Nal<'_, '_, '_>) -> Result<(), H265Error> {
     syntax.flag("poc_reset_info_present_flag")?;
     if syntax.flag("pps_infer_scaling_list_flag")? {
@@ -180,7 +180,7 @@ fn read_pps_layers(syntax: &mut Nal<'_, '_, '_>) -> Result<(), H265Error> {
     Ok(())
 }
 
-/// Reads where a picture lies in the picture of another layer, and how it is sampled.
+/// Reads the place of a picture in the picture of another layer, and its sampling.
 fn read_layer_offsets(syntax: &mut Nal<'_, '_, '_>, at: u32) -> Result<(), Error> {
     syntax.index = Some(Index::One(at));
     let layer = Some(Index::One(syntax.number("ref_loc_offset_layer_id", 6)?));
@@ -210,7 +210,7 @@ fn read_layer_offsets(syntax: &mut Nal<'_, '_, '_>, at: u32) -> Result<(), Error
     Ok(())
 }
 
-/// Reads the extension of screen content of a picture parameter set.
+/// Reads the screen content extension of a picture parameter set.
 fn read_pps_screen(syntax: &mut Nal<'_, '_, '_>) -> Result<(), H265Error> {
     syntax.flag("pps_curr_pic_ref_enabled_flag")?;
     if syntax.flag("residual_adaptive_colour_transform_enabled_flag")? {

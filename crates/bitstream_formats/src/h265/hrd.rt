@@ -5,19 +5,19 @@ use crate::element::Index;
 use crate::nal::read_ue;
 use bitstream_io::Error;
 
-/// What all sub-layers have in common.
+/// The parameters that all sub-layers share.
 #[derive(Clone, Copy)]
 pub(super) struct Common {
-    // Whether there are parameters of a stream of units.
+    // True if there are schedules for all units.
     units: bool,
-    // Whether there are parameters of slices alone.
+    // True if there are schedules for the units with slices.
     slices: bool,
-    // Whether there are parameters of parts of pictures.
+    // True if there are parameters for parts of pictures.
     parts: bool,
 }
 
 impl Common {
-    /// Returns that there are no parameters.
+    /// Returns no parameters.
     pub(super) fn none() -> Common {
         Common {
             units: false,
@@ -27,8 +27,8 @@ impl Common {
     }
 }
 
-/// Reads the parameters of `lower` sub-layers and of the highest one, and returns what they have in common. It is
-/// read first, unless it is `known` from the parameters before.
+/// Reads the parameters of `lower` sub-layers and of the highest one. Returns the shared parameters,
+/// which are read first if they are not `known` from an earlier call.
 pub(super) fn read_hrd(
     syntax: &mut Nal<'_, '_, '_>,
     known: Option<Common>,
@@ -52,7 +52,7 @@ pub(super) fn read_hrd(
     Ok(common)
 }
 
-/// Reads what all sub-layers have in common.
+/// Reads the parameters that all sub-layers share.
 fn read_common(syntax: &mut Nal<'_, '_, '_>) -> Result<Common, Error> {
     let units = syntax.flag("nal_hrd_parameters_present_flag")?;
     let slices = syntax.flag("vcl_hrd_parameters_present_flag")?;
@@ -81,7 +81,7 @@ fn read_common(syntax: &mut Nal<'_, '_, '_>) -> Result<Common, Error> {
     })
 }
 
-/// Reads the rate of the pictures of a sub-layer, and returns the number of its schedules.
+/// Reads the picture rate of a sub-layer, and returns the number of its schedules.
 fn read_rate(syntax: &mut Nal<'_, '_, '_>) -> Result<u32, H265Error> {
     let is_fixed = syntax.flag("fixed_pic_rate_general_flag")?
         || syntax.flag("fixed_pic_rate_within_cvs_flag")?;

@@ -1,10 +1,10 @@
-//! The colors with which the prediction of palettes begins (sections 7.3.2.2.3 and 7.3.2.3.3).
+//! The first colors for the prediction of palettes (sections 7.3.2.2.3 and 7.3.2.3.3).
 
 use super::{H265Error, Nal};
 use crate::element::Index;
 use bitstream_io::Error;
 
-/// How many bits samples have.
+/// The bit depths of samples.
 #[derive(Clone, Copy)]
 pub(super) struct Depths {
     luma: u32,
@@ -13,7 +13,7 @@ pub(super) struct Depths {
 }
 
 impl Depths {
-    /// Returns the depths of samples, from how many bits they have beyond eight.
+    /// Returns bit depths, from the numbers of bits above eight.
     pub(super) fn of(is_monochrome: bool, luma: u32, chroma: u32) -> Result<Depths, H265Error> {
         if luma > 8 || chroma > 8 {
             return Err(H265Error::SamplesTooDeep);
@@ -29,7 +29,7 @@ impl Depths {
     }
 }
 
-/// Reads so many colors of each component.
+/// Reads `count` colors of each component.
 pub(super) fn read_colors(
     syntax: &mut Nal<'_, '_, '_>,
     name: &'static str,
@@ -47,7 +47,7 @@ pub(super) fn read_colors(
     Ok(())
 }
 
-/// Reads the colors of a component.
+/// Reads `count` colors of a component.
 fn read_component(
     syntax: &mut Nal<'_, '_, '_>,
     name: &'static str,

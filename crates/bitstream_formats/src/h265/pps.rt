@@ -39,7 +39,7 @@ pub(super) fn read_pps(syntax: &mut Nal<'_, '_, '_>, last: u64) -> Result<(), H2
     Ok(())
 }
 
-/// Reads how pictures are coded. Returns true if the transform may be skipped.
+/// Reads the elements on coding. Returns true if the transform may be skipped.
 fn read_coding(syntax: &mut Nal<'_, '_, '_>) -> Result<bool, Error> {
     syntax.flag("dependent_slice_segments_enabled_flag")?;
     syntax.flag("output_flag_present_flag")?;
@@ -78,7 +78,7 @@ fn read_tiles(syntax: &mut Nal<'_, '_, '_>) -> Result<(), H265Error> {
     Ok(())
 }
 
-/// Reads the sizes of so many tiles.
+/// Reads the sizes of `count` tiles.
 fn read_sizes(syntax: &mut Nal<'_, '_, '_>, name: &'static str, count: u32) -> Result<(), Error> {
     for at in 0..count {
         syntax.index = Some(Index::One(at));
@@ -88,7 +88,7 @@ fn read_sizes(syntax: &mut Nal<'_, '_, '_>, name: &'static str, count: u32) -> R
     Ok(())
 }
 
-/// Reads how the deblocking filter is set.
+/// Reads the settings of the deblocking filter.
 fn read_deblocking(syntax: &mut Nal<'_, '_, '_>) -> Result<(), Error> {
     syntax.flag("deblocking_filter_override_enabled_flag")?;
     if !syntax.flag("pps_deblocking_filter_disabled_flag")? {

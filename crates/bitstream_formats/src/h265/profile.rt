@@ -34,7 +34,7 @@ struct Names {
     reserved_bit: &'static str,
 }
 
-/// The names of a whole stream's profile.
+/// The names for the profile of a whole stream.
 const GENERAL: Names = Names {
     space: "general_profile_space",
     tier: "general_tier_flag",
@@ -63,7 +63,7 @@ const GENERAL: Names = Names {
     reserved_bit: "general_reserved_zero_bit",
 };
 
-/// The names of a sub-layer's profile.
+/// The names for the profile of a sub-layer.
 const SUB_LAYER: Names = Names {
     space: "sub_layer_profile_space",
     tier: "sub_layer_tier_flag",
@@ -92,7 +92,7 @@ const SUB_LAYER: Names = Names {
     reserved_bit: "sub_layer_reserved_zero_bit",
 };
 
-/// The profiles with which a stream is compatible, its own one too.
+/// The profiles of a stream: its own one, and the compatible ones.
 #[derive(Clone, Copy)]
 struct Profiles {
     flags: [bool; 32],
@@ -117,15 +117,15 @@ impl Profiles {
     }
 }
 
-/// What is known of a sub-layer.
+/// The parts of a sub-layer that are present.
 #[derive(Clone, Copy)]
 struct SubLayer {
     has_profile: bool,
     has_level: bool,
 }
 
-/// Reads the profile, the tier and the level of a stream, and of its sub-layers but the highest one. There are
-/// `lower` of those.
+/// Reads the profile, the tier and the level of a stream, and of the `lower` sub-layers below the
+/// highest one.
 pub(super) fn read_profile_tier_level(
     syntax: &mut Nal<'_, '_, '_>,
     lower: u32,
@@ -141,7 +141,7 @@ pub(super) fn read_profile_tier_level(
     read_sub_layers(syntax, sub_layers.as_slice(), lower)
 }
 
-/// Reads whether each sub-layer has a profile and a level of its own.
+/// Reads which sub-layers have a profile and a level of their own.
 fn read_presence(syntax: &mut Nal<'_, '_, '_>, lower: u32) -> Result<[SubLayer; 8], Error> {
     let mut sub_layers = [SubLayer {
         has_profile: false,
@@ -221,7 +221,7 @@ fn read_profile(
     Ok(())
 }
 
-/// Reads with which profiles a stream or a sub-layer is compatible.
+/// Reads the compatible profiles of a stream or a sub-layer.
 fn read_compatibility(
     syntax: &mut Nal<'_, '_, '_>,
     names: &'static Names,
@@ -263,7 +263,7 @@ fn read_constraints(
     }
 }
 
-/// Reads reserved bits, which have no number.
+/// Reads reserved bits, as an element without an index.
 fn read_reserved(syntax: &mut Nal<'_, '_, '_>, name: &'static str, bits: u32) -> Result<(), Error> {
     let index = syntax.index;
     syntax.index = None;

@@ -4,7 +4,7 @@ use super::{H265Error, Nal};
 use crate::element::Index;
 use crate::nal::read_ue;
 
-/// The differences of the order of some pictures to that of a picture, the nearest one first.
+/// The distances of pictures to a picture in output order, the nearest one first.
 #[derive(Clone, Copy)]
 struct Distances {
     values: [i64; 16],
@@ -39,9 +39,9 @@ impl Distances {
 /// The pictures to which a picture refers, by their distances.
 #[derive(Clone, Copy)]
 struct ReferenceSet {
-    // Those before it.
+    // The pictures before it.
     before: Distances,
-    // Those after it.
+    // The pictures after it.
     after: Distances,
 }
 
@@ -60,13 +60,14 @@ impl ReferenceSet {
     }
 }
 
-/// A set from which another one is made: each distance is moved, and the picture itself is one more.
+/// A prediction of a set from another one: each distance is moved, and the picture of the other set
+/// is a candidate too.
 #[derive(Clone, Copy)]
 struct Prediction {
     set: ReferenceSet,
-    // How far the distances are moved.
+    // The number that is added to each distance.
     by: i64,
-    // Which pictures are used: those before, those after, and the picture itself.
+    // True for each picture that is used: the pictures before, the pictures after, the picture itself.
     used: [bool; 33],
 }
 
@@ -158,7 +159,7 @@ pub(super) fn read_short_term_sets(syntax: &mut Nal<'_, '_, '_>) -> Result<(), H
     Ok(())
 }
 
-/// Reads a set whose pictures are all told.
+/// Reads a set without prediction.
 fn read_set(syntax: &mut Nal<'_, '_, '_>) -> Result<ReferenceSet, H265Error> {
     let before = read_ue(syntax, "num_negative_pics")?;
     let after = read_ue(syntax, "num_positive_pics")?;
@@ -199,7 +200,7 @@ fn read_after(syntax: &mut Nal<'_, '_, '_>, count: u32) -> Result<Distances, H26
     Ok(distances)
 }
 
-/// Reads a set that is made of the set before it.
+/// Reads a set that is predicted from the previous one.
 fn read_predicted_set(
     syntax: &mut Nal<'_, '_, '_>,
     set: ReferenceSet,
@@ -221,7 +222,7 @@ fn read_predicted_set(
     })
 }
 
-/// Reads which pictures of the set before are used, and whether its own picture is.
+/// Reads which pictures of the previous set are used, and at last if its own picture is used.
 fn read_used(syntax: &mut Nal<'_, '_, '_>, count: u32) -> Result<[bool; 33], H265Error> {
     let mut used = [false; 33];
     for at in 0..=count {
@@ -234,7 +235,7 @@ fn read_used(syntax: &mut Nal<'_, '_, '_>, count: u32) -> Result<[bool; 33], H26
     Ok(used)
 }
 
-/// Reads the long-term reference pictures of a sequence parameter set. The numbers of their order have so many bits.
+/// Reads the long-term reference pictures of a sequence parameter set. An order count has `bits` bits.
 pub(super) fn read_long_term(syntax: &mut Nal<'_, '_, '_>, bits: u32) -> Result<(), H265Error> {
     let count = read_ue(syntax, "num_long_term_ref_pics_sps")?;
     if count > 32 {

@@ -13,7 +13,7 @@ pub(super) fn read_scaling_lists(syntax: &mut Nal<'_, '_, '_>) -> Result<(), Err
     Ok(())
 }
 
-/// Reads the scaling lists of a size: six, but two of the largest size.
+/// Reads the scaling lists of a size: two of the largest size, six of any other.
 fn read_size(syntax: &mut Nal<'_, '_, '_>, size: u32) -> Result<(), Error> {
     for matrix in 0..6 {
         if size < 3 || matrix % 3 == 0 {
@@ -23,7 +23,7 @@ fn read_size(syntax: &mut Nal<'_, '_, '_>, size: u32) -> Result<(), Error> {
     Ok(())
 }
 
-/// Reads a scaling list, or which list it is the same as.
+/// Reads a scaling list, or the number of a list that it repeats.
 fn read_scaling_list(syntax: &mut Nal<'_, '_, '_>, size: u32, matrix: u32) -> Result<(), Error> {
     syntax.index = Some(Index::Two(size, matrix));
     if syntax.flag("scaling_list_pred_mode_flag")? {

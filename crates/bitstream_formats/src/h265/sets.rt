@@ -1,14 +1,14 @@
 //! The parameter sets of a stream that were read.
 
-/// The facts of a video parameter set that the reading of other units needs.
+/// The values of a video parameter set that later units need.
 #[derive(Clone, Copy, Debug, PartialEq, Eq)]
 pub struct VideoSet {
     /// The number of temporal sub-layers: 1 to 7.
     pub sub_layers: u32,
 }
 
-/// The video parameter sets that were read, by their numbers: at most 16. A set replaces the one of its number.
-/// The other sets are read without one another, so nothing of them is kept.
+/// The video parameter sets that were read, by their numbers: at most 16. A set replaces the one of
+/// its number. No unit needs a value of the other parameter sets, so they are not kept.
 #[derive(Debug, Drop)]
 pub struct ParameterSets {
     videos: [Option<VideoSet>; 16],

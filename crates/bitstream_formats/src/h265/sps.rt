@@ -12,12 +12,12 @@ use super::{H265Error, Nal};
 use crate::nal::read_ue;
 use bitstream_io::Error;
 
-/// What a sequence parameter set has of temporal sub-layers.
+/// The temporal sub-layers of a sequence parameter set.
 #[derive(Clone, Copy)]
 struct SubLayers {
-    // How many there are below the highest one.
+    // The number of sub-layers below the highest one.
     lower: u32,
-    // Whether the set is of another layer, and leaves out what is in the video parameter set.
+    // True if the set is in another layer and leaves out the elements of the video parameter set.
     is_extended: bool,
 }
 
@@ -70,7 +70,7 @@ pub(super) fn read_sps(
     Ok(())
 }
 
-/// Reads the number of the video parameter set, and how many sub-layers there are.
+/// Reads the number of the video parameter set, and the number of sub-layers.
 fn read_sub_layers(
     syntax: &mut Nal<'_, '_, '_>,
     sets: &ParameterSets,
@@ -100,7 +100,7 @@ fn read_sub_layers(
     }
 }
 
-/// Reads which format of the video parameter set the pictures have.
+/// Reads the number of a picture format of the video parameter set.
 fn read_format_number(syntax: &mut Nal<'_, '_, '_>) -> Result<(), Error> {
     if syntax.flag("update_rep_format_flag")? {
         syntax.number("sps_rep_format_idx", 8)?;
@@ -108,7 +108,7 @@ fn read_format_number(syntax: &mut Nal<'_, '_, '_>) -> Result<(), Error> {
     Ok(())
 }
 
-/// Reads the size of pictures and how samples are coded.
+/// Reads the format of pictures: their size, chroma and bit depths.
 fn read_format(syntax: &mut Nal<'_, '_, '_>) -> Result<Depths, H265Error> {
     let chroma_format = read_ue(syntax, "chroma_format_idc")?;
     if chroma_format == 3 {
@@ -138,7 +138,7 @@ fn read_blocks(syntax: &mut Nal<'_, '_, '_>) -> Result<(), Error> {
     Ok(())
 }
 
-/// Reads the scaling lists, or whose lists they are.
+/// Reads the scaling lists, or the layer with the same lists.
 fn read_scaling(syntax: &mut Nal<'_, '_, '_>, is_extended: bool) -> Result<(), Error> {
     if is_extended && syntax.flag("sps_infer_scaling_list_flag")? {
         syntax.number("sps_scaling_list_ref_layer_id", 6)?;
@@ -150,7 +150,7 @@ fn read_scaling(syntax: &mut Nal<'_, '_, '_>, is_extended: bool) -> Result<(), E
     Ok(())
 }
 
-/// Reads which tools are used.
+/// Reads the flags of coding tools.
 fn read_tools(syntax: &mut Nal<'_, '_, '_>) -> Result<(), Error> {
     syntax.flag("amp_enabled_flag")?;
     syntax.flag("sample_adaptive_offset_enabled_flag")?;

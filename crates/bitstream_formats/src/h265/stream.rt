@@ -9,7 +9,7 @@ use std::alloc::Global;
 
 /// A byte stream, and the parameter sets that were read of it.
 ///
-/// A unit that is refused ends nothing: the next call reads the unit after it.
+/// After a unit that is refused, the next call reads the unit after it.
 #[derive(Drop)]
 pub struct Stream<'a> {
     units: Units<'a>,
@@ -47,7 +47,7 @@ impl<'a> Stream<'a> {
     ///
     /// # Errors
     ///
-    /// Those of [`read_unit`], with the place of the unit. The next call reads the next unit.
+    /// The errors of [`read_unit`], with the place of the unit. The next call reads the next unit.
     pub fn next_unit(
         &mut self,
         alloc: Global,

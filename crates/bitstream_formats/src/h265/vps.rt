@@ -9,7 +9,7 @@ use crate::element::Index;
 use crate::nal::read_ue;
 use bitstream_io::Error;
 
-/// The names of the elements that say how many pictures are kept.
+/// The names for the numbers of pictures that a decoder keeps.
 #[derive(Clone, Copy)]
 pub(super) struct Ordering {
     present: &'static str,
@@ -18,7 +18,7 @@ pub(super) struct Ordering {
     latency: &'static str,
 }
 
-/// Those of a video parameter set.
+/// The names in a video parameter set.
 const VIDEO: Ordering = Ordering {
     present: "vps_sub_layer_ordering_info_present_flag",
     buffered: "vps_max_dec_pic_buffering_minus1",
@@ -26,7 +26,7 @@ const VIDEO: Ordering = Ordering {
     latency: "vps_max_latency_increase_plus1",
 };
 
-/// Those of a sequence parameter set.
+/// The names in a sequence parameter set.
 pub(super) const SEQUENCE: Ordering = Ordering {
     present: "sps_sub_layer_ordering_info_present_flag",
     buffered: "sps_max_dec_pic_buffering_minus1",
@@ -66,7 +66,8 @@ pub(super) fn read_vps(
     ))
 }
 
-/// Reads how many pictures are kept, for the highest sub-layer or for the `lower` ones too.
+/// Reads the numbers of pictures that a decoder keeps, for the highest sub-layer or for the `lower`
+/// ones too.
 pub(super) fn read_ordering(
     syntax: &mut Nal<'_, '_, '_>,
     names: &'static Ordering,
@@ -87,7 +88,7 @@ pub(super) fn read_ordering(
     Ok(())
 }
 
-/// Reads the sets of layers, and returns how many there are.
+/// Reads the sets of layers, and returns their number.
 fn read_layer_sets(syntax: &mut Nal<'_, '_, '_>) -> Result<u32, H265Error> {
     let highest = syntax.number("vps_max_layer_id", 6)?;
     let more = read_ue(syntax, "vps_num_layer_sets_minus1")?;
@@ -100,7 +101,7 @@ fn read_layer_sets(syntax: &mut Nal<'_, '_, '_>) -> Result<u32, H265Error> {
     Ok(more + 1)
 }
 
-/// Reads which layers a set of layers has.
+/// Reads which layers are in a set of layers.
 fn read_layer_set(syntax: &mut Nal<'_, '_, '_>, set: u32, highest: u32) -> Result<(), Error> {
     for layer in 0..=highest {
         syntax.index = Some(Index::Two(set, layer));

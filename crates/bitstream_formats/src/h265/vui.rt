@@ -5,7 +5,7 @@ use super::{H265Error, Nal};
 use crate::nal::{read_signal, read_ue};
 use bitstream_io::Error;
 
-/// Reads video usability information of a stream with `lower` sub-layers below the highest one.
+/// Reads video usability information. There are `lower` sub-layers below the highest one.
 pub(super) fn read_vui(syntax: &mut Nal<'_, '_, '_>, lower: u32) -> Result<(), H265Error> {
     read_signal(syntax)?;
     syntax.flag("neutral_chroma_indication_flag")?;
@@ -39,7 +39,7 @@ fn read_timing(syntax: &mut Nal<'_, '_, '_>, lower: u32) -> Result<(), H265Error
     Ok(())
 }
 
-/// Reads what a stream keeps to.
+/// Reads the restrictions of a stream.
 fn read_restriction(syntax: &mut Nal<'_, '_, '_>) -> Result<(), Error> {
     syntax.flag("tiles_fixed_structure_flag")?;
     syntax.flag("motion_vectors_over_pic_boundaries_flag")?;

@@ -1,4 +1,4 @@
-//! Exponential Golomb numbers (section 9.1 of H.264, 9.2 of H.265), which are noted as elements.
+//! Exponential Golomb numbers as elements (section 9.1 of H.264, 9.2 of H.265).
 
 use crate::element::Syntax;
 use bitstream_io::{BE, Error, golomb};

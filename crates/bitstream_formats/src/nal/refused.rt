@@ -11,7 +11,7 @@ pub struct RefusedUnit<E> {
     pub byte: usize,
     /// The place of the reader, in bits of the unit without its bytes against emulation.
     pub bit: u64,
-    /// What is wrong.
+    /// The error.
     pub error: E,
 }
 

@@ -1,10 +1,11 @@
-//! How pictures are shown: the elements with which video usability information begins (annex E of both formats).
+//! The display of pictures: the first elements of video usability information (annex E of both
+//! formats).
 
 use super::read_ue;
 use crate::element::Syntax;
 use bitstream_io::{BE, Error};
 
-/// Reads how pictures are shown.
+/// Reads the elements on the display of pictures.
 pub(crate) fn read_signal(syntax: &mut Syntax<'_, '_, '_, BE>) -> Result<(), Error> {
     if syntax.flag("aspect_ratio_info_present_flag")? {
         if syntax.number("aspect_ratio_idc", 8)? == 255 {

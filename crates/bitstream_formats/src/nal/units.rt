@@ -7,7 +7,7 @@ pub struct Units<'a> {
     rest: Option<&'a [u8]>,
     // The number of bytes of the stream before them.
     before: usize,
-    // How many units were returned.
+    // The number of units returned.
     taken: u64,
 }
 
@@ -66,7 +66,7 @@ impl<'a> Units<'a> {
         self.rest.unwrap_or(&[])
     }
 
-    /// Returns how many units were returned.
+    /// Returns the number of units returned.
     pub fn taken(&self) -> u64 {
         self.taken
     }

@@ -146,12 +146,12 @@ pub fn crop_units(unit: &Unit, frames: bool) -> (i64, i64) {
     (across, if frames { down } else { 2 * down })
 }
 
-/// Returns the samples of so many blocks and one more.
+/// Returns the number of samples of a side, from its number of blocks minus one.
 fn blocks_of(minus_one: i64, block: i64) -> i64 {
     minus_one.saturating_add(1).saturating_mul(block)
 }
 
-/// Returns the samples of a side without those that are cropped at both ends.
+/// Returns the number of samples of a side without the cropped ones at both ends.
 pub fn size_of(samples: i64, crop_unit: i64, first: Option<i64>, last: Option<i64>) -> i64 {
     let cropped = first.unwrap_or(0).saturating_add(last.unwrap_or(0));
     samples.saturating_sub(cropped.saturating_mul(crop_unit))
