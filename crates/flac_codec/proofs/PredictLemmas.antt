@@ -1,12 +1,12 @@
--- A residual makes the samples again, whatever is predicted.
-use Rattle.std.proofs.Common.{arith, ◌≡◌, ◌∙◌, ◌++◌, ◌+◌, ◌-◌, ◌%◌, ◌^◌, ◌<◌, ◌≤◌, ℕ, ℤ, suc, List, [], ◌∷◌, length, take, drop, sym, ap, append-nil, get_or, w64, of_z, SFits}
-use native.Mathlib.Nat.{mod-lt}
+-- From a residual the samples are restored, whatever is predicted.
+use Rattle.std.proofs.Common.{arith, ◌≡◌, ◌∙◌, ◌++◌, ◌+◌, ◌-◌, ◌%◌, ◌^◌, ◌<◌, ◌≤◌, ℕ, ℤ, zero, suc, pos, negsuc, List, [], ◌∷◌, length, take, drop, sym, ap, append-nil, get_or, w64, of_z, SFits}
+use native.Mathlib.Nat.{mod-lt, div-le_self}
 use Rattle.std.specs.List.{All}
-use Rattle.std.specs.Int.{int_wrapping_add, int_wrapping_sub}
+use Rattle.std.specs.Int.{int_shr, int_wrapping_add, int_wrapping_sub}
 use Rattle.std.proofs.lemmas.List.{drop_all, drop_more, take_more, append_assoc, length-append}
-use Rattle.std.proofs.Math.Facts.{Fits-of_z}
+use Rattle.std.proofs.Math.Facts.{Fits-of_z, sfits_to_z}
 use Rattle.std.proofs.lemmas.Int.{of_z-to_z, to_z-of_z}
-use Rattle.flac_codec.specs.Predict.{residual, restored}
+use Rattle.flac_codec.specs.Predict.{predicted, residual, restored, weighted}
 
 -- ---- the steps of the loops
 
@@ -38,6 +38,23 @@ module _ (p : List ℤ → ℤ) (left xs : List ℤ) (i : ℕ) where
 
   pub residual-end : length xs ≤ i → left ≡ left ++ residual p (take i xs) (drop i xs)
   residual-end all = sym (ap (λ t. left ++ residual p (take i xs) t) (drop_all i xs all) ∙ append-nil left)
+
+-- ---- a prediction has 64 bits
+
+weighted_fits : (weights done : List ℤ) (k : ℕ) → weighted weights done k < 2 ^ 64
+weighted_fits weights done zero = omega arith
+weighted_fits weights done (suc k) = mod-lt _ (omega arith)
+
+-- a shift to lower bits leaves a number in its range
+shifted_fits : (x : ℤ) (shift : ℕ) → SFits w64 x → SFits w64 (int_shr x shift)
+shifted_fits (pos n) shift fits = let less = div-le_self n (2 ^ shift) in let most = fits.sfits in
+    record { sfits = omega (arith, less, most) }
+shifted_fits (negsuc n) shift fits = let less = div-le_self n (2 ^ shift) in let most = fits.sfits in
+    record { sfits = omega (arith, less, most) }
+
+pub predicted_fits : (weights : List ℤ) (shift : ℕ) (done : List ℤ) → SFits w64 (predicted weights shift done)
+predicted_fits weights shift done =
+    shifted_fits _ shift (sfits_to_z {w = w64} (record { fits = weighted_fits weights done (length weights) }))
 
 -- ---- the law
 

@@ -70,6 +70,14 @@ flac_five_bits : (subframe_decoder High 24 16).reads 0 (bits High (0x12 ∷ 0x00
 unfolding and_then items_decoder parts_decoder signed_decoder unary_decoder unsigned_decoder digits digits_number
 flac_five_bits = refl
 
+rfc_linear : (subframe_decoder High 8 24).reads 0 (bits High (0x44 ∷ 0x00 ∷ 0x4f ∷ 0x6f ∷ 0x31 ∷ 0x3d ∷ 0x10 ∷ 0x47 ∷ 0xd2 ∷ 0x27 ∷ 0xcb ∷ 0x6d ∷ 0x09 ∷ 0x08 ∷
+    0x31 ∷ 0x45 ∷ 0x2b ∷ 0xdc ∷ 0x28 ∷ 0x22 ∷ 0x22 ∷ 0x80 ∷ []))
+    ≡ Done 170 (Ok (Ok (pos 0 ∷ pos 79 ∷ pos 111 ∷ pos 78 ∷ pos 8 ∷ negsuc 60 ∷ negsuc 89 ∷ negsuc 67 ∷ negsuc 12 ∷
+    pos 42 ∷ pos 67 ∷ pos 53 ∷ pos 13 ∷ negsuc 26 ∷ negsuc 45 ∷ negsuc 37 ∷ negsuc 11 ∷ pos 14 ∷
+    pos 24 ∷ pos 19 ∷ pos 6 ∷ negsuc 3 ∷ negsuc 4 ∷ pos 0 ∷ [])))
+unfolding and_then items_decoder parts_decoder signed_decoder unary_decoder unsigned_decoder digits digits_number
+rfc_linear = refl
+
 -- what is refused: a first bit 1, wasted bits, a reserved type, three samples in two partitions, a reserved coding, and
 -- three samples for a prediction from four
 refused :

@@ -1,10 +1,9 @@
 -- Subframes: from what was written the decoder reads the samples, and every call is accepted.
-use Rattle.std.proofs.Common.{arith, ◌≡◌, ◌∙◌, ◌++◌, ◌+◌, ◌-◌, ◌*◌, ◌/◌, ◌%◌, ◌^◌, ◌<◌, ◌≤◌, ◌==◌, ℕ, ℤ, zero, suc, true, false, List, [], ◌∷◌, Result, Ok, Err, length, take, drop, refl, sym, ap, subst, append-nil, get_or, w64, pos, negsuc, SFits}
-use Rattle.std.specs.Prelude.{nat_lt, replicate}
+use Rattle.std.proofs.Common.{arith, ◌≡◌, ◌∙◌, ◌++◌, ◌+◌, ◌-◌, ◌*◌, ◌/◌, ◌%◌, ◌^◌, ◌<◌, ◌≤◌, ◌==◌, ℕ, ℤ, zero, suc, true, false, List, [], ◌∷◌, Result, Ok, length, take, drop, refl, sym, ap, subst, append-nil, get_or, w64, pos, negsuc, SFits}
+use Rattle.std.specs.Prelude.{replicate}
 use Rattle.std.specs.List.{All, flat_map}
 use native.Mathlib.Nat.{mod-lt, div-le_self}
 use Rattle.std.proofs.Math.Pow.{pow_mono}
-use Rattle.std.proofs.Math.Facts.{sfits_to_z}
 use Rattle.std.proofs.lemmas.Nat.{pow_pos}
 use Rattle.std.proofs.lemmas.Bool.{le-leb, le-ltb, ne_eqb}
 use Rattle.std.proofs.lemmas.List.{length-drop, length-take-le, take-append-drop}
@@ -19,12 +18,12 @@ use Rattle.bitstream_io.specs.Word.{zig}
 use Rattle.bitstream_io.proofs.CallsBack.{signed-read}
 use Rattle.bitstream_io.proofs.PackLemmas.{Packs, bit-written, packs-more, packs-none, packs-part, packs-parts, packs-signed_items, signed-written, unary-written, unsigned-written}
 use Rattle.bitstream_io.proofs.CallerLemmas.{RoundTrip, bit-back, computed-back, else-back, items-read, last-back, part-back, signed-back, unsigned-back}
-use Rattle.flac_codec.specs.Predict.{fixed_weights, predicted, residual, restored, weighted}
+use Rattle.flac_codec.specs.Predict.{fixed_weights, predicted, residual, restored}
 use Rattle.flac_codec.specs.Rice.{rice_decoder, rice_writes}
 use Rattle.flac_codec.specs.Residual.{partition_decoder, partitions_decoder, residual_decoder, samples_decoder}
 use Rattle.flac_codec.specs.Subframe.{fixed_decoder, fixed_writes, headed, kind_decoder, numbers_writes, residual_writes, samples_writes, sample_writes, subframe_decoder, verbatim_writes, constant_writes, WritesValue}
 use Rattle.flac_codec.specs.declared.error.FlacError.{FlacError}
-use Rattle.flac_codec.proofs.PredictLemmas.{restored-residual}
+use Rattle.flac_codec.proofs.PredictLemmas.{predicted_fits, restored-residual}
 use Rattle.flac_codec.proofs.RiceLemmas.{rice-back}
 
 -- ---- numbers
@@ -39,13 +38,6 @@ fits_wide n (negsuc k) le fits =
     let p : 2 ^ (n - 1) ≤ 2 ^ 63 = pow_mono {i = n - 1} {j = 63} (omega arith) in
     let q : k < 2 ^ 63 = omega (arith, p, fits) in
     record { sfits = q }
-
-weighted_fits : (weights done : List ℤ) (k : ℕ) → weighted weights done k < 2 ^ 64
-weighted_fits weights done zero = omega arith
-weighted_fits weights done (suc k) = mod-lt _ (omega arith)
-
-pub predicted_fits : (weights done : List ℤ) → SFits w64 (predicted weights done)
-predicted_fits weights done = sfits_to_z {w = w64} (record { fits = weighted_fits weights done (length weights) })
 
 pub residual-length : (p : List ℤ → ℤ) (done xs : List ℤ) → length (residual p done xs) ≡ length xs
 residual-length p done [] = refl
@@ -138,24 +130,24 @@ module _ (o : Order) (width : ℕ) (some : 1 ≤ width) (within : width ≤ 64) 
   first = take order samples
 
   abbrev rest : List ℤ
-  rest = residual (predicted (fixed_weights order)) (take order samples) (drop order samples)
+  rest = residual (predicted (fixed_weights order) 0) (take order samples) (drop order samples)
 
-  restored-all : All (FitsSignedBits width) samples → restored (predicted (fixed_weights order)) first rest ≡ samples
+  restored-all : All (FitsSignedBits width) samples → restored (predicted (fixed_weights order) 0) first rest ≡ samples
   restored-all fit =
-      restored-residual (predicted (fixed_weights order)) (predicted_fits (fixed_weights order)) first (drop order samples)
+      restored-residual (predicted (fixed_weights order) 0) (predicted_fits (fixed_weights order) 0) first (drop order samples)
       (All-weaker (FitsSignedBits width) (SFits w64) (λ x fits. fits_wide width x within fits) (drop order samples)
       (All-drop (FitsSignedBits width) order samples fit))
       ∙ take-append-drop order samples
 
   rest-length : length rest ≡ length samples - order
-  rest-length = residual-length (predicted (fixed_weights order)) first (drop order samples) ∙ length-drop order samples
+  rest-length = residual-length (predicted (fixed_weights order) 0) first (drop order samples) ∙ length-drop order samples
 
   pub fixed-back : order ≤ 4 → order ≤ length samples → k < 15 → All (FitsSignedBits width) samples
       → All (λ x. zig x < 2 ^ 32) rest
       → RoundTrip (subframe_decoder o width (length samples)) (fixed_writes o width order k first rest) (Ok samples)
   fixed-back most long small fit few =
       let make = λ (r : List ℤ). stores {A = Result (List ℤ) FlacError}
-      (Ok (restored (predicted (fixed_weights order)) first r)) in
+      (Ok (restored (predicted (fixed_weights order) 0) first r)) in
       let residual_read = residual-back o k rest small few (length samples) order long rest-length in
       let behind : RoundTrip (and_then (residual_decoder o (length samples) order) (part_then make)) (residual_writes o k rest) (Ok samples) =
       subst (λ ws. RoundTrip (and_then (residual_decoder o (length samples) order) (part_then make)) ws (Ok samples))

@@ -1,6 +1,6 @@
 -- Predictions: the residual of samples, and the samples of a residual.
 use Rattle.std.specs.Prelude.{ℕ, zero, suc, ◌+◌, ◌-◌, ◌*◌, ◌%◌, ◌^◌, ℤ, pos, negsuc, List, [], ◌∷◌, ◌++◌, length, get_or}
-use Rattle.std.specs.Int.{int_wrapping_add, int_wrapping_sub, cast_signed, cast_unsigned, w64}
+use Rattle.std.specs.Int.{int_shr, int_wrapping_add, int_wrapping_sub, cast_signed, cast_unsigned, w64}
 
 -- the weighted sum of the last k samples modulo 2^64; the first weight is that of the last sample
 abbrev pub weighted : List ℤ → List ℤ → ℕ → ℕ
@@ -10,9 +10,9 @@ weighted weights done (suc k) =
     + cast_unsigned w64 (get_or weights k (pos 0)) * cast_unsigned w64 (get_or done (length done - (k + 1)) (pos 0))
     % 2 ^ 64) % 2 ^ 64
 
--- the prediction of the next sample, in 64 bits
-abbrev pub predicted : List ℤ → List ℤ → ℤ
-predicted weights done = cast_signed w64 (weighted weights done (length weights))
+-- the prediction of the next sample: the weighted sum in 64 bits, without its `shift` lowest bits
+abbrev pub predicted : List ℤ → ℕ → List ℤ → ℤ
+predicted weights shift done = int_shr (cast_signed w64 (weighted weights done (length weights))) shift
 
 -- the weights of the fixed prediction of an order
 abbrev pub fixed_weights : ℕ → List ℤ

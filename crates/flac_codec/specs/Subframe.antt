@@ -1,13 +1,13 @@
 -- Subframes of FLAC (RFC 9639, section 9.2): their decoder, the calls that write them, and what an encoder owes.
 use Rattle.std.specs.Prelude.{◌≡◌, ◌⊎◌, ℕ, ℤ, ◌+◌, ◌-◌, ◌==◌, nat_lt, if◌then◌else◌, false, List, [], ◌∷◌, ◌++◌, replicate, Result, Ok, Err}
 use Rattle.std.specs.List.{flat_map}
-use Rattle.bitstream_io.specs.Callers.{Decoder, Encoder, ◌>>=◌, pure, stores, list_item, bit_decoder, unsigned_decoder, signed_decoder, items_decoder, part_then, Error, Order, High, OutOfMemory, bits, Done, Sink, WritesAll, AllAccepted, bit, unsigned, signed}
+use Rattle.bitstream_io.specs.Callers.{Decoder, Encoder, ◌>>=◌, pure, stores, bit_decoder, unsigned_decoder, signed_decoder, part_then, Error, Order, High, OutOfMemory, bits, Done, Sink, WritesAll, AllAccepted, bit, unsigned, signed}
 use Rattle.bitstream_io.specs.ReadBack.{IsReadAs}
 use Rattle.flac_codec.specs.Predict.{fixed_weights, predicted, restored}
 use Rattle.flac_codec.specs.Residual.{residual_decoder, samples_decoder}
 use Rattle.flac_codec.specs.Rice.{rice_writes}
 use Rattle.flac_codec.specs.declared.error.FlacError.{FlacError}
-use Rattle.flac_codec.specs.declared.error.FlacError.TheVariants.{ReservedBit, ReservedSubframe}
+use Rattle.flac_codec.specs.declared.error.FlacError.TheVariants.{ReservedBit, ReservedSubframe, ReservedPrecision, NegativeShift}
 
 -- ---- the decoder
 
@@ -28,7 +28,21 @@ abbrev pub fixed_decoder : Order → ℕ → ℕ → ℕ → Decoder (Result (Li
 fixed_decoder o width block_size order =
     samples_decoder o width order >>= (λ first.
     residual_decoder o block_size order >>= part_then (λ rest.
-    stores (Ok (restored (predicted (fixed_weights order)) first rest))))
+    stores (Ok (restored (predicted (fixed_weights order) 0) first rest))))
+
+-- the first samples, the coefficients with their precision and shift, and the residual of the others after this linear
+-- prediction
+abbrev pub linear_decoder : Order → ℕ → ℕ → ℕ → Decoder (Result (List ℤ) FlacError)
+linear_decoder o width block_size order =
+    samples_decoder o width order >>= (λ first.
+    unsigned_decoder o 32 4 >>= (λ precision.
+    if precision == 15 then pure (Err ReservedPrecision)
+    else bit_decoder >>= (λ negative.
+    if negative then pure (Err NegativeShift)
+    else unsigned_decoder o 32 4 >>= (λ shift.
+    samples_decoder o (precision + 1) order >>= (λ coefficients.
+    residual_decoder o block_size order >>= part_then (λ rest.
+    stores (Ok (restored (predicted coefficients shift) first rest))))))))
 
 -- a subframe of a type after its header
 abbrev pub kind_decoder : Order → ℕ → ℕ → ℕ → Decoder (Result (List ℤ) FlacError)
@@ -36,8 +50,9 @@ kind_decoder o width block_size kind =
     if kind == 0 then constant_decoder o width block_size
     else if kind == 1 then verbatim_decoder o width block_size
     else if nat_lt kind 8 then pure (Err ReservedSubframe)
-    else if nat_lt 12 kind then pure (Err ReservedSubframe)
-    else fixed_decoder o width block_size (kind - 8)
+    else if nat_lt kind 13 then fixed_decoder o width block_size (kind - 8)
+    else if nat_lt kind 32 then pure (Err ReservedSubframe)
+    else linear_decoder o width block_size (kind - 31)
 
 -- a subframe after its first bit: its type, and that it has no wasted bits
 abbrev pub typed_decoder : Order → ℕ → ℕ → Decoder (Result (List ℤ) FlacError)

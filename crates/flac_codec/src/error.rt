@@ -12,9 +12,15 @@ pub enum FlacError {
     /// A bit that must be 0 is 1.
     #[error("a reserved bit is set")]
     ReservedBit,
-    /// The type of the subframe is reserved, or is not decoded here.
+    /// The type of the subframe is reserved.
     #[error("the type of the subframe is reserved")]
     ReservedSubframe,
+    /// The precision of the coefficients is reserved.
+    #[error("the precision of the coefficients is reserved")]
+    ReservedPrecision,
+    /// The shift of the prediction is negative.
+    #[error("the shift of the prediction is negative")]
+    NegativeShift,
     /// The coding of the residual is reserved.
     #[error("the coding of the residual is reserved")]
     ReservedResidual,

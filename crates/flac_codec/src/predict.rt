@@ -1,33 +1,37 @@
-//! Predictions: a sample as a sum of the samples before it, each with its weight (section 9.2.5).
-ghost use Rattle.std.specs.Prelude.{◌≡◌, ◌≤◌, IfOk, length, take, drop};
+//! Predictions: a sample as a sum of the samples before it, each with its weight (sections 9.2.5 and 9.2.6).
+ghost use Rattle.std.specs.Prelude.{◌≡◌, ◌<◌, ◌≤◌, IfOk, length, take, drop};
 ghost use Rattle.flac_codec.specs.Predict.{fixed_weights, predicted, residual, restored};
 
 use std::alloc::{AllocFailed, Global};
 
-/// Returns the weighted sum of the last samples, modulo 2^64. The first weight is that of the last sample.
-fn predicted(samples: &[i64], weights: &[i64]) -> i64
-    requires { length weights.now ≤ length samples.now }
-    ensures { result ≡ predicted weights.now samples.now }
+/// Returns the weighted sum of the last samples modulo 2^64, without its `shift` lowest bits. The first weight is that of
+/// the last sample.
+fn predicted(samples: &[i64], weights: &[i64], shift: u32) -> i64
+    requires enough { length weights.now ≤ length samples.now }
+    requires within { shift < 64 }
+    ensures { result ≡ predicted weights.now shift samples.now }
 {
     let mut sum = 0i64;
     for k in 0..weights.len() {
         sum = sum.wrapping_add(weights[k].wrapping_mul(samples[samples.len() - (k + 1)]));
     }
-    sum
+    sum >> shift
 }
 
 /// Appends the samples of a residual: each is the prediction from the samples before it, and the difference.
-fn restore(
+pub(crate) fn restore(
     samples: &mut Vec<i64>,
     residual: &[i64],
     weights: &[i64],
+    shift: u32,
 ) -> Result<(), AllocFailed<i64>>
-    requires { length weights.now ≤ length samples.old.items }
+    requires enough { length weights.now ≤ length samples.old.items }
+    requires within { shift < 64 }
     ensures { IfOk result (λ _. samples.new.items
-        ≡ restored (predicted weights.now) samples.old.items residual.now) }
+        ≡ restored (predicted weights.now shift) samples.old.items residual.now) }
 {
     for difference in residual {
-        let prediction = predicted(samples.as_slice(), weights);
+        let prediction = predicted(samples.as_slice(), weights, shift);
         samples.push(difference.wrapping_add(prediction))?;
     }
     Ok(())
@@ -42,14 +46,14 @@ pub(crate) fn restore_fixed(
     requires most { order ≤ 4 }
     requires long { order ≤ length samples.old.items }
     ensures { IfOk result (λ _. samples.new.items
-        ≡ restored (predicted (fixed_weights order)) samples.old.items residual.now) }
+        ≡ restored (predicted (fixed_weights order) 0) samples.old.items residual.now) }
 {
     match order {
-        0 => restore(samples, residual, [].as_slice()),
-        1 => restore(samples, residual, [1i64].as_slice()),
-        2 => restore(samples, residual, [2i64, -1].as_slice()),
-        3 => restore(samples, residual, [3i64, -3, 1].as_slice()),
-        _ => restore(samples, residual, [4i64, -6, 4, -1].as_slice()),
+        0 => restore(samples, residual, [].as_slice(), 0),
+        1 => restore(samples, residual, [1i64].as_slice(), 0),
+        2 => restore(samples, residual, [2i64, -1].as_slice(), 0),
+        3 => restore(samples, residual, [3i64, -3, 1].as_slice(), 0),
+        _ => restore(samples, residual, [4i64, -6, 4, -1].as_slice(), 0),
     }
 }
 
@@ -61,12 +65,12 @@ fn residual_of(
     weights: &[i64],
 ) -> Result<Vec<i64>, AllocFailed<i64>>
     requires { length weights.now ≤ length samples.now }
-    ensures { IfOk result (λ found. found.items ≡ residual (predicted weights.now)
+    ensures { IfOk result (λ found. found.items ≡ residual (predicted weights.now 0)
         (take (length weights.now) samples.now) (drop (length weights.now) samples.now)) }
 {
     let mut residual = Vec::new(alloc);
     for at in weights.len()..samples.len() {
-        let prediction = predicted(&samples[..at], weights);
+        let prediction = predicted(&samples[..at], weights, 0);
         residual.push(samples[at].wrapping_sub(prediction))?;
     }
     Ok(residual)
@@ -80,7 +84,7 @@ pub(crate) fn fixed_residual(
 ) -> Result<Vec<i64>, AllocFailed<i64>>
     requires most { order ≤ 4 }
     requires long { order ≤ length samples.now }
-    ensures { IfOk result (λ found. found.items ≡ residual (predicted (fixed_weights order))
+    ensures { IfOk result (λ found. found.items ≡ residual (predicted (fixed_weights order) 0)
         (take order samples.now) (drop order samples.now)) }
 {
     match order {

@@ -2,20 +2,22 @@
 ghost use Rattle.std.specs.Prelude.{◌≡◌, ◌≤◌};
 ghost use Rattle.bitstream_io.specs.Callers.{result_map, GrowsOwn};
 ghost use Rattle.flac_codec.specs.Errors.{becomes_flac};
-ghost use Rattle.flac_codec.specs.Subframe.{constant_decoder, fixed_decoder, kind_decoder, subframe_decoder, typed_decoder, verbatim_decoder};
+ghost use Rattle.flac_codec.specs.Subframe.{constant_decoder, fixed_decoder, kind_decoder, linear_decoder, subframe_decoder, typed_decoder, verbatim_decoder};
 
 use crate::error::FlacError;
 use crate::numbers::{read_samples, repeated};
-use crate::predict::restore_fixed;
+use crate::predict::{restore, restore_fixed};
 use crate::residual::read_residual;
 use bitstream_io::{BitRead, BitReadExt, Bits};
 use std::alloc::Global;
 
-/// Reads a subframe of `block_size` samples of `width` bits: constant, verbatim, or with a fixed prediction.
+/// Reads a subframe of `block_size` samples of `width` bits: constant, verbatim, or with a fixed or a linear
+/// prediction.
 ///
 /// # Errors
 ///
-/// `ReservedBit` for a first bit 1 and for wasted bits, `ReservedSubframe` for another type, `ReservedResidual` for a
+/// `ReservedBit` for a first bit 1 and for wasted bits, `ReservedSubframe` for another type, `ReservedPrecision`
+/// and `NegativeShift` for the coefficients, `ReservedResidual` for a
 /// reserved coding, `Partitions` for a block that is not of whole partitions, and `ShortBlock` for a first partition that
 /// is shorter than the order of the prediction. Those of the reader; memory was refused.
 pub fn read_subframe<R: BitRead>(
@@ -72,10 +74,13 @@ fn read_kind<R: BitRead>(
     if kind < 8 {
         return Err(FlacError::ReservedSubframe);
     }
-    if kind > 12 {
+    if kind < 13 {
+        return read_fixed(reader, alloc, width, block_size, kind - 8);
+    }
+    if kind < 32 {
         return Err(FlacError::ReservedSubframe);
     }
-    read_fixed(reader, alloc, width, block_size, kind - 8)
+    read_linear(reader, alloc, width, block_size, kind - 31)
 }
 
 /// Reads one sample for all samples of the block.
@@ -120,5 +125,37 @@ fn read_fixed<R: BitRead>(
     let mut samples = read_samples(reader, alloc, width, order)?;
     let residual = read_residual(reader, alloc, block_size, order)?;
     restore_fixed(&mut samples, residual.as_slice(), order)?;
+    Ok(samples)
+}
+
+/// Reads the first samples, the coefficients, and the residual of the others after this linear prediction.
+fn read_linear<R: BitRead>(
+    reader: &mut R,
+    alloc: Global,
+    width: u32,
+    block_size: u32,
+    order: u32,
+) -> Result<Vec<i64>, FlacError>
+    ensures { GrowsOwn R.source becomes_flac (linear_decoder R.source.order width block_size order)
+        reader.old (result_map (λ found. found.items) result) reader.new }
+{
+    let mut samples = read_samples(reader, alloc, width, order)?;
+    let precision = reader.read::<Bits<4>, u32>()?;
+    if precision == 15 {
+        return Err(FlacError::ReservedPrecision);
+    }
+    let negative = reader.read_bit()?;
+    if negative {
+        return Err(FlacError::NegativeShift);
+    }
+    let shift = reader.read::<Bits<4>, u32>()?;
+    let coefficients = read_samples(reader, alloc, precision + 1, order)?;
+    let residual = read_residual(reader, alloc, block_size, order)?;
+    restore(
+        &mut samples,
+        residual.as_slice(),
+        coefficients.as_slice(),
+        shift,
+    )?;
     Ok(samples)
 }

@@ -90,7 +90,7 @@ fn encode_fixed<W: BitWrite>(
     requires most { order ≤ 4 }
     requires long { order ≤ length samples.now }
     requires few { parameter < 15 }
-    requires is { rest.now ≡ residual (predicted (fixed_weights order))
+    requires is { rest.now ≡ residual (predicted (fixed_weights order) 0)
         (take order samples.now) (drop order samples.now) }
     requires small { All (λ number. zig number < 2 ^ 32) rest.now }
     ensures { WritesValue W.sink (subframe_decoder W.sink.order width (length samples.now)) samples.now

@@ -5,6 +5,6 @@ use Rattle.flac_codec.proofs.predict.restore.Given as goal
 -- what is still to be restored makes the same samples
 abbrev pub invariant-loop-difference : goal.invariant-loop-difference
 invariant-loop-difference l =
-    (restored (predicted l.weights) l.samples.items (drop l.difference-index l.residual)
-    ≡ restored (predicted l.weights) l.initial.samples.items l.residual)
+    (restored (predicted l.weights l.shift) l.samples.items (drop l.difference-index l.residual)
+    ≡ restored (predicted l.weights l.shift) l.initial.samples.items l.residual)
     × (length l.weights ≤ length l.samples.items)

@@ -1,9 +1,8 @@
-use Rattle.std.proofs.Common.{◌≡◌, ◌-◌, ℕ, Err, refl}
-use Rattle.std.proofs.lemmas.Bool.{le-ltb, lt-ltb}
+use Rattle.std.proofs.Common.{◌≡◌, ℕ, Err, refl}
 use Rattle.bitstream_io.specs.Codec.{and_then}
 use Rattle.bitstream_io.specs.ReadTable.{unsigned_decoder}
 use Rattle.bitstream_io.specs.Callers.{Failed, Order}
-use Rattle.bitstream_io.proofs.CallerLemmas.{go_grown, stop_grown, grown_end, if_growing, else_growing, part_go, part_stop}
+use Rattle.bitstream_io.proofs.CallerLemmas.{go_grown, stop_grown, part_go, part_stop}
 use Rattle.flac_codec.specs.Predict.{fixed_weights, predicted, restored}
 use Rattle.flac_codec.specs.Residual.{residual_decoder}
 use Rattle.flac_codec.proofs.ResultLemmas.{fine_after_part, map_is, map_stop, store_done, store_refused}
@@ -27,7 +26,7 @@ returns-in_err-residual g c =
 pub returns-in_err-restore_fixed : goal.returns-in_err-restore_fixed
 returns-in_err-restore_fixed g c =
     let o = g.R.BitRead.source.order in
-    let made = restored (predicted (fixed_weights c.args.order)) c.in_ok-samples.samples.items c.in_ok-residual.residual.items in
+    let made = restored (predicted (fixed_weights c.args.order) 0) c.in_ok-samples.samples.items c.in_ok-residual.residual.items in
     go_grown _ c.in_ok-samples.ensures.reads
     (part_go _ c.in_ok-residual.ensures (store_refused made c.from_residual-in_err-restore_fixed.result
     (fine_after_part (residual-on_failed o c.args.block_size c.args.order) c.in_ok-residual.ensures)

@@ -14,10 +14,19 @@ pub returns-then-kind-lt8 : goal.returns-then-kind-lt8
 returns-then-kind-lt8 g c =
     else_growing _ _ _ (ne_eqb _ 0 c.if-kind-eq0.false) (else_growing _ _ _ (ne_eqb _ 1 c.if-kind-eq1.false) (if_growing _ _ _ (lt-ltb _ 8 c.if-kind-lt8.true) (grown_end _ _)))
 
-pub returns-then-kind-gt12 : goal.returns-then-kind-gt12
-returns-then-kind-gt12 g c =
-    else_growing _ _ _ (ne_eqb _ 0 c.if-kind-eq0.false) (else_growing _ _ _ (ne_eqb _ 1 c.if-kind-eq1.false) (else_growing _ _ _ (le-ltb _ 8 c.if-kind-lt8.false) (if_growing _ _ _ (lt-ltb 12 _ c.if-kind-gt12.true) (grown_end _ _))))
+pub returns-then-kind-lt13 : goal.returns-then-kind-lt13
+returns-then-kind-lt13 g c =
+    else_growing _ _ _ (ne_eqb _ 0 c.if-kind-eq0.false) (else_growing _ _ _ (ne_eqb _ 1 c.if-kind-eq1.false)
+    (else_growing _ _ _ (le-ltb _ 8 c.if-kind-lt8.false) (if_growing _ _ _ (lt-ltb _ 13 c.if-kind-lt13.true) c.read_fixed.ensures)))
+
+pub returns-then-kind-lt32 : goal.returns-then-kind-lt32
+returns-then-kind-lt32 g c =
+    else_growing _ _ _ (ne_eqb _ 0 c.if-kind-eq0.false) (else_growing _ _ _ (ne_eqb _ 1 c.if-kind-eq1.false)
+    (else_growing _ _ _ (le-ltb _ 8 c.if-kind-lt8.false) (else_growing _ _ _ (le-ltb _ 13 c.if-kind-lt13.false)
+    (if_growing _ _ _ (lt-ltb _ 32 c.if-kind-lt32.true) (grown_end _ _)))))
 
 pub returns : goal.returns
 returns g c =
-    else_growing _ _ _ (ne_eqb _ 0 c.if-kind-eq0.false) (else_growing _ _ _ (ne_eqb _ 1 c.if-kind-eq1.false) (else_growing _ _ _ (le-ltb _ 8 c.if-kind-lt8.false) (else_growing _ _ _ (le-ltb 12 _ c.if-kind-gt12.false) c.read_fixed.ensures)))
+    else_growing _ _ _ (ne_eqb _ 0 c.if-kind-eq0.false) (else_growing _ _ _ (ne_eqb _ 1 c.if-kind-eq1.false)
+    (else_growing _ _ _ (le-ltb _ 8 c.if-kind-lt8.false) (else_growing _ _ _ (le-ltb _ 13 c.if-kind-lt13.false)
+    (else_growing _ _ _ (le-ltb _ 32 c.if-kind-lt32.false) c.read_linear.ensures))))

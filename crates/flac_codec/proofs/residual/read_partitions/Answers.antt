@@ -1,4 +1,4 @@
-use Rattle.std.proofs.Common.{◌≡◌, ◌∙◌, ◌+◌, ◌++◌, ◌∷◌, [], ℕ, ℤ, List, Ok, Err, append-nil, append_assoc, ap, arith, refl, sym}
+use Rattle.std.proofs.Common.{◌≡◌, ◌∙◌, ◌++◌, ◌∷◌, [], ℕ, ℤ, List, Ok, Err, append-nil, append_assoc, ap, arith, refl, sym}
 use Rattle.std.specs.List.{flat_map}
 use Rattle.bitstream_io.specs.Codec.{and_then}
 use Rattle.bitstream_io.specs.ReadTable.{unsigned_decoder}

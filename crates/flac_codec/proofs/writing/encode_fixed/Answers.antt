@@ -11,7 +11,7 @@ returns g c =
     let width = c.args.width in
     let xs = c.args.samples.now in
     let n = c.args.order in
-    let rest = residual (predicted (fixed_weights n)) (take n xs) (drop n xs) in
+    let rest = residual (predicted (fixed_weights n) 0) (take n xs) (drop n xs) in
     let small = rw c.requires.is at c.requires.small in
     let writes = rw c.requires.is at c.write_fixed.ensures in
     value_written writes
