@@ -2,14 +2,14 @@
 use Rattle.std.proofs.Common.{◌≡◌, ◌∙◌, ◌⊎◌, ℕ, zero, ◌+◌, ◌≤◌, ◌<◌, ◌∷◌, [], List, length, length-append, None, Some, Result, Ok, Err, Bool, ℤ, false, true, inl, inr, sym, ap, subst, arith}
 use Rattle.std.specs.Prelude.{IfErr, nat_lt, ◌==◌, ◌||◌, ◌^◌, if◌then◌else◌}
 use Rattle.std.specs.Result.{IsErrAnd}
-use Rattle.bitstream_io.specs.Callers.{AllAccepted, Error, Order, High, OutOfMemory, Sink, Encoder, WritesAll, align, bit, unsigned, signed, word, write_sequence, sequence_length}
+use Rattle.bitstream_io.specs.Callers.{AllAccepted, Error, Order, High, OutOfMemory, Sink, Encoder, WritesAll, align, bit, word, write_sequence, sequence_length}
 use Rattle.bitstream_io.specs.Fault.{refusal_of}
 use Rattle.bitstream_io.specs.Growing.{growing_stream}
 use Rattle.bitstream_io.specs.Refusal.{MayRefuseWrite, Refusal}
 use Rattle.bitstream_io.specs.Sequence.{accepted_bits}
 use Rattle.bitstream_io.specs.Sink.{IsPastLimit, Writes}
 use Rattle.bitstream_io.specs.Word.{signed_word}
-use Rattle.bitstream_io.specs.WriteTable.{fits_signed}
+use Rattle.bitstream_io.specs.WriteTable.{fits_signed, signed, unsigned}
 use Rattle.bitstream_io.proofs.LengthLemmas.{grown_by}
 use Rattle.bitstream_io.proofs.PackIntoLemmas.{IsFaultOf, IsRoomy, align_error, all_error, error_within, accepted-run, run-accepted}
 use Rattle.bitstream_io.proofs.WordLemmas.{length-word}
@@ -65,15 +65,15 @@ counted_accepted K es s t start h =
 -- ---- calls that a counter has room for
 
 -- at most n bits of calls are accepted, wherever they begin
-abbrev pub IsAtMost : List Encoder → ℕ → Type 0
-IsAtMost es n = (len : ℕ) → length (write_sequence es len) ≤ n
+pub record IsAtMost (es : List Encoder) (n : ℕ) : Type 0 where
+  pub most : (len : ℕ) → length (write_sequence es len) ≤ n
 
 -- the error of calls on a counter that has room for all of them
 pub counted_error : {S : Type 0} (K : Sink S) (most : ℕ) → K.limit ≡ Some most → ((x : Refusal) → K.may x → ⊥)
     → (es : List Encoder) (s : S) (x : Error) (t : S) → K.len s ≡ 0 → K.failed s ≡ false → IsAtMost es most
     → WritesAll K es s (Err x) t → sequence_length es 0 ≡ Err x
 counted_error K most is never es s x t start sound few h =
-    let all = few (K.len s) in
+    let all = few.most (K.len s) in
     let room : IsRoomy K (K.len s + length (write_sequence es (K.len s))) = λ m le past.
     let over : most < m = subst (λ l. IsPastLimit l m) is past in absurd (omega (arith, le, over, all, start)) in
     ap (sequence_length es) (sym start) ∙ elim (error_within K es s x t sound room h) [
@@ -83,17 +83,19 @@ counted_error K most is never es s x t start sound few h =
 
 -- no call
 none-most : IsAtMost [] 0
-none-most len = omega arith
+none-most = record { most = λ len. omega arith }
 
 -- a call of at most n bits before others
-more-most : (e : Encoder) (n : ℕ) (es : List Encoder) (m : ℕ) → ((len : ℕ) → length (accepted_bits (e len)) ≤ n)
+more-most : {e : Encoder} {es : List Encoder} {m : ℕ} (n : ℕ) → ((len : ℕ) → length (accepted_bits (e len)) ≤ n)
     → IsAtMost es m → IsAtMost (e ∷ es) (n + m)
-more-most e n es m first rest len =
-    let w = accepted_bits (e len) in
-    let here = first len in
-    let behind = rest (len + length w) in
-    let all = length-append w (write_sequence es (len + length w)) in
-    omega (arith, here, behind, all)
+more-most {e = e} {es = es} n first rest = record {
+  most = λ len.
+      let w = accepted_bits (e len) in
+      let here = first len in
+      let behind = rest.most (len + length w) in
+      let all = length-append w (write_sequence es (len + length w)) in
+      omega (arith, here, behind, all);
+}
 
 or_error : (d : Bool) (w : List Bool) (x : Error) (n : ℕ) → length w ≡ n
     → length (accepted_bits (if d then Ok w else Err x)) ≤ n
@@ -121,7 +123,7 @@ bit-most b len = omega arith
 -- a sample is at most 48 bits long
 pub sample-most : (value : Sample) → IsAtMost (sample_writes High value) 48
 sample-most value =
-    more-most (unsigned High 32 20 value.seconds) 20 _ 28 (unsigned-most High 32 20 value.seconds)
-    (more-most (bit value.running) 1 _ 27 (bit-most value.running)
-    (more-most (signed High 16 9 value.temperature) 9 _ 18 (signed-most High 16 9 value.temperature)
-    (more-most (unsigned High 32 18 value.pressure) 18 [] 0 (unsigned-most High 32 18 value.pressure) none-most)))
+    more-most 20 (unsigned-most High 32 20 value.seconds)
+    (more-most 1 (bit-most value.running)
+    (more-most 9 (signed-most High 16 9 value.temperature)
+    (more-most 18 (unsigned-most High 32 18 value.pressure) none-most)))

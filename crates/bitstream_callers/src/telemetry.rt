@@ -72,11 +72,11 @@ impl Sample {
         ensures refused { IfErr result (IsMisfitOrMemory (sample_writes High self.now)) }
     {
         let size = self.bits()?;
-        let mut bytes = Vec::new(alloc);
+        let mut bytes = Growing::new(Vec::new(alloc));
         let mut writer = BitWriter::<_, BE>::new(Lent::new(&mut bytes));
         writer.write::<Bits<8>, u8>(size)?;
         self.write(&mut writer)?;
         writer.byte_align()?;
-        Ok(bytes)
+        Ok(bytes.into_vec())
     }
 }

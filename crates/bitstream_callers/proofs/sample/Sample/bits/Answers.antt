@@ -20,4 +20,4 @@ returns-in_err-write-clause-refused c =
     let es = sample_writes High c.args.self.now in
     if_error _ _ (λ error. sequence_length es 0 ≡ Err error) c.from_residual.ensures.1
     (counted_error _ 255 refl (λ x may. may) es _ _ _ c.new-counter.ensures refl
-    (λ len. let few = sample-most c.args.self.now len in omega (arith, few)) c.in_err-write.ensures)
+    (record { most = λ len. let few = (sample-most c.args.self.now).most len in omega (arith, few) }) c.in_err-write.ensures)

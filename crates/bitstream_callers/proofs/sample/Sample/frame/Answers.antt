@@ -35,7 +35,7 @@ returns-in_err-size-clause-refused c =
 pub returns-in_err-write-clause-refused : goal.returns-in_err-write-clause-refused
 returns-in_err-write-clause-refused c =
     let size = c.in_ok-size.size in
-    let few = sample-most c.args.self.now 0 in
+    let few = (sample-most c.args.self.now).most 0 in
     let small : size < 2 ^ 8 = let is = c.in_ok-size.ensures.count in omega (arith, few, is) in
     if_error _ _ (IsMisfitOrMemory (sample_writes High c.args.self.now)) c.from_residual-in_err-write.ensures.1
     (inr (only_memory (unsigned High 8 8 size ∷ []) _
@@ -48,7 +48,7 @@ pub returns-in_err-write-2-clause-refused : goal.returns-in_err-write-2-clause-r
 returns-in_err-write-2-clause-refused c =
     let size = c.in_ok-size.size in
     let fields = sample_writes High c.args.self.now in
-    let few = sample-most c.args.self.now 0 in
+    let few = (sample-most c.args.self.now).most 0 in
     let small : size < 2 ^ 8 = let is = c.in_ok-size.ensures.count in omega (arith, few, is) in
     let packs = packs-more (unsigned-written High 8 8 size refl small)
     (sample_packs High c.args.self.now (c.in_ok-size.ensures.fits refl)) in
@@ -63,7 +63,7 @@ pub returns-in_err-byte_align-clause-refused : goal.returns-in_err-byte_align-cl
 returns-in_err-byte_align-clause-refused c =
     let size = c.in_ok-size.size in
     let fields = sample_writes High c.args.self.now in
-    let few = sample-most c.args.self.now 0 in
+    let few = (sample-most c.args.self.now).most 0 in
     let small : size < 2 ^ 8 = let is = c.in_ok-size.ensures.count in omega (arith, few, is) in
     let packs = packs-more (unsigned-written High 8 8 size refl small)
     (sample_packs High c.args.self.now (c.in_ok-size.ensures.fits refl)) in
