@@ -109,7 +109,7 @@ def proof_name(found: re.Match[str]) -> str:
         return said
     if before.endswith("."):
         return f"{said}_" if before.endswith(("fits.", "args.")) else said
-    is_field = re.match(r"\s+= ", behind) and not before.endswith("let ")
+    is_field = re.match(r"\s+=\s+(?!do\b)", behind) and re.search(r"(^|[{;])\s*$", before)
     if before == "  pub ":
         record = text.rfind("pub record ", 0, line)
         is_field = re.match(r"pub record \w+Fields : Type", text[record:line])
