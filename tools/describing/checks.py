@@ -27,8 +27,6 @@ def check(it: m.Description, names: bool = True) -> None:
     if it.order not in ("BE", "LE"):
         raise Refused("the order is BE or LE", it.heads["order"])
     check_lines(it, names)
-    if names:
-        check_shadowed(it)
     check_types(it, names)
     if it.error and not any(m.error(kind) for kind in it.kinds):
         why = f"no line refuses bits, so there is no `{it.error}`: leave this line out"
@@ -47,7 +45,7 @@ def check_lines(it: m.Description, own: bool) -> None:
         check_name(name, kind.at)
         check_target(it, index, kind)
         if own and name in reserved.WORDS:
-            raise Refused(f"`{name}` is a word of the proofs: take another name", kind.at)
+            raise Refused(f"`{name}` is a word of the language: take another name", kind.at)
         if name and name in names:
             raise Refused(f"two fields have one name, `{name}`", kind.at)
         check_error(it, kind)
@@ -127,16 +125,13 @@ def many_words(kind: m.Array | m.List | m.Rest | m.Fill | m.Until) -> list[tuple
     return [*found, (kind.name, {"value", f"{s}_of", f"{s}_number"})] if item.other else found
 
 
-def check_shadowed(it: m.Description) -> None:
-    """Refuses a field whose name is a word of a clause of `Fits` for a later line, such as `length`."""
-    said: dict[str, Position] = {}
+def shadowing(it: m.Description) -> Iterator[str]:
+    """Returns the names of fields that are words of a clause of `Fits` for a later line, such as `length`."""
+    said: set[str] = set()
     for kind in it.kinds:
         for name, words in fits_words(kind):
-            for word in sorted(words):
-                if word in said:
-                    why = f"`{word}` is a word of what is said of `{name}` behind it: take another name"
-                    raise Refused(why, said[word])
-            said[name] = kind.at
+            yield from said & words
+            said.add(name)
 
 
 def new_enums(it: m.Description) -> Iterator[tuple[Position, m.EnumType]]:

@@ -13,6 +13,7 @@ from describing.model import Refused
 from describing.names import TAKEN
 from describing.proofs import calls
 from describing.proofs import printed as proofs
+from describing.renamed import renamed, shown
 from describing.rust import printed as rust
 from describing.specs import printed as specs
 
@@ -20,7 +21,7 @@ from describing.specs import printed as specs
 def files_of(f: Format) -> dict[str, str]:
     """Returns the texts by their places in the crate."""
     found = rust.files(f) | specs.files(f) | proofs.files(f) | specs.fields_files(f) | proofs.answer_files(f)
-    return found | calls.files(f)
+    return {shown(place, ".rt"): shown(text, place) for place, text in (found | calls.files(f)).items()}
 
 
 def put(folder: str, place: str, text: str) -> None:
@@ -45,7 +46,7 @@ def format_of(description: str, folder: str, name: str) -> Format:
     inside = os.path.relpath(description, folder)
     path = os.path.basename(description) if inside.startswith("..") else inside
     said = described(text_of(description), description, name)
-    return Format(os.path.basename(os.path.abspath(folder)), name, said, path)
+    return Format(os.path.basename(os.path.abspath(folder)), name, renamed(said), path)
 
 
 def root_of(folder: str) -> str:

@@ -1,12 +1,24 @@
-"""Names that no field may have, for the printed text uses them itself."""
+"""Names that the printed text uses itself: no field may have some, and others need another name for its variable."""
 
-# Words of the proofs and of the code: no field may have one of these names.
+# Words of the languages: no field may have one of these names.
 WORDS = frozenset(
     """
-    abbrev alloc as assumption at axiom bit bits cc coe com data deriving do drop elim else ensures enum
-    fcoe first_bit fits fn for from ghost gives grind ground hcom if impl in infix infixl infixr let
-    loop map match mod module more move mut mutual number o omega open optional package packet plain pub
-    reader record ref requires result ruleset rw search self signed simp struct take tcoe trait type
-    unfold unfoldable unfolding unsigned use value where while word words writer zeros
+    abstract as assumption async await become box break const continue crate do dyn else ensures enum extern false final
+    fn for gen ghost ground if impl in let loop macro match mod move mut override priv pub ref requires return self static
+    struct super trait true try type typeof unsafe unsized use virtual where while yield
+    """.split()
+)
+# Words of the language of proofs, which are in quotes as the name of a field.
+QUOTED = frozenset(
+    """
+    abbrev as axiom coe com data deriving do elim fcoe hcom in infix infixl infixr let module mutual open package pub
+    record ruleset tcoe unfold unfoldable unfolding use where
+    """.split()
+)
+# Words of the proofs and of the printed code: a variable for a field of such a name has another name.
+LIFTED = (QUOTED - WORDS) | frozenset(
+    """
+    alloc at bit bits cc drop first_bit fits from gives grind map more number o omega optional packet plain reader result
+    rw search signed simp take unsigned value word words writer zeros
     """.split()
 )
