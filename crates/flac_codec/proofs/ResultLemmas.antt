@@ -3,6 +3,7 @@ use Rattle.std.proofs.Common.{◌≡◌, ℤ, List, Result, Ok, Err, Vec, Global
 use Rattle.std.specs.Result.{IsErrAnd}
 use Rattle.bitstream_io.specs.Callers.{BitSource, Decoder, Error, Failed, GrowsOwn, OutOfMemory, OwnAnswer, result_map, stores}
 use Rattle.bitstream_io.specs.Grows.{GrowingOutcome, by_reads, in_a_read, between_reads}
+use Rattle.bitstream_io.specs.Reads.{had_failed, was_done, was_refused, memory_refused}
 use Rattle.bitstream_io.proofs.CallerLemmas.{Reads-pure, own_refused}
 use Rattle.bitstream_io.proofs.ReadsLemmas.{Reads-same, ok_prefix}
 use Rattle.flac_codec.specs.Errors.{becomes_flac}
@@ -38,6 +39,26 @@ part_fine becomes a (Err x) failed h is = absurd is
 pub fine_after_part : {R A E : Type 0} {K : BitSource R} {becomes : Error → E → Type 0} {e : Decoder (Result A E)} {a : A}
     {s t : R} → e.on_failed ≡ Err Failed → GrowsOwn K becomes e s (Ok a) t → (K.state t).failed ≡ false
 fine_after_part {becomes = becomes} {a = a} failed h = part_fine becomes a h.plain failed h.called h.answer
+
+-- and so has one that had not failed before
+fine_still : {R A : Type 0} {K : BitSource R} {e : Decoder A} {a : A} {s t : R} → (K.state s).failed ≡ false
+    → GrowingOutcome K e s (Ok a) t → (K.state t).failed ≡ false
+fine_still fine (by_reads (had_failed h)) = let p = h.failed in cc
+fine_still fine (by_reads (was_done h)) = h.failed
+fine_still fine (by_reads (was_refused h)) = let p = h.answer in cc
+fine_still fine (by_reads (memory_refused grows h)) = let p = h.answer in cc
+fine_still fine (in_a_read h) = let p = h.refused.answer in cc
+fine_still fine (between_reads h) = let p = h.answer in cc
+
+still_part : {R A E : Type 0} {K : BitSource R} (becomes : Error → E → Type 0) {e : Decoder (Result A E)} {s t : R} (a : A)
+    (plain : Result (Result A E) Error) → (K.state s).failed ≡ false → GrowingOutcome K e s plain t
+    → OwnAnswer becomes (λ y. y) plain (Ok a) → (K.state t).failed ≡ false
+still_part becomes a (Ok v) fine h is = fine_still fine h
+still_part becomes a (Err x) fine h is = absurd is
+
+pub fine_still_part : {R A E : Type 0} {K : BitSource R} {becomes : Error → E → Type 0} {e : Decoder (Result A E)} {a : A}
+    {s t : R} → (K.state s).failed ≡ false → GrowsOwn K becomes e s (Ok a) t → (K.state t).failed ≡ false
+fine_still_part {becomes = becomes} {a = a} fine h = still_part becomes a h.plain fine h.called h.answer
 
 -- the samples are not stored
 pub store_refused : {R : Type 0} {K : BitSource R} {s : R} (samples : List ℤ) (r : Result (Vec ℤ Global) FlacError)

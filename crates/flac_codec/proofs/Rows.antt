@@ -7,7 +7,7 @@ use Rattle.bitstream_io.specs.Grows.{parts_decoder}
 use Rattle.bitstream_io.specs.ReadTable.{signed_decoder, unary_decoder, unsigned_decoder}
 use Rattle.bitstream_io.specs.Word.{digits, digits_number}
 use Rattle.flac_codec.specs.Subframe.{subframe_decoder}
-use Rattle.flac_codec.specs.declared.error.FlacError.TheVariants.{ReservedBit, ReservedSubframe, ReservedResidual, Partitions, ShortBlock}
+use Rattle.flac_codec.specs.declared.error.FlacError.TheVariants.{ReservedBit, TooManyWastedBits, ReservedSubframe, ReservedResidual, Partitions, ShortBlock}
 
 rfc_verbatim : (subframe_decoder High 16 3).reads 0 (bits High (0x02 ∷ 0xc3 ∷ 0x82 ∷ 0xc4 ∷ 0x0b ∷ 0xc1 ∷ 0x4a ∷ []))
     ≡ Done 56 (Ok (Ok (negsuc 15485 ∷ negsuc 15348 ∷ negsuc 16053 ∷ [])))
@@ -78,11 +78,21 @@ rfc_linear : (subframe_decoder High 8 24).reads 0 (bits High (0x44 ∷ 0x00 ∷ 
 unfolding and_then items_decoder parts_decoder signed_decoder unary_decoder unsigned_decoder digits digits_number
 rfc_linear = refl
 
--- what is refused: a first bit 1, wasted bits, a reserved type, three samples in two partitions, a reserved coding, and
+rfc_wasted : (subframe_decoder High 16 1).reads 0 (bits High (0x03 ∷ 0x58 ∷ 0xfd ∷ []))
+    ≡ Done 24 (Ok (Ok (pos 25588 ∷ [])))
+unfolding and_then items_decoder parts_decoder signed_decoder unary_decoder unsigned_decoder digits digits_number
+rfc_wasted = refl
+
+rfc_more_wasted : (subframe_decoder High 16 1).reads 0 (bits High (0x03 ∷ 0x12 ∷ 0x8b ∷ []))
+    ≡ Done 24 (Ok (Ok (pos 10416 ∷ [])))
+unfolding and_then items_decoder parts_decoder signed_decoder unary_decoder unsigned_decoder digits digits_number
+rfc_more_wasted = refl
+
+-- what is refused: a first bit 1, as many wasted bits as bits, a reserved type, three samples in two partitions, a reserved coding, and
 -- three samples for a prediction from four
 refused :
     ((subframe_decoder High 16 3).reads 0 (bits High (0x80 ∷ [])) ≡ Done 1 (Ok (Err ReservedBit)))
-    × ((subframe_decoder High 16 1).reads 0 (bits High (0x03 ∷ [])) ≡ Done 8 (Ok (Err ReservedBit)))
+    × ((subframe_decoder High 4 1).reads 0 (bits High (0x03 ∷ 0x10 ∷ [])) ≡ Done 12 (Ok (Err TooManyWastedBits)))
     × ((subframe_decoder High 16 3).reads 0 (bits High (0x04 ∷ [])) ≡ Done 8 (Ok (Err ReservedSubframe)))
     × ((subframe_decoder High 16 3).reads 0 (bits High (0x10 ∷ 0x04 ∷ [])) ≡ Done 14 (Ok (Err Partitions)))
     × ((subframe_decoder High 16 3).reads 0 (bits High (0x10 ∷ 0x80 ∷ [])) ≡ Done 10 (Ok (Err ReservedResidual)))

@@ -1,13 +1,14 @@
 -- Subframes of FLAC (RFC 9639, section 9.2): their decoder, the calls that write them, and what an encoder owes.
-use Rattle.std.specs.Prelude.{◌≡◌, ◌⊎◌, ℕ, ℤ, ◌+◌, ◌-◌, ◌==◌, nat_lt, if◌then◌else◌, false, List, [], ◌∷◌, ◌++◌, replicate, Result, Ok, Err}
+use Rattle.std.specs.Prelude.{◌≡◌, ◌⊎◌, ℕ, ℤ, ◌+◌, ◌-◌, ◌==◌, nat_lt, if◌then◌else◌, true, false, List, [], ◌∷◌, ◌++◌, map, replicate, Result, Ok, Err}
+use Rattle.std.specs.Int.{int_shl, w64}
 use Rattle.std.specs.List.{flat_map}
-use Rattle.bitstream_io.specs.Callers.{Decoder, Encoder, ◌>>=◌, pure, stores, bit_decoder, unsigned_decoder, signed_decoder, part_then, Error, Order, High, OutOfMemory, bits, Done, Sink, WritesAll, AllAccepted, bit, unsigned, signed}
+use Rattle.bitstream_io.specs.Callers.{Decoder, Encoder, ◌>>=◌, pure, stores, bit_decoder, unary_decoder, unsigned_decoder, signed_decoder, part_then, Error, Order, High, OutOfMemory, bits, Done, Sink, WritesAll, AllAccepted, bit, unsigned, signed}
 use Rattle.bitstream_io.specs.ReadBack.{IsReadAs}
 use Rattle.flac_codec.specs.Predict.{fixed_weights, predicted, restored}
 use Rattle.flac_codec.specs.Residual.{residual_decoder, samples_decoder}
 use Rattle.flac_codec.specs.Rice.{rice_writes}
 use Rattle.flac_codec.specs.declared.error.FlacError.{FlacError}
-use Rattle.flac_codec.specs.declared.error.FlacError.TheVariants.{ReservedBit, ReservedSubframe, ReservedPrecision, NegativeShift}
+use Rattle.flac_codec.specs.declared.error.FlacError.TheVariants.{ReservedBit, ReservedSubframe, ReservedPrecision, NegativeShift, TooManyWastedBits}
 
 -- ---- the decoder
 
@@ -54,12 +55,28 @@ kind_decoder o width block_size kind =
     else if nat_lt kind 32 then pure (Err ReservedSubframe)
     else linear_decoder o width block_size (kind - 31)
 
--- a subframe after its first bit: its type, and that it has no wasted bits
+-- a sample, and then its wasted bits, which are 0
+abbrev pub widened : ℕ → ℤ → ℤ
+widened wasted sample = int_shl w64 sample wasted
+
+-- a subframe of a type with wasted bits, of which all samples lack `wasted`
+abbrev pub narrow_decoder : Order → ℕ → ℕ → ℕ → ℕ → Decoder (Result (List ℤ) FlacError)
+narrow_decoder o width block_size kind wasted =
+    kind_decoder o (width - wasted) block_size kind >>= part_then (λ samples. stores (Ok (map (widened wasted) samples)))
+
+-- a subframe of a type after its header, whose number of wasted bits follows: fewer than the samples have, and than 64
+abbrev pub wasted_decoder : Order → ℕ → ℕ → ℕ → Decoder (Result (List ℤ) FlacError)
+wasted_decoder o width block_size kind = unary_decoder true >>= (λ more.
+    if nat_lt more 63 then
+    (if nat_lt (more + 1) width then narrow_decoder o width block_size kind (more + 1) else pure (Err TooManyWastedBits))
+    else pure (Err TooManyWastedBits))
+
+-- a subframe after its first bit: its type, and whether it has wasted bits
 abbrev pub typed_decoder : Order → ℕ → ℕ → Decoder (Result (List ℤ) FlacError)
 typed_decoder o width block_size = do
   kind ← unsigned_decoder o 32 6
   wasted ← bit_decoder
-  if wasted then pure (Err ReservedBit) else kind_decoder o width block_size kind
+  if wasted then wasted_decoder o width block_size kind else kind_decoder o width block_size kind
 
 -- a subframe of `block_size` samples of `width` bits
 abbrev pub subframe_decoder : Order → ℕ → ℕ → Decoder (Result (List ℤ) FlacError)

@@ -15,6 +15,9 @@ pub enum FlacError {
     /// The type of the subframe is reserved.
     #[error("the type of the subframe is reserved")]
     ReservedSubframe,
+    /// All bits of the samples are wasted, or more.
+    #[error("too many wasted bits")]
+    TooManyWastedBits,
     /// The precision of the coefficients is reserved.
     #[error("the precision of the coefficients is reserved")]
     ReservedPrecision,

@@ -1,22 +1,22 @@
 //! Subframes, read (section 9.2).
-ghost use Rattle.std.specs.Prelude.{◌≡◌, ◌≤◌};
+ghost use Rattle.std.specs.Prelude.{◌≡◌, ◌<◌, ◌≤◌, map, IfOk};
 ghost use Rattle.bitstream_io.specs.Callers.{result_map, GrowsOwn};
 ghost use Rattle.flac_codec.specs.Errors.{becomes_flac};
-ghost use Rattle.flac_codec.specs.Subframe.{constant_decoder, fixed_decoder, kind_decoder, linear_decoder, subframe_decoder, typed_decoder, verbatim_decoder};
+ghost use Rattle.flac_codec.specs.Subframe.{constant_decoder, fixed_decoder, kind_decoder, linear_decoder, subframe_decoder, typed_decoder, verbatim_decoder, wasted_decoder, widened};
 
 use crate::error::FlacError;
 use crate::numbers::{read_samples, repeated};
 use crate::predict::{restore, restore_fixed};
 use crate::residual::read_residual;
 use bitstream_io::{BitRead, BitReadExt, Bits};
-use std::alloc::Global;
+use std::alloc::{AllocFailed, Global};
 
 /// Reads a subframe of `block_size` samples of `width` bits: constant, verbatim, or with a fixed or a linear
 /// prediction.
 ///
 /// # Errors
 ///
-/// `ReservedBit` for a first bit 1 and for wasted bits, `ReservedSubframe` for another type, `ReservedPrecision`
+/// `ReservedBit` for a first bit 1, `TooManyWastedBits`, `ReservedSubframe` for another type, `ReservedPrecision`
 /// and `NegativeShift` for the coefficients, `ReservedResidual` for a
 /// reserved coding, `Partitions` for a block that is not of whole partitions, and `ShortBlock` for a first partition that
 /// is shorter than the order of the prediction. Those of the reader; memory was refused.
@@ -49,9 +49,44 @@ fn read_typed<R: BitRead>(
     let kind = reader.read::<Bits<6>, u32>()?;
     let wasted = reader.read_bit()?;
     if wasted {
-        return Err(FlacError::ReservedBit);
+        return read_wasted(reader, alloc, width, block_size, kind);
     }
     read_kind(reader, alloc, width, block_size, kind)
+}
+
+/// Reads a subframe of a type with wasted bits, after its header.
+fn read_wasted<R: BitRead>(
+    reader: &mut R,
+    alloc: Global,
+    width: u32,
+    block_size: u32,
+    kind: u32,
+) -> Result<Vec<i64>, FlacError>
+    ensures { GrowsOwn R.source becomes_flac (wasted_decoder R.source.order width block_size kind)
+        reader.old (result_map (λ found. found.items) result) reader.new }
+{
+    let more = reader.read_unary::<Bits<1>>()?;
+    if more >= 63 {
+        return Err(FlacError::TooManyWastedBits);
+    }
+    let wasted = more + 1;
+    if wasted >= width {
+        return Err(FlacError::TooManyWastedBits);
+    }
+    let samples = read_kind(reader, alloc, width - wasted, block_size, kind)?;
+    Ok(widened(alloc, samples.as_slice(), wasted)?)
+}
+
+/// Returns samples with their wasted bits.
+fn widened(alloc: Global, samples: &[i64], wasted: u32) -> Result<Vec<i64>, AllocFailed<i64>>
+    requires { wasted < 64 }
+    ensures { IfOk result (λ found. found.items ≡ map (widened wasted) samples.now) }
+{
+    let mut found = Vec::new(alloc);
+    for sample in samples {
+        found.push(*sample << wasted)?;
+    }
+    Ok(found)
 }
 
 /// Reads a subframe of a type after its header.

@@ -12,7 +12,8 @@ returns-in_err-wasted g c =
 
 pub returns-then-wasted : goal.returns-then-wasted
 returns-then-wasted g c =
-    go_grown _ (grown c.in_ok-kind.ensures.reads) (go_grown _ (grown c.in_ok-wasted.ensures.reads) (if_growing _ _ _ c.if-wasted.true (grown_end _ _)))
+    go_grown _ (grown c.in_ok-kind.ensures.reads) (go_grown _ (grown c.in_ok-wasted.ensures.reads)
+    (if_growing _ _ _ c.if-wasted.true c.read_wasted.ensures))
 
 pub returns : goal.returns
 returns g c =
