@@ -144,8 +144,8 @@ def vps(draw: random.Random, number: int, lower: int, nested: bool) -> bytes:
     """A video parameter set."""
     bits = Bits(draw)
     bits.u(4, number)
-    bits.any(1)
-    bits.any(1)
+    least = 0 if bits.flag() else 1
+    bits.flag()
     bits.u(6, draw.randint(0, 62))
     bits.u(3, lower)
     bits.u(1, int(nested))
@@ -160,10 +160,9 @@ def vps(draw: random.Random, number: int, lower: int, nested: bool) -> bytes:
         bits.tick()
         if bits.flag():
             bits.range(0, 2**32 - 2)
-        # ffmpeg forgets what a set of parameters has in common with the one before, so there is one at most.
-        for _ in range(bits.range(0, 1)):
-            bits.u(0, 0)
-            bits.ue(draw.randint(1, more) if more else 0)
+        # ffmpeg forgets what several HRD parameters share, so there is one at most.
+        if bits.range(0, 1 if more >= least else 0):
+            bits.ue(draw.randint(least, more))
             hrd(bits, lower)
     if bits.flag(0.2):
         bits.any(draw.randint(0, 40))
