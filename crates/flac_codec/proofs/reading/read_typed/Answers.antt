@@ -1,4 +1,4 @@
-use Rattle.bitstream_io.proofs.CallerLemmas.{go_grown, stop_grown, grown, grown_end, if_growing, else_growing}
+use Rattle.bitstream_io.proofs.CallerLemmas.{go_grown, stop_grown, grown, if_growing, else_growing}
 use Rattle.flac_codec.proofs.ResultLemmas.{map_stop}
 use Rattle.flac_codec.proofs.reading.read_typed.Goals as goal
 
