@@ -6,6 +6,8 @@ from describing.c import decided
 from describing.c.cross import base, fields
 from describing.c.imports import lemma_uses, parse_uses
 from describing.c.target import Target
+from describing.layout import Line
+from describing.specs.terms import only_constants
 
 
 HEAD = "-- The number of bytes of a `{}`, its bits before others, and when a parse succeeds."
@@ -74,8 +76,28 @@ returns-clause-round_trip c = λ value fits is.
     c.parsed.ensures ∙ ap {f.m}_parsed (c.parse.ensures.back value (bits {f.o} (drop {f.bytes} c.args.bytes.now)) fits
     (first_bytes value _ is))
 """
-    text += decided.answer(t)
+    text += decided.answer(t) + places(t)
     return "\n".join([f"-- {t.made}", *parse_uses(t, text), "", text])
+
+
+def places(t: Target) -> str:
+    """Returns the proofs of the clauses by places, of which a search proves those of a format with one constant only."""
+    f = t.f
+    if only_constants(f) and len(f.tests) < 2:
+        return ""
+    out = place_answer(t, "there", f.tests, f.tests)
+    out += place_answer(t, "short", [] if only_constants(f) else f.tests, f.tests)
+    for k, it in enumerate(f.tests):
+        out += place_answer(t, it.clause, f.tests[:k], f.tests[: k + 1])
+    return out
+
+
+def place_answer(t: Target, clause: str, cases: list[Line], tests: list[Line]) -> str:
+    """Returns the proof of a clause, whose premises are a length, the cases of enums and what tests of bits say."""
+    given = " ".join(["count", *[it.name for it in cases if it.is_field], *[f"is_{it.index}" for it in tests]])
+    goal = f"returns-clause-{clause}"
+    said = f"c.parsed.ensures ∙ ap {t.f.m}_parsed (c.parse.ensures.{clause} {given})"
+    return f"\npub {goal} : goal.{goal}\n{goal} c = λ {given}.\n    {said}\n"
 
 
 def option_answers(t: Target, number: str) -> str:
