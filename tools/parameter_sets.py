@@ -430,8 +430,7 @@ def sets(draw: random.Random) -> bytes:
 
 
 def with_sets(draw: random.Random, stream: bytes) -> bytes:
-    """A stream with more parameter sets after its first picture parameter set, if it has one."""
+    """A stream with more parameter sets before its first one. ffmpeg reads SEI by the last set, so its own come later."""
     starts = [it.start() for it in re.finditer(rb"\x00?\x00\x00\x01", stream)]
-    first = [at for at in starts if stream[at:].lstrip(b"\0")[1] >> 1 == 34][:1]
-    after = [at for at in starts if first and at > first[0]]
-    return stream[: after[0]] + sets(draw) + stream[after[0] :] if after else stream
+    first = [at for at in starts if stream[at:].lstrip(b"\0")[1] >> 1 == 32][:1]
+    return stream[: first[0]] + sets(draw) + stream[first[0] :] if first else stream
