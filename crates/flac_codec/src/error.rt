@@ -3,7 +3,7 @@
 use bitstream_io::Error;
 use std::alloc::{AllocError, AllocFailed};
 
-/// Why samples are not decoded.
+/// The reasons for which a subframe or a frame is not decoded.
 #[derive(Debug, Drop, thiserror::Error)]
 pub enum FlacError {
     /// The bits were not read, or memory was refused.

@@ -35,7 +35,7 @@ pub fn encode(alloc: Global, width: u32, samples: &[i64]) -> Result<Vec<u8>, Err
 ///
 /// # Errors
 ///
-/// Those of [`read_subframe`].
+/// Returns the errors of [`read_subframe`].
 pub fn decode(alloc: Global, width: u32, count: u32, bytes: &[u8]) -> Result<Vec<i64>, FlacError>
     ensures meaning { OwnAnswer becomes_flac (λ answer. answer)
         (sure_answer ((subframe_decoder High width count).reads 0 (bits High bytes.now)))

@@ -11,7 +11,7 @@ use bitstream_io::{BitRead, BitReadExt, BitWrite, BitWriteExt, Bits, Error};
 ///
 /// # Errors
 ///
-/// Those of the reader.
+/// Returns the reader's errors.
 #[inline(always)]
 pub fn read_rice<R: BitRead>(reader: &mut R, parameter: u32) -> Result<i64, Error>
     requires { parameter < 32 }
@@ -38,7 +38,7 @@ fn joined(high: u32, low: u64, parameter: u32) -> i64
 ///
 /// # Errors
 ///
-/// Those of the writer.
+/// Returns the writer's errors.
 #[inline(always)]
 pub fn write_rice<W: BitWrite>(writer: &mut W, parameter: u32, value: i64) -> Result<(), Error>
     requires few { parameter < 32 }

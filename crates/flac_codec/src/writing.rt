@@ -16,7 +16,7 @@ use std::alloc::Global;
 ///
 /// # Errors
 ///
-/// Those of the writer; memory was refused.
+/// Returns the writer's errors, and `OutOfMemory` if an allocation fails.
 pub fn write_subframe<W: BitWrite>(
     writer: &mut W,
     alloc: Global,

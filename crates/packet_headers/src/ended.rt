@@ -1,4 +1,4 @@
-//! Why records end early.
+//! The reasons for which records end early.
 //!
 //! Made by `./format --program` from ../bitstream_callers/formats/primary_header.fields: edit that file and make this one anew.
 
@@ -8,7 +8,7 @@ use std::alloc::AllocError;
 use std::io;
 use thiserror::Error;
 
-/// Why records end early. Records, lines and bytes are counted; a line from 1.
+/// The reasons for which records end early. Lines are counted from 1.
 #[derive(Debug, Drop, Error)]
 pub enum Ended {
     /// The input ends inside a record.

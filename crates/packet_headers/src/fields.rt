@@ -7,7 +7,7 @@ use serde_json::Value;
 use std::alloc::{AllocError, Global};
 use thiserror::Error;
 
-/// Why JSON does not fit the format.
+/// The reasons for which JSON does not fit the format.
 #[derive(Debug, Drop, Error)]
 pub enum Unfit {
     /// The line is no JSON.

@@ -19,7 +19,7 @@ use std::io::{BufReader, BufWriter, Read, Write};
 use std::process::ExitCode;
 use std::{env, io};
 
-/// How the program is called.
+/// The usage text.
 const USAGE: &str = "\
 usage: packet_headers show [FILE]    prints each record as a line of JSON
        packet_headers pack [FILE]    packs such lines into bytes
@@ -33,7 +33,7 @@ fit the format; 4 the input ended inside a record. The records before are writte
 /// The bytes that are written at once.
 const OUT: usize = 65536;
 
-/// What the program is to do.
+/// The command that the arguments name.
 #[derive(Clone, Copy, Debug, PartialEq)]
 enum Command {
     Help,

@@ -125,7 +125,7 @@ impl AdtsHeader {
     }
 }
 
-/// What was written is read back as it was, in either order of bits, at any place, and only its bits are
+/// States that what was written is read back, in either order of bits, at any place, and only its bits are
 /// taken: 56.
 pub fn adts_laws()
     ensures round_trip { RoundTripLaw adts }

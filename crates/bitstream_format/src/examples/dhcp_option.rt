@@ -96,7 +96,7 @@ impl DhcpOption {
     }
 }
 
-/// What was written is read back as it was, in either order of bits, at any place, and only its bits are
+/// States that what was written is read back, in either order of bits, at any place, and only its bits are
 /// taken. The value is read over the bytes alone that its size states.
 pub fn dhcp_option_laws()
     ensures round_trip { RoundTripLaw dhcp_option }

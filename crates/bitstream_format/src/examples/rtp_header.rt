@@ -143,7 +143,7 @@ impl RtpHeader {
     }
 }
 
-/// What was written is read back as it was, in either order of bits, at any place, and only its bits are
+/// States that what was written is read back, in either order of bits, at any place, and only its bits are
 /// taken.
 pub fn rtp_header_laws()
     ensures round_trip { RoundTripLaw rtp_header }

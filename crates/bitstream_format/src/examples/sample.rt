@@ -8,7 +8,7 @@ ghost use Rattle.bitstream_io.specs.Callers.{EndOfInput, High, bits, Reads, Writ
 
 use bitstream_io::{BE, BitRead, BitReadExt, BitReader, BitWrite, BitWriteExt, Bits, Error};
 
-/// What a vehicle's telemetry measured at one time.
+/// One measurement of a vehicle's telemetry.
 #[derive(Clone, Copy, Debug, PartialEq)]
 pub struct Sample {
     /// Seconds since the start. Below 2^20.
@@ -74,7 +74,7 @@ impl Sample {
     }
 }
 
-/// What was written is read back as it was, in either order of bits, at any place, and only its bits are
+/// States that what was written is read back, in either order of bits, at any place, and only its bits are
 /// taken. If 48 bits are there, the fields are read from their places; fewer are too few.
 pub fn sample_laws()
     ensures round_trip { RoundTripLaw sample }

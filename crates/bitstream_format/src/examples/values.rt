@@ -9,7 +9,7 @@ ghost use Rattle.bitstream_format.specs.Examples.Relay.{relay, sub_option, Reade
 ghost use Rattle.bitstream_format.specs.Examples.Stun.{xor_mapped_address};
 ghost use Rattle.std.specs.Prelude.{ℕ};
 
-/// What was written is read back as it was, in either order of bits, at any place, and only its bits are
+/// States that what was written is read back, in either order of bits, at any place, and only its bits are
 /// taken. The next three functions state the same of their formats.
 pub fn gre_laws()
     ensures round_trip { RoundTripLaw gre }
