@@ -60,10 +60,10 @@ def check_name(name: str, at: Position) -> None:
 
 def check_error(it: m.Description, kind: m.Kind) -> None:
     """Refuses a case of an error that is not declared, or has the name of a clause."""
-    error = m.error(kind)
-    if error and not it.error:
+    errors = [case for case, _ in m.refusals(kind)]
+    if errors and not it.error:
         raise Refused("this line refuses bits, and the description has no line `error NAME`", kind.at)
-    if m.snake(error) in CLAUSES:
+    if any(m.snake(case) in CLAUSES for case in errors):
         why = "`There`, `Short`, `Answer` and `Back` are names of the contract: take other ones"
         raise Refused(why, kind.at)
 
@@ -110,7 +110,10 @@ def fits_words(kind: m.Kind) -> list[tuple[str, set[str]]]:
             return [(m.label(kind), {"value", "length"})]
         case m.If():
             return [(kind.name, {"value"}), (f"{kind.name}_there", {"value", "is_some", "not", "nat_lt", "nat_le"})]
-        case m.Part() | m.Optional() | m.Sized() | m.Choose():
+        case m.Choose():
+            s = m.snake(kind.type)
+            return [(kind.name, {"value", f"{s}_fits"}), (f"{kind.name}_tag", {"value", f"{s}_number"})]
+        case m.Part() | m.Optional() | m.Sized():
             return [(kind.name, {"value"})]
     return []
 
@@ -151,9 +154,10 @@ def check_types(it: m.Description, own: bool) -> None:
     types = [(it.heads["struct"], it.name), (it.heads.get("error", Position(1, 1)), it.error)]
     types += [(at, enum.name) for at, enum in enums]
     types += [(kind.at, kind.type) for kind in it.kinds if isinstance(kind, m.Choose)]
-    parts = [item.name for kind in it.kinds if isinstance(item := m.held_item(kind), m.Use)]
+    parts = [use.name for kind in it.kinds for use in m.uses(kind)]
     cases = [(at, case) for at, enum in enums for case in enum.names()]
-    errors = [(kind.at, m.error(kind)) for kind in it.kinds]
+    cases += [(kind.at, arm.case) for kind in it.kinds if isinstance(kind, m.Choose) for arm in kind.arms]
+    errors = [(kind.at, case) for kind in it.kinds for case, _ in m.refusals(kind)]
     for at, name in [*types, *errors, *cases]:
         check_name(name, at)
     for index, (at, name) in enumerate(types):
@@ -162,3 +166,18 @@ def check_types(it: m.Description, own: bool) -> None:
     for at, name in [*types, *errors]:
         if own and name in TAKEN:
             raise Refused(f"`{name}` is a name of the specs: take another one", at)
+    for kind in it.kinds:
+        if own and isinstance(kind, m.Choose):
+            check_choice(it, kind, {name for _, name in [*types, *errors]} | set(parts))
+
+
+def check_choice(it: m.Description, kind: m.Choose, names: set[str]) -> None:
+    """Refuses a choice whose definitions have the names of other ones: those of the library, of a part or of a type."""
+    s = m.snake(kind.type)
+    modules = {use.module for one in it.kinds for use in m.uses(one)}
+    cases = {f"{kind.type}{arm.case}" for arm in kind.arms}
+    definitions = {f"{s}_{word}" for word in ("number", "read", "writes", "size", "fits", "small", "back", "packs")}
+    taken = sorted(({s} & modules) | (cases & (names | TAKEN)) | (definitions & TAKEN))
+    if taken:
+        why = f"`{taken[0]}` is what the specs call something of `{kind.type}`, and something else: take another name"
+        raise Refused(why, kind.at)

@@ -188,21 +188,18 @@ def reader_errors(description: m.Description) -> Iterator[str]:
             yield "VariableWidthOverflow"
         if isinstance(kind, m.Groups) and not kind.any:
             yield "RedundantGroup"
-        if isinstance(use := m.held_item(kind), m.Use):
+        for use in m.uses(kind):
             yield from reader_errors(use.description)
 
 
 def errors_of(description: m.Description) -> list[str]:
     """Returns the cases of the error of a format."""
-    found = [m.error(it) for it in description.kinds] + [
-        it.overrun for it in description.kinds if isinstance(it, m.Choose)
-    ]
-    return [it for it in found if it]
+    return [case for it in description.kinds for case, _ in m.refusals(it)]
 
 
 def held(description: m.Description, answer: str) -> bool:
     """Returns true if a case of the error holds an error of a part."""
-    return any(isinstance(it := m.held_item(kind), m.Use) and it.error == answer for kind in description.kinds)
+    return any(case == answer and inside for kind in description.kinds for case, inside in m.refusals(kind))
 
 
 def check(description: m.Description, example: m.Example) -> None:
@@ -221,8 +218,8 @@ def check(description: m.Description, example: m.Example) -> None:
 
 
 def names_own(description: m.Description, answer: str) -> bool:
-    """Returns true if a wrong size has this case of the error."""
-    return any(isinstance(it, m.Sized | m.Fill) and m.error(it) == answer for it in description.kinds)
+    """Returns true if a case of the error holds no error of a part."""
+    return any(case == answer and not inside for kind in description.kinds for case, inside in m.refusals(kind))
 
 
 def compare(description: m.Description, data: bytes, said: dict[str, Value] | str) -> None:

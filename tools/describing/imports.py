@@ -37,20 +37,23 @@ def part_names(f: Format, line: Line, use: m.Use) -> Table:
 
 def part_cases(use: m.Use) -> list[tuple[str, str]]:
     """Returns the cases of the error of a part, each with the type that it holds."""
-    kinds = use.description.kinds
-    return list({m.error(it): held_error(it) for it in kinds if m.error(it)}.items())
+    return list(dict(one for it in use.description.kinds for one in m.refusals(it)).items())
 
 
-def held_error(kind: m.Kind) -> str:
-    """Returns the error of a part that a case of the error holds, or an empty text."""
-    return next((it.description.error for it in m.uses(kind)), "")
+def choice_names(f: Format, kind: m.Choose) -> Table:
+    """Returns where the names of a choice come from."""
+    base, words = f"{f.declared}.{kind.type}", ("number", "read", "writes", "size", "fits")
+    cases = " ".join(f"{it.case}={kind.type}{it.case}" for it in kind.arms)
+    own = {f.specs_path: " ".join(f"{snake(kind.type)}_{it}" for it in words)}
+    return {base: kind.type, f"{base}.TheVariants": cases} | own
 
 
 def line_names(f: Format, line: Line) -> Table:
     """Returns where the names of a line come from."""
     if line.enum:
         return enum_names(f, line, line.enum)
-    return part_names(f, line, line.use) if line.use else {}
+    own = [choice_names(f, line.kind)] if isinstance(line.kind, m.Choose) else []
+    return merged(*own, *[part_names(f, it, it.use) for it in line.parts if it.use])
 
 
 def all_names(f: Format) -> Table:
@@ -63,7 +66,8 @@ def types(f: Format) -> Table:
     own = {f"{f.declared}.{f.type}": f.type}
     if f.error:
         own[f"{f.declared}.{f.error}"] = f.error
-        own[f"{f.declared}.{f.error}.TheVariants"] = " ".join(dict.fromkeys(["Reader", *[it.error for it in f.tests]]))
+        cases = [case for it in f.tests for case, _ in m.refusals(it.kind)]
+        own[f"{f.declared}.{f.error}.TheVariants"] = " ".join(dict.fromkeys(["Reader", *cases]))
     return {module: names for module, names in merged(own, all_names(f)).items() if ".declared." in module}
 
 
@@ -89,9 +93,14 @@ def line_lemmas(f: Format, line: Line) -> Table:
     """Returns where the lemmas of a line come from."""
     if line.enum:
         return {f.lemmas_path: f"{snake(line.enum.name)}_small {snake(line.enum.name)}_again"}
-    if not line.use:
-        return {}
-    use = line.use
+    own = list[Table]()
+    if isinstance(line.kind, m.Choose):
+        own = [{f.lemmas_path: " ".join(f"{snake(line.kind.type)}_{it}" for it in ("small", "back", "packs"))}]
+    return merged(*own, *[part_lemmas(f, it.use) for it in line.parts if it.use])
+
+
+def part_lemmas(f: Format, use: m.Use) -> Table:
+    """Returns where the lemmas of a part come from."""
     fits = f" {use.module}_fits" * all_fit(use.description.kinds)
     return {f"Rattle.{f.crate}.proofs.{spec_of(use.module)}Lemmas": f"{use.module}_goes {use.module}_packs{fits}"}
 

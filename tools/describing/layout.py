@@ -12,6 +12,7 @@ ORDERS = {"BE": "High", "LE": "Low"}
 # The reads and writes of more than LONG lines are split into functions of EACH lines: twice the calls in one function
 # take about eight times as long to prove.
 LONG, EACH = 16, 8
+UNPRINTED = "`--show` and `--pack` know this line, but no code is printed for it yet"
 OVERFLOW = ("VariableWidthOverflow", "if a number of variable width has more bits than its type")
 REDUNDANT = ("RedundantGroup", "if a number ends in a group of 0 behind others")
 
@@ -22,7 +23,8 @@ class Line:
 
     `at` is the number of bits before it, or None if that is not a constant. `clause` names the clause of its refusal.
     `repeats` is true if an earlier line defines its enum. `inner` are the lines of a part, `shared` the cases of its
-    enum whose names something else has in specs.
+    enum whose names something else has in specs. `arms` are the cases of a choice, each with the line of the part that it
+    holds; `choice` is the choice whose tag it is.
     """
 
     kind: m.Printed
@@ -31,7 +33,9 @@ class Line:
     clause: str
     repeats: bool
     inner: tuple[Line, ...]
-    shared: frozenset[str]
+    shared: frozenset[str] = frozenset()
+    arms: tuple[tuple[m.Arm, Line | None], ...] = ()
+    choice: m.Choose | None = None
 
     @property
     def name(self) -> str:
@@ -73,7 +77,12 @@ class Line:
     @property
     def stops(self) -> bool:
         """True if its read may return an error of the format's own, after which nothing is read."""
-        return bool(self.error) or isinstance(self.kind, m.Part) and m.has_list(self.kind.use)
+        return bool(self.error) or isinstance(self.kind, m.Part | m.Choose) and m.grows(self.kind)
+
+    @property
+    def parts(self) -> list[Line]:
+        """The line itself if it has one part or many of one, or else the lines of the parts of its cases."""
+        return [self] if self.use else [part for _, part in self.arms if part]
 
     @property
     def many(self) -> bool:
@@ -81,7 +90,7 @@ class Line:
         match self.kind:
             case m.Array() | m.List():
                 return not isinstance(self.kind.item, m.Octet)
-        return isinstance(self.kind, m.Golomb | m.Part | m.Optional | m.If)
+        return isinstance(self.kind, m.Golomb | m.Part | m.Optional | m.If | m.Choose)
 
     def least(self, at: int = 0) -> int:
         """Returns the number of bytes that have all its bits."""
@@ -131,13 +140,19 @@ def lines_of(description: m.Description) -> tuple[Line, ...]:
     found: list[Line] = []
     shared, seen = shared_cases(description), set[int]()
     for index, kind in enumerate(description.kinds):
-        if isinstance(kind, m.Tag | m.Size | m.Sized | m.Fill | m.Choose | m.Rest | m.Until):
-            raise Refused("`--show` and `--pack` know this line, but no code is printed for it yet", kind.at)
+        if isinstance(kind, m.Size | m.Sized | m.Fill | m.Rest | m.Until):
+            raise Refused(UNPRINTED, kind.at)
+        if isinstance(kind, m.Choose) and (kind.sized or m.any_octets(kind)):
+            raise Refused(UNPRINTED, kind.at)
+        if isinstance(kind, m.If) and any(isinstance(it, m.Tag) and it.name == kind.field for it in description.kinds):
+            raise Refused(UNPRINTED, kind.at)
         enum, error, width = m.held_item(kind), m.error(kind), m.bits(kind)
         again = f"_{at}" if error in [it.error for it in found] else ""
         repeats = id(enum) in seen
         names = frozenset(enum.names()) & shared if isinstance(enum, m.EnumType) else frozenset[str]()
-        found.append(Line(kind, index, at, snake(error) + again, repeats, inner_lines(kind), names))
+        clause, choice = snake(error) + again, chosen_by(description, kind)
+        arms, inner = arm_lines(kind, index), inner_lines(kind)
+        found.append(Line(kind, index, at, clause, repeats, inner, names, arms, choice))
         seen.add(id(enum) if isinstance(enum, m.EnumType) else 0)
         at = None if at is None or width is None else at + width
     return tuple(found)
@@ -145,12 +160,30 @@ def lines_of(description: m.Description) -> tuple[Line, ...]:
 
 def inner_lines(kind: m.Printed) -> tuple[Line, ...]:
     """Returns the lines of a part; a refusal has the position of the part."""
-    for use in m.uses(kind):
-        try:
-            return lines_of(use.description)
-        except Refused as why:
-            raise Refused(f"`{use.module}`: {why}", kind.at) from None
-    return ()
+    item = m.held_item(kind)
+    return part_lines(item, kind.at) if isinstance(item, m.Use) else ()
+
+
+def part_lines(use: m.Use, at: m.Position) -> tuple[Line, ...]:
+    """Returns the lines of a part at a position."""
+    try:
+        return lines_of(use.description)
+    except Refused as why:
+        raise Refused(f"`{use.module}`: {why}", at) from None
+
+
+def arm_lines(kind: m.Printed, index: int) -> tuple[tuple[m.Arm, Line | None], ...]:
+    """Returns the cases of a choice, each with a line for the part that it holds: its value is called `it`."""
+    arms = kind.arms if isinstance(kind, m.Choose) else ()
+    found = [(arm, m.Part(kind.at, kind.doc, "it", arm.held) if isinstance(arm.held, m.Use) else None) for arm in arms]
+    return tuple((arm, Line(it, index, None, "", False, inner_lines(it)) if it else None) for arm, it in found)
+
+
+def chosen_by(description: m.Description, kind: m.Printed) -> m.Choose | None:
+    """Returns the choice whose case a tag selects."""
+    if not isinstance(kind, m.Tag):
+        return None
+    return next(it for it in description.kinds if isinstance(it, m.Choose) and it.by == kind.name)
 
 
 def shared_cases(description: m.Description) -> set[str]:
@@ -180,6 +213,7 @@ class Format:
         self.own, self.sized, self.e = bool(self.error) or self.grows, self.total is not None, self.error or "Error"
         self.becomes_name = f"becomes_{module}" if self.error else "same_error"
         self.fields = [it for it in self.lines if it.is_field]
+        self.parts = [part for it in self.lines for part in it.parts]
         self.tests = [it for it in self.lines if it.error]
         self.fitting = all_fit(description.kinds)
         self.result = f"(Result {self.type} {self.e})" if self.own else self.type
@@ -223,7 +257,7 @@ class Format:
 
     def is_first(self, line: Line) -> bool:
         """Returns true if no earlier line has the same part."""
-        return next(it for it in self.lines if it.use and line.use and it.use.module == line.use.module) is line
+        return next(it for it in self.parts if it.use and line.use and it.use.module == line.use.module) is line
 
     def is_first_optional(self, line: Line) -> bool:
         """Returns true if no earlier line has the same optional part."""

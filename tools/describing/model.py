@@ -314,13 +314,37 @@ class Arm:
 
 @dataclass(frozen=True, slots=True)
 class Choose(Field):
-    """choose NAME TYPE [by FIELD] [sized ERROR]: ARM, ..; DOC. `overrun` is the error of a wrong size."""
+    """choose NAME TYPE [by FIELD] [sized ERROR]: ARM, ..; DOC
+
+    `overrun` is the error of a wrong size, and `width` the number of bits of the number that selects a case.
+    """
 
     type: str
     by: str
     sized: bool
     overrun: str
     arms: tuple[Arm, ...]
+    width: int = 32
+
+    @property
+    def other(self) -> Arm | None:
+        """The case of all other numbers, or None if there is none."""
+        return self.arms[-1] if self.arms[-1].number is None else None
+
+    @property
+    def total(self) -> bool:
+        """True if each number is that of a case."""
+        return not self.other and len(self.arms) == 1 << self.width
+
+    @property
+    def unknown(self) -> str:
+        """The case of the error for a number of no case, or an empty text."""
+        return "" if self.other or self.total else f"No{self.type}"
+
+    @property
+    def tested(self) -> tuple[Arm, ...]:
+        """The cases whose numbers are compared: all but the case that is left."""
+        return self.arms[:-1] if self.other or self.total else self.arms
 
     def arm(self, number: int) -> Arm | None:
         """Returns the case that a number selects, or None if the number is refused."""
@@ -351,7 +375,7 @@ Kind: TypeAlias = Described | Hidden
 # The kinds of which code is printed.
 Printed: TypeAlias = (
     Bool | Number | NonZero | MaybeNonZero | Enum | Array | Unary | Groups | Golomb | Part | Optional | If | List
-    | Const | Skip | Flag | Count
+    | Const | Skip | Flag | Count | Tag | Choose
 )  # fmt: skip
 
 
@@ -477,18 +501,21 @@ def held_item(kind: Kind) -> Item | None:
 
 
 def error(kind: Kind) -> str:
-    """Returns the case of the error for bits that a line refuses, or an empty text if it refuses none."""
+    """Returns the first case of the error for bits that a line refuses, or an empty text if it refuses none."""
+    return next((case for case, _ in refusals(kind)), "")
+
+
+def refusals(kind: Kind) -> list[tuple[str, str]]:
+    """Returns the cases of the error for bits that a line refuses, each with the error of a part that it holds."""
+    own = [(it.error, it.description.error) for it in uses(kind) if it.error]
     match kind:
-        case Const() | Fill():
-            return kind.error
-        case Sized():
-            return kind.error
+        case Const() | Sized() | Fill():
+            own = [(kind.error, ""), *own]
         case Choose():
-            unknown = "" if kind.arms[-1].number is None else f"No{kind.type}"
-            inside = [it.held.error for it in kind.arms if isinstance(it.held, Use) and it.held.error]
-            return next((it for it in (unknown, kind.overrun, *inside) if it), "")
-    item = held_item(kind)
-    return item.error if isinstance(item, EnumType | Use) else ""
+            own = [(kind.unknown, ""), (kind.overrun, ""), *own]
+        case _ if isinstance(item := held_item(kind), EnumType):
+            own = [(item.error, "")]
+    return list({case: held for case, held in own if case}.items())
 
 
 def grows(kind: Kind) -> bool:

@@ -26,7 +26,7 @@ def table(text: str) -> Table:
 SPECS = table(
     """
 Rattle.std.specs.Prelude: ≡ ≢ ^ < ≤ + - * ++ ∷ [] == ⊎ if ℕ ℤ Bool true false List Result Ok Err Option Some None
-    is_some length take drop map IfOk IsOk unsigned_abs not nat_lt nat_le
+    is_some length take drop map ⊤ IfOk IsOk unsigned_abs not nat_lt nat_le
 Rattle.std.specs.List: All flat_map
 Rattle.std.specs.Option: ForSome
 Rattle.std.specs.Result: IsErrAnd
@@ -90,7 +90,7 @@ Rattle.bitstream_io.proofs.GolombLemmas: ue-back ue-packs se-back se-packs
 Rattle.std.proofs.lemmas.List: map-id length-set
 Rattle.bitstream_io.proofs.SliceLemmas: new_answer
 Rattle.bitstream_io.proofs.ReadsLemmas: map_err
-Rattle.bitstream_io.proofs.CallsBack: signed_vbr-back any_signed_vbr-back mapped-read
+Rattle.bitstream_io.proofs.CallsBack: signed_vbr-back any_signed_vbr-back mapped-read then_made-read
 Rattle.bitstream_io.proofs.WriteParts: all_none
 """
 )

@@ -82,6 +82,10 @@ class Context:
         """Returns true if an earlier line counts the items of a list."""
         return any(isinstance(it, m.Count) and it.target == name for it in self.kinds)
 
+    def tagged(self, name: str) -> bool:
+        """Returns true if an earlier line is the tag of this name."""
+        return any(isinstance(it, m.Tag) and it.name == name for it in self.kinds)
+
     def measured(self, name: str) -> bool:
         """Returns true if an earlier line has the size of a field."""
         return any(isinstance(it, m.Size) and it.target == name for it in self.kinds)
@@ -401,10 +405,12 @@ def choose_line(words: Words, context: Context, at: Position) -> m.Kind:
         why = f"no `size {name} BITS` before it" if overrun else f"`sized ERROR`: `{name}` has a size"
         raise Refused(why, place)
     width = tag_width(context, by, place)
+    if any(isinstance(it, m.Choose) and it.by == by for it in context.kinds) and context.tagged(by):
+        raise Refused(f"two choices by one tag, `{by}`", place)
     said, _, doc = words.behind.partition(";")
     arms = tuple(arm(words, context, it.split(), width) for it in said.split(","))
     check_arms(arms, width, place)
-    return m.Choose(at, doc.strip(), name, type, by, sized, overrun, arms)
+    return m.Choose(at, doc.strip(), name, type, by, sized, overrun, arms, width)
 
 
 def tag_width(context: Context, by: str, place: Position) -> int:
@@ -443,6 +449,8 @@ def check_arms(arms: tuple[m.Arm, ...], width: int, at: Position) -> None:
         raise Refused("two cases have one name", at)
     if None in numbers[:-1]:
         raise Refused("the case behind `..` is the last one", at)
+    if numbers == [None]:
+        raise Refused("a choice has a case with a number", at)
     if None in numbers and len(arms) > 1 << width:
         raise Refused("no number is left for the other case", at)
 

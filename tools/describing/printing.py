@@ -46,6 +46,9 @@ def format_of(description: str, folder: str, name: str) -> Format:
     inside = os.path.relpath(description, folder)
     path = os.path.basename(description) if inside.startswith("..") else inside
     said = described(text_of(description), description, name)
+    for it in said.kinds:
+        if isinstance(it, m.Choose) and m.snake(it.type) == name:
+            raise Refused(f"`{it.type}` has the name of the module: take another one", it.at)
     return Format(os.path.basename(os.path.abspath(folder)), name, renamed(said), path)
 
 

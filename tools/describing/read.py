@@ -187,7 +187,7 @@ def item_reader(item: m.Item) -> Callable[[Input], tuple[Value, list[Node]]]:
 def part_reader(use: m.Use) -> ItemReader:
     """Returns the reader of a part. An error of the part becomes one of the outer format."""
     record = record_reader(use.description)
-    theirs = {m.error(it) for it in use.description.kinds} - {""}
+    theirs = {case for it in use.description.kinds for case, _ in m.refusals(it)}
 
     def read(row: Input) -> tuple[Value, list[Node]]:
         try:

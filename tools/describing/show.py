@@ -23,9 +23,7 @@ flags, counts, tags and sizes are not printed: `--pack` computes them.
 
 `./format --help` has the lines of a description. The following lines are known here only: no code is printed for them.
 
-    tag body 8                                         the number of the case of the choice `body`
-    choose body Body: 1 Ack of ack, 3 Stop, .. Other   that choice: a part, nothing, and the case for other numbers
-    choose body Body by kind: 1 Ack of ack, 2 Raw bytes  a choice by an earlier number or enum; a case may hold bytes
+    choose body Body by kind: 1 Ack of ack, 2 Raw bytes  a choice with a case that holds bytes
     size body 16 plus 20 by 4                          the size of `body` in bytes, plus (or less) 20, in units of 4 bytes
     sized body bytes                                   bytes of that size
     sized body Body of body WrongSize                  a part of exactly that size, or the error's case

@@ -16,13 +16,15 @@ LATER = {
     m.Golomb: "an Exp-Golomb number",
     m.List: "a list",
     m.Count: "a count",
+    m.Tag: "a tag",
+    m.Choose: "a choice",
 }
 
 
 def check(it: m.Description) -> None:
     """Refuses a description of which no program is printed."""
     for kind in it.kinds:
-        if isinstance(kind, m.Unary | m.Groups | m.Golomb | m.List | m.Count):
+        if type(kind) in LATER:
             raise Refused(f"`{m.label(kind)}` is {LATER[type(kind)]}: no program is printed for it yet", kind.at)
         for use in m.uses(kind):
             try:

@@ -22,9 +22,13 @@ from describing.specs.terms import (
     short,
     sign,
     stored,
+    tag_bits,
+    tag_number,
+    tag_of,
     value,
     width,
     word,
+    written_number,
 )
 
 
@@ -58,6 +62,13 @@ def back(f: Format, line: Line, behind: str) -> str:
         case m.Count():
             length = f"(length value.{kind.target})"
             return f"unsigned-back o {kind.width} _ _ 64 {length} _ refl fits.{line.name} ({behind})"
+        case m.Tag():
+            assert line.choice
+            number, small_tag = tag_number(line), choice_small(line.choice)
+            return f"unsigned-back o {kind.width} _ _ {tag_bits(kind.width)} ({number}) _ refl {small_tag} ({behind})"
+        case m.Choose():
+            read = f"{snake(kind.type)}_read o {chosen(f, kind)}"
+            return f"part-back ({read}) _ ({word(line)}) _ {answered(line, term)} _ {kind.name} ({behind})"
         case m.List():
             return list_back(f, line, kind, behind)
         case m.Part():
@@ -101,6 +112,16 @@ def enum_back(line: Line, kind: m.Enum, behind: str) -> str:
 def small(kind: m.Enum) -> str:
     """Returns the term that the number of a case fits its bits."""
     return f"fits.{kind.name}" if kind.enum.other else f"({snake(kind.enum.name)}_small value.{kind.name})"
+
+
+def choice_small(kind: m.Choose) -> str:
+    """Returns the term that the number of a case of a choice fits its bits."""
+    return f"({snake(kind.type)}_small value.{kind.name} fits.{kind.name})"
+
+
+def chosen(f: Format, kind: m.Choose) -> str:
+    """Returns the number that selects the case of a choice that was written."""
+    return written_number(f, kind) if tag_of(f, kind) is None else f"({snake(kind.type)}_number value.{kind.name})"
 
 
 def again(kind: m.Enum) -> str:
@@ -195,6 +216,16 @@ def optional_goes(f: Format, line: Line, use: m.Use) -> str:
     return f"{lemma} ({here(f, line)}) ({use.module}_writes o) {value(line)} {goes}"
 
 
+def choice_back(f: Format, line: Line, kind: m.Choose) -> str:
+    """Returns the term that the case of a choice is read back, behind a tag or by an earlier field."""
+    s, term = snake(kind.type), value(line)
+    back = f"{s}_back o {term} fits.{kind.name}"
+    if tag_of(f, kind):
+        return back
+    read = f"IsReadAs ({word(line)}) ({s}_read o number) {answered(line, term)}"
+    return f"subst (λ (number : ℕ). {read}) fits.{kind.name}_tag ({back})"
+
+
 def lets(f: Format, line: Line) -> list[str]:
     """Returns the bindings before the term of the law."""
     kind = line.kind
@@ -206,4 +237,6 @@ def lets(f: Format, line: Line) -> list[str]:
             goes = optional_goes(f, line, kind.use)
             moved = f"subst (λ (there : Bool). {read}) fits.{kind.name}_there ({goes})"
             return [f"let {kind.name} = {moved} in"]
+        case m.Choose():
+            return [f"let {kind.name} = {choice_back(f, line, kind)} in"]
     return []

@@ -8,7 +8,7 @@ from describing import model as m
 from describing.layout import Format, Line
 from describing.model import snake
 from describing.proofs.chains import Answers, Call
-from describing.specs.terms import asked_enum, short
+from describing.specs.terms import asked_enum, by_enum, short
 
 # Contracts of reads, from the weakest: a plain read, one with errors of its own, one that allocates.
 PLAIN, OWN, GROWING = "Reads", "ReadsOwn", "GrowsOwn"
@@ -72,6 +72,8 @@ def read_call(f: Format, line: Line) -> tuple[str, str, str]:
             return own_read(f, part_contract(use), becomes(use.description.error, use.module)), "", ""
         case m.Optional() | m.If():
             return own_read(f, OWN if line.error else PLAIN, f.becomes_name), "", ""
+        case m.Choose():
+            return own_read(f, contract(line.error, m.grows(kind)), f.becomes_name), "", ""
         case m.List():
             if isinstance(kind.item, m.Octet):
                 return "growing", "reads", ""
@@ -91,6 +93,7 @@ def read_answers(f: Format, k: int) -> str:
     for it in pieces[k]:
         form, fact, wide = read_call(f, it)
         asks = isinstance(it.kind, m.If) and asked_enum(f, it.kind) is not None
+        asks = asks or isinstance(it.kind, m.Choose) and by_enum(f, it.kind) is not None
         known = (f"c.{steps.next('number')}.ensures",) if asks else ()
         calls.append(Call(form, fact, labels.next(read_label(it)), "", wide=wide, known=known))
     answers = Answers(contract(f.error, f.grows), "", "", True)
@@ -160,7 +163,7 @@ class Writes:
                 return "call", "pad", "writes", ""
             case m.Unary():
                 return "call", "write_unary", "writes", ""
-            case m.Part():
+            case m.Part() | m.Choose():
                 return "list", "write", "", ""
             case m.Optional() | m.If():
                 return "list", f"write_{snake(kind.use.name)}_if", "", ""
@@ -175,7 +178,7 @@ class Writes:
         match kind:
             case m.Flag():
                 return (f"c.{self.steps.next('is_some')}.ensures",)
-            case m.Enum():
+            case m.Enum() | m.Tag():
                 return (f"c.{self.steps.next('number')}.ensures",)
             case m.Count():
                 length = f"{self.fields}.{kind.target}.ok.0"

@@ -144,6 +144,7 @@ LEMMAS = {
     "borrow.Author.Rules": "sfits_of",
     "Rattle.std.proofs.Common": "◌∙◌ refl false Ok Err w8 w16 w32 w64",
     "Rattle.std.specs.Int": "w128",
+    "Rattle.std.proofs.lemmas.Bool": "eq-eqb ne_eqb",
     CALLER + "CallerLemmas": "next_signed_part next_own_signed_part if_read else_read own_made"
     " const_alone next_const exit_const next_own_read next_own_const exit_own_read"
     " exit_own_const next_grown_signed next_grown_const exit_grown_const if_growing else_growing",

@@ -1,7 +1,9 @@
 """The lemmas of a format: its round trip, its size, and that accepted values fit."""
 from __future__ import annotations
 
+from describing import model as m
 from describing.layout import Format, Line
+from describing.proofs import choices
 from describing.proofs.back import back, lets
 from describing.proofs.enums import lemmas as enum_lemmas
 from describing.proofs.written import accepted, written
@@ -11,12 +13,14 @@ from describing.specs.terms import fits, word
 
 def lemmas(f: Format) -> list[str]:
     """Returns all lemmas of a format."""
-    out = [line for it in f.lines if it.enum for line in line_lemmas(it)]
+    out = [line for it in f.lines for line in line_lemmas(f, it)]
     return [*out, *goes(f), *packs(f), *(accepts(f) if f.fitting else []), *told(f)]
 
 
-def line_lemmas(line: Line) -> list[str]:
+def line_lemmas(f: Format, line: Line) -> list[str]:
     """Returns the lemmas of a line."""
+    if isinstance(line.kind, m.Choose):
+        return choices.lemmas(f, line, line.kind)
     return enum_lemmas(line, line.enum) if line.enum else []
 
 

@@ -5,7 +5,7 @@ from describing import model as m
 from describing.imports import own_lemmas, own_specs, parts_lemmas, types
 from describing.layout import Format, Line
 from describing.names import PROOFS, Table, modules_of, uses
-from describing.proofs import enums, lists, parts
+from describing.proofs import choices, enums, lists, parts
 from describing.proofs.laws import lemmas
 from describing.proofs.parse import parse_lines
 from describing.proofs.rows import rows
@@ -33,6 +33,8 @@ def answer_files(f: Format) -> dict[str, str]:
     answers = law(f) | {f"{f.type}/parse": parse_lines(f)} | pack(f) | traits(f)
     for it in f.lines:
         answers |= line_answers(f, it)
+        if isinstance(it.kind, m.Choose):
+            found[answers_path(f, f"{it.kind.type}/read")] = choices.read_answers(f, it, it.kind)
     return found | {answers_path(f, path): text(f, [], lines, own_lemmas(f)) for path, lines in answers.items()}
 
 
@@ -65,8 +67,10 @@ def line_answers(f: Format, line: Line) -> Answers:
     found: Answers = {}
     if line.enum:
         found |= enums.answers(f, line, line.enum)
-    if line.use:
-        found |= parts.answers(f, line, line.use)
+    for it in line.parts:
+        found |= parts.answers(f, it, it.use) if it.use else {}
+    if isinstance(kind, m.Choose):
+        found |= choices.answers(f, line, kind)
     if isinstance(kind, m.List) and not isinstance(kind.item, m.Octet):
         found |= lists.answers(f, line, kind)
     return found

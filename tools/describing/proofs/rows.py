@@ -28,6 +28,8 @@ def term(line: Line, value: Value, within: str = "") -> str:
             return case_term(line, value, within)
         case m.Part():
             return record_term(line, value)
+        case m.Choose():
+            return choice_term(line, kind, value, within)
         case m.Optional() | m.If():
             return "None" if value is None else f"Some ({record_term(line, value)})"
         case m.Number() | m.Groups():
@@ -63,6 +65,16 @@ def record_term(line: Line, value: Value) -> str:
     assert line.use and isinstance(value, dict)
     inner = (f"{it.name} = {term(it, value[it.name], line.use.name)}" for it in line.inner if it.is_field)
     return f"record {{ {'; '.join(inner)} }}"
+
+
+def choice_term(line: Line, kind: m.Choose, value: Value, within: str) -> str:
+    """Returns the case of a choice."""
+    if isinstance(value, str):
+        return f"{within}{kind.type}{value}"
+    assert isinstance(value, dict)
+    case, held = next(iter(value.items()))
+    part = next(part for arm, part in line.arms if arm.case == case)
+    return f"{within}{kind.type}{case} " + (f"({record_term(part, held)})" if part else str(number(held)))
 
 
 def list_term(line: Line, item: m.Item, value: Value, within: str) -> str:
@@ -142,5 +154,8 @@ def part_names(f: Format, line: Line) -> Table:
         if line.use and it.enum:
             path = f"Rattle.{f.crate}.specs.declared.{line.use.module}.{it.enum.name}.TheVariants"
             found[path] = " ".join(f"{case}={line.use.name}{called(it, case)}" for case in it.enum.names())
+        if line.use and isinstance(it.kind, m.Choose):
+            path = f"Rattle.{f.crate}.specs.declared.{line.use.module}.{it.kind.type}.TheVariants"
+            found[path] = " ".join(f"{arm.case}={line.use.name}{it.kind.type}{arm.case}" for arm in it.kind.arms)
         found = merged(found, part_names(f, it))
-    return found
+    return merged(found, *[part_names(f, it) for _, it in line.arms if it])

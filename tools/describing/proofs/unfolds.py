@@ -26,7 +26,7 @@ def unfolds(line: Line) -> list[str]:
             return ["const_decoder"]
         case m.Skip():
             return ["skip_decoder"]
-        case m.Enum() | m.Count():
+        case m.Enum() | m.Count() | m.Tag():
             return [*NUMBER]
         case m.Unary():
             return ["unary_decoder"]
@@ -38,6 +38,8 @@ def unfolds(line: Line) -> list[str]:
             return of_items(line, kind)
         case m.Part() | m.Optional() | m.If():
             return [*of_lines(line.inner)]
+        case m.Choose():
+            return [it for part in line.parts for it in of_lines(part.inner)]
     assert_never(kind)
 
 

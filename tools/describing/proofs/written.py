@@ -5,7 +5,8 @@ from typing import assert_never
 
 from describing import model as m
 from describing.layout import Line
-from describing.proofs.back import each_is, enum_items_shape, items_known, items_shape, small
+from describing.model import snake
+from describing.proofs.back import choice_small, each_is, enum_items_shape, items_known, items_shape, small
 from describing.specs.terms import (
     bit,
     enum_number,
@@ -16,6 +17,8 @@ from describing.specs.terms import (
     shape,
     short,
     sign,
+    tag_bits,
+    tag_number,
     value,
 )
 
@@ -51,6 +54,12 @@ def written(line: Line) -> str:
             return f"{short(kind)}-packs o {term} fits.{kind.name}"
         case m.Count():
             return f"unsigned-written o 64 {kind.width} (length value.{kind.target}) refl fits.{line.name}"
+        case m.Tag():
+            assert line.choice
+            number, width = tag_number(line), tag_bits(kind.width)
+            return f"unsigned-written o {width} {kind.width} ({number}) refl {choice_small(line.choice)}"
+        case m.Choose():
+            return f"{snake(kind.type)}_packs o {term} fits.{kind.name}"
         case m.List():
             return list_written(line, kind)
         case m.Part():

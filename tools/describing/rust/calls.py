@@ -7,7 +7,7 @@ from typing import assert_never
 from describing import model as m
 from describing.layout import Format, Line, enum_bits
 from describing.model import snake
-from describing.specs.terms import asked_enum, short, width
+from describing.specs.terms import asked_enum, by_enum, short, tag_bits, tag_of, width
 from describing.text import article
 
 
@@ -63,9 +63,9 @@ def imports(line: Line) -> list[str]:
         found.append("std::num::NonZero")
     if isinstance(kind, m.Golomb):
         found.append(f"bitstream_io::golomb::{{read_{short(kind)}, write_{short(kind)}}}")
-    if line.use:
-        error = line.use.description.error
-        found.append(f"crate::{line.use.module}::{f'{{{line.use.name}, {error}}}' if error else line.use.name}")
+    for use in m.uses(kind):
+        error = use.description.error
+        found.append(f"crate::{use.module}::{f'{{{use.name}, {error}}}' if error else use.name}")
     if isinstance(kind, m.List) and line.error:
         found.append("std::alloc::AllocFailed")
     return found
@@ -93,6 +93,18 @@ def refusal(line: Line) -> str:
         what = f"`{line.name}`" if isinstance(line.kind, m.Enum) else f"An item of `{line.name}`"
         return f"{what} is not the number of a case of `{line.enum.name}`."
     return line.kind.doc
+
+
+def error_cases(line: Line) -> dict[str, list[str]]:
+    """Returns the cases of the error for a line, each with its text."""
+    kind = line.kind
+    if not isinstance(kind, m.Choose):
+        return {line.error: error_case(line)} if line.error else {}
+    why = f"The number before `{kind.name}` is that of no case of `{kind.type}`."
+    if kind.by != kind.name:
+        why = f"`{kind.by}` is the number of no case of `{kind.type}`."
+    own = {kind.unknown: [f"    /// {why}", f'    #[error("{shown(why)}")]', f"    {kind.unknown},"]}
+    return (own if kind.unknown else {}) | {it.error: error_case(it) for it in line.parts if it.error}
 
 
 def error_case(line: Line) -> list[str]:
@@ -137,6 +149,10 @@ def read(f: Format, kind: m.Printed) -> str:
             return f"read_{short(kind)}(reader)"
         case m.Count():
             return f"reader.read::<Bits<{kind.width}>, u64>()"
+        case m.Tag():
+            return f"reader.read::<Bits<{kind.width}>, {value_type(kind)}>()"
+        case m.Choose():
+            return f"{kind.type}::read(reader{', alloc' * m.grows(kind)}, {selecting(f, kind)})"
         case m.Part():
             return f"{kind.use.name}::read(reader{', alloc' * m.has_list(kind.use)})"
         case m.Optional() | m.If():
@@ -148,6 +164,18 @@ def read(f: Format, kind: m.Printed) -> str:
         case m.Const() | m.Skip():
             raise AssertionError(kind)
     assert_never(kind)
+
+
+def selecting(f: Format, kind: m.Choose) -> str:
+    """Returns the number that selects a case."""
+    tag = tag_of(f, kind)
+    return m.label(tag) if tag else f"{kind.by}{'.number()' if by_enum(f, kind) else ''}"
+
+
+def number_type(f: Format, kind: m.Choose) -> str:
+    """Returns the type of the number that selects a case."""
+    selects = next(it.kind for it in f.lines if it.name in (kind.by, f"{kind.by}_tag"))
+    return f"u{enum_bits(selects.enum)}" if isinstance(selects, m.Enum) else value_type(selects)
 
 
 def read_array(kind: m.Array) -> str:
@@ -179,8 +207,9 @@ def read_item(item: m.Item) -> str:
 # ---- writes
 
 
-def write(kind: m.Printed) -> str:
+def write(line: Line) -> str:
     """Returns the call that writes a line."""
+    kind, target = line.kind, line.choice.name if line.choice else ""
     match kind:
         case m.Bool():
             return f"writer.write_bit(self.{kind.name})"
@@ -208,7 +237,9 @@ def write(kind: m.Printed) -> str:
             return f"writer.write_bit(self.{kind.target}.is_some())"
         case m.Count():
             return f"writer.write::<Bits<{kind.width}>, u64>(self.{kind.target}.len() as u64)"
-        case m.Part():
+        case m.Tag():
+            return f"writer.write::<Bits<{kind.width}>, {value_type(kind)}>(self.{target}.number())"
+        case m.Choose() | m.Part():
             return f"self.{kind.name}.write(writer)"
         case m.Optional() | m.If():
             return f"write_{snake(kind.use.name)}_if(writer, self.{kind.name})"
@@ -232,6 +263,8 @@ def value_type(kind: m.Printed) -> str:
             return "bool"
         case m.Count():
             return "u64"
+        case m.Tag():
+            return f"u{tag_bits(kind.width)}"
         case m.Const() | m.Skip():
             raise AssertionError(kind)
     return m.rust_type(kind)

@@ -35,7 +35,7 @@ def first_of(piece: tuple[Line, ...]) -> str:
 
 def refusals(f: Format) -> str:
     """Returns the cases of the error, for a comment."""
-    return "".join(f"`{it}`, " for it in dict.fromkeys(it.error for it in f.tests))
+    return "".join(f"`{it}`, " for it in dict.fromkeys(case for it in f.tests for case, _ in m.refusals(it.kind)))
 
 
 def memory(f: Format) -> str:

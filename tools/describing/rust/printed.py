@@ -9,7 +9,8 @@ from describing import picture
 from describing.imports import own_specs, types
 from describing.layout import Format, Line
 from describing.names import SPECS, uses
-from describing.rust.calls import error_case, field_comment, imports, value_type
+from describing.rust.calls import error_cases, field_comment, imports, number_type, value_type
+from describing.rust.choices import choice_code
 from describing.rust.clauses import clauses
 from describing.rust.enums import enum_code
 from describing.rust.lists import list_code, write_code as write_items
@@ -34,8 +35,10 @@ def declares(f: Format, line: Line) -> list[str]:
     kind, out = line.kind, list[str]()
     if line.enum and not line.repeats:
         out += enum_code(f, line, line.enum)
-    if line.use:
-        out += part_error(f, line, line.use)
+    for it in line.parts:
+        out += part_error(f, it, it.use) if it.use else []
+    if isinstance(kind, m.Choose):
+        out += choice_code(f, line, kind, number_type(f, kind))
     if line.use and isinstance(kind, m.Optional | m.If):
         out += optional_code(f, line, line.use)
     if isinstance(kind, m.Array) and line.enum:
@@ -118,8 +121,11 @@ def error_code(f: Format) -> list[str]:
     if not f.error:
         return []
     e = f.error
-    firsts = {it.error: it for it in reversed(f.tests)}
-    cases = [line for it in dict.fromkeys(it.error for it in f.tests) for line in error_case(firsts[it])]
+    found: dict[str, list[str]] = {}
+    for it in f.tests:
+        found = error_cases(it) | found
+    order = dict.fromkeys(case for it in f.tests for case, _ in m.refusals(it.kind))
+    cases = [line for it in order for line in found[it]]
     return [
         f"/// The errors of reading {article(f.type)}.",
         "#[derive(Debug, Drop, thiserror::Error)]",

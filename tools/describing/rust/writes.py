@@ -27,7 +27,7 @@ def write_body(f: Format, k: int) -> list[str]:
     """Returns the body that writes the lines of a piece, and calls the function of the next one."""
     pieces = f.pieces()
     end = f"self.write_{k + 2}(writer)" if k + 1 < len(pieces) else "Ok(())"
-    return ["    {", *[f"        {write(it.kind)}?;" for it in pieces[k]], f"        {end}", "    }", ""]
+    return ["    {", *[f"        {write(it)}?;" for it in pieces[k]], f"        {end}", "    }", ""]
 
 
 def later_writes(f: Format) -> list[str]:

@@ -1,10 +1,11 @@
-"""The definitions that one line adds to the specs of a format: a constant, an enum, or a part whose errors are mapped."""
+"""The definitions that one line adds to the specs of a format: a constant, an enum, a choice, or a part with errors."""
 from __future__ import annotations
 
 from describing import model as m
 from describing.imports import part_cases
 from describing.layout import Format, Line, enum_bits
 from describing.model import snake
+from describing.specs import choices
 from describing.specs.terms import called
 
 
@@ -14,9 +15,9 @@ def definitions(f: Format, line: Line) -> list[str]:
         return const_at(f, line, line.kind) if f.sized else []
     if line.enum:
         return [] if line.repeats else [*case_specs(f, line, line.enum), *read_specs(f, line, line.enum)]
-    if line.use and f.mapped(line.kind) and f.is_first(line):
-        return mapped_specs(f, line, line.use)
-    return []
+    parts = [it for it in line.parts if it.use and f.mapped(it.kind) and f.is_first(it)]
+    found = [said for it in parts if it.use for said in mapped_specs(f, it, it.use)]
+    return found + choices.definitions(f, line, line.kind) if isinstance(line.kind, m.Choose) else found
 
 
 def const_at(f: Format, line: Line, kind: m.Const) -> list[str]:

@@ -37,7 +37,9 @@ def spec_type(kind: m.Printed) -> str:
             return kind.use.name
         case m.Optional() | m.If():
             return f"Option {kind.use.name}"
-        case m.Unary() | m.Count() | m.Const() | m.Skip():
+        case m.Choose():
+            return kind.type
+        case m.Unary() | m.Count() | m.Tag() | m.Const() | m.Skip():
             return "ℕ"
     assert_never(kind)
 
@@ -135,6 +137,52 @@ def called(line: Line, case: str) -> str:
     return (line.enum.name if line.enum and case in line.shared else "") + case
 
 
+# ---- choices
+
+
+def tag_bits(width: int) -> int:
+    """Returns the bits of the number type that holds the number of a case."""
+    return next(it for it in (8, 16, 32, 64, 128) if it >= width)
+
+
+def tag_shape(kind: m.Tag) -> str:
+    """Returns the order, the bits of the type and the bits of a tag."""
+    return f"o {tag_bits(kind.width)} {kind.width}"
+
+
+def tag_number(line: Line) -> str:
+    """Returns the number of the case that a tag selects."""
+    assert line.choice
+    return f"{snake(line.choice.type)}_number value.{line.choice.name}"
+
+
+def tag_of(f: Format, kind: m.Choose) -> m.Tag | None:
+    """Returns the tag that selects the case of a choice, or None if a field selects it."""
+    return next((it.kind for it in f.lines if isinstance(it.kind, m.Tag) and it.kind.name == kind.by), None)
+
+
+def by_enum(f: Format, kind: m.Choose) -> m.EnumType | None:
+    """Returns the enum whose number selects the case of a choice, or None if a plain number does."""
+    return next((it.kind.enum for it in f.lines if isinstance(it.kind, m.Enum) and it.name == kind.by), None)
+
+
+def by_number(f: Format, kind: m.Choose, term: str) -> str:
+    """Returns the number of a field that selects a case, of a term for the field."""
+    enum = by_enum(f, kind)
+    return f"({enum_number(enum, term)})" if enum else term
+
+
+def selected(f: Format, kind: m.Choose) -> str:
+    """Returns the number that selects a case, of the values that were read."""
+    tag = tag_of(f, kind)
+    return m.label(tag) if tag else by_number(f, kind, kind.by)
+
+
+def written_number(f: Format, kind: m.Choose) -> str:
+    """Returns the number that selects a case, of the fields of the record."""
+    return by_number(f, kind, f"value.{kind.by}")
+
+
 # ---- reads
 
 
@@ -163,6 +211,10 @@ def entry(f: Format, line: Line) -> str:
             return f"{short(kind)}_decoder o"
         case m.Count():
             return f"unsigned_decoder o 64 {kind.width}"
+        case m.Tag():
+            return f"unsigned_decoder {tag_shape(kind)}"
+        case m.Choose():
+            return f"{snake(kind.type)}_read o {selected(f, kind)}"
         case m.Part():
             return here(f, line)
         case m.Optional() | m.If():
@@ -308,6 +360,10 @@ def word(line: Line) -> str:
             return f"bit (is_some value.{kind.target})"
         case m.Count():
             return f"unsigned o 64 {kind.width} (length value.{kind.target})"
+        case m.Tag():
+            return f"unsigned {tag_shape(kind)} ({tag_number(line)})"
+        case m.Choose():
+            return f"{snake(kind.type)}_writes o {term}"
         case m.Array() | m.List():
             if isinstance(kind.item, m.Octet):
                 return f"buffer o {term}"
@@ -347,6 +403,8 @@ def size(line: Line) -> str:
             return f"{short(kind)}_size {term}"
         case m.Part():
             return f"{kind.use.module}_size o {term}"
+        case m.Choose():
+            return f"{snake(kind.type)}_size o {term}"
         case m.Optional() | m.If():
             return f"optional_size ({kind.use.module}_size o) {term}"
         case m.List():
@@ -374,8 +432,10 @@ def fits(f: Format, line: Line) -> list[tuple[str, str]]:
     """Returns the fields of `Fits` for a line."""
     kind, term = line.kind, value(line)
     match kind:
-        case m.Bool() | m.Const() | m.Skip() | m.Flag():
+        case m.Bool() | m.Const() | m.Skip() | m.Flag() | m.Tag():
             return []
+        case m.Choose():
+            return choice_fits(f, kind)
         case m.Number():
             return [(kind.name, number_fits(kind.integer, term))]
         case m.NonZero():
@@ -404,6 +464,13 @@ def fits(f: Format, line: Line) -> list[tuple[str, str]]:
             there = (f"{kind.name}_there", f"is_some {term} ≡ {known(f, kind)}")
             return [(kind.name, f"ForSome {term} {kind.use.name}Fits"), there]
     assert_never(kind)
+
+
+def choice_fits(f: Format, kind: m.Choose) -> list[tuple[str, str]]:
+    """Returns the facts that a case of a choice fits, and that the field that selects it has its number."""
+    s, term = snake(kind.type), f"value.{kind.name}"
+    found = [(kind.name, f"{s}_fits {term}")]
+    return found + [(f"{kind.name}_tag", f"{s}_number {term} ≡ {written_number(f, kind)}")] * (tag_of(f, kind) is None)
 
 
 def number_fits(integer: m.Integer, term: str) -> str:

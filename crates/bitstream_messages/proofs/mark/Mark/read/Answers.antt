@@ -1,0 +1,15 @@
+-- Made by `./format` from formats/mark.fields: edit that file and make this one anew.
+use Rattle.std.proofs.Common.{refl}
+use Rattle.bitstream_io.proofs.CallerLemmas.{next_own_read as next, next_own_const as next_const, exit_own_read as exit, exit_own_const as exit_const}
+use Rattle.bitstream_io.proofs.OwnSteps.{own_end}
+use Rattle.bitstream_messages.proofs.mark.Mark.read.Goals as goal
+
+pub returns-in_err-read_const : goal.returns-in_err-read_const
+returns-in_err-read_const g c = exit_const _ _ c.from_residual.ensures.1 c.in_err-read_const.ensures.reads refl
+
+pub returns-in_err-color : goal.returns-in_err-color
+returns-in_err-color g c = next_const _ _ c.in_ok-read_const.ensures.reads (exit _
+    c.from_residual-in_err-color.ensures.1 c.in_err-color.ensures.reads)
+
+pub returns : goal.returns
+returns g c = next_const _ _ c.in_ok-read_const.ensures.reads (next _ c.in_ok-color.ensures.reads (own_end _ _))

@@ -1,0 +1,6 @@
+-- Made by `./format` from formats/message.fields: edit that file and make this one anew.
+use Rattle.bitstream_io.proofs.WriteParts.{all_none}
+use Rattle.bitstream_messages.proofs.message.Body.write.Goals as goal
+
+pub returns-in-Stop : goal.returns-in-Stop
+returns-in-Stop g c = rw c.in-Stop.is (all_none _ _)

@@ -1,0 +1,15 @@
+//! Formats whose parts depend on tags, as `./format` prints them from the descriptions in `formats/`.
+//!
+//! - [`message`]: a body of one of several types, chosen by a tag: a Rust enum, and no field that could
+//!   contradict it
+//! - [`signal`]: choices with a case for all other numbers, or whose cases have all numbers
+//! - [`event`]: a choice by a field before it
+//! - [`ack`], [`mark`], [`notes`]: the parts that they hold
+#![tactic(auto)]
+
+pub mod ack;
+pub mod event;
+pub mod mark;
+pub mod message;
+pub mod notes;
+pub mod signal;

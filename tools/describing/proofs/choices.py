@@ -1,0 +1,115 @@
+"""The lemmas of a choice, and the answers of its functions."""
+from __future__ import annotations
+
+from describing import model as m
+from describing.layout import Format, Line
+from describing.model import snake
+from describing.proofs.back import is_read
+from describing.proofs.calls import GROWING, Labels, becomes, contract, own_read, part_contract
+from describing.proofs.chains import END, NEXT, STOP, TESTS, Answers, Call
+from describing.specs.choices import called, module, pattern
+from describing.specs.terms import here
+
+Printed = dict[str, list[str]]
+
+
+def lemmas(f: Format, line: Line, kind: m.Choose) -> list[str]:
+    """Returns the lemmas of each case: its number fits, it is read back behind its number, and its writes are accepted."""
+    s, ok = snake(kind.type), "(Ok it)" if line.stops else "it"
+    out = ["-- the number of each case fits its bits"]
+    out += [f"{s}_small : (it : {kind.type}) → {s}_fits it → {s}_number it < 2 ^ {kind.width}"]
+    small = {True: "fits" if not kind.tested else "fits.0", False: "omega arith"}
+    out += [f"{s}_small {pattern(kind, arm)} fits = {small[arm.number is None]}" for arm in kind.arms]
+    read = f"IsReadAs ({s}_writes o it) ({s}_read o ({s}_number it)) {ok}"
+    out += ["", "-- each case is read back behind its number"]
+    out += [f"{s}_back : (o : Order) (it : {kind.type}) → {s}_fits it → {read}"]
+    out += [f"{s}_back o {pattern(kind, arm)} fits = {case_back(f, line, kind, arm, part)}" for arm, part in line.arms]
+    out += ["", "-- the writes of each case are accepted, and its size is their number of bits"]
+    packs = f"Packs ({s}_writes o it) ({s}_size o it)"
+    out += [f"{s}_packs : (o : Order) (it : {kind.type}) → {s}_fits it → {packs}"]
+    for arm, part in line.arms:
+        out.append(
+            f"{s}_packs o {pattern(kind, arm)} fits = {f'{module(part)}_packs o it fits' if part else 'packs-none'}"
+        )
+    return [*out, ""]
+
+
+def case_back(f: Format, line: Line, kind: m.Choose, arm: m.Arm, part: Line | None) -> str:
+    """Returns the term that a case is read back."""
+    if part and part.use:
+        read = is_read(f, part, part.use, "it", "fits")
+        case, writes = called(kind, arm), f"({module(part)}_writes o it)"
+        if part.stops:
+            return f"then_made-read ({here(f, part)}) (λ v. {case} v) {writes} it {read}"
+        answer = f"Ok ({case} v)" if line.stops else f"{case} v"
+        return f"mapped-read (λ v. {answer}) {writes} ({here(f, part)}) it {read}"
+    if arm.number is not None:
+        return "λ len p more. refl"
+    misses = ", ".join(f"ne_eqb n {it.number} fits.{k + 1}" for k, it in enumerate(kind.tested))
+    return f"λ len p more. rw ({misses}) refl"
+
+
+# ---- answers
+
+
+def number_answers(f: Format, kind: m.Choose) -> list[str]:
+    """Returns the answers of the function from a case to its number."""
+    out = [f"use {f.goals}.{kind.type}.number.Goals as goal"]
+    for arm in kind.arms:
+        goal = f"returns-in-{arm.case}"
+        out += ["", f"pub {goal} : goal.{goal}", f"{goal} c = rw c.in-{arm.case}.is refl"]
+    return out
+
+
+def write_answers(f: Format, line: Line, kind: m.Choose) -> list[str]:
+    """Returns the answers of the function that writes a case: those of the cases that hold no part."""
+    out = [f"use {f.goals}.{kind.type}.write.Goals as goal"]
+    for arm, part in line.arms:
+        goal = f"returns-in-{arm.case}"
+        if not part:
+            out += ["", f"pub {goal} : goal.{goal}", f"{goal} g c = rw c.in-{arm.case}.is (all_none _ _)"]
+    return out
+
+
+def answers(f: Format, line: Line, kind: m.Choose) -> Printed:
+    """Returns the answers of the functions of a choice, except its read."""
+    found = {f"{kind.type}/number": number_answers(f, kind)}
+    write = write_answers(f, line, kind)
+    return found | ({f"{kind.type}/write": write} if len(write) > 1 else {})
+
+
+def read_contract(f: Format, line: Line) -> str:
+    """Returns the contract of the read of a choice."""
+    return GROWING if m.grows(line.kind) else contract(line.error, False)
+
+
+def read_answers(f: Format, line: Line, kind: m.Choose) -> str:
+    """Returns the answers of the read: of each case after the tests of the cases before it."""
+    answers, labels = Answers(read_contract(f, line), "", "", True), Labels()
+    found, front = list[str](), list[str]()
+    for arm, part in line.arms[: len(kind.tested)]:
+        label = f"number-eq{arm.number}"
+        holds, fails = (answers.term(it) for it in TESTS[answers.kind])
+        is_it = f"{holds} (eq-eqb _ {arm.number} c.if-{label}.true)"
+        found += case_answers(f, answers, labels, [*front, is_it], f"returns-then-{label}", part)
+        front.append(f"{fails} (ne_eqb _ {arm.number} c.if-{label}.false)")
+        answers.used |= {"eq-eqb", "ne_eqb"}
+    last = None if kind.unknown else line.arms[-1][1]
+    found += case_answers(f, answers, labels, front, "returns", last)
+    goals = f"{f.goals}.{kind.type}.read.Goals"
+    return "\n\n".join([f"-- {f.made}\n{answers.uses(goals)}", *found])
+
+
+def case_answers(
+    f: Format, answers: Answers, labels: Labels, front: list[str], goal: str, part: Line | None
+) -> list[str]:
+    """Returns the answers of one case: its part may be refused, and else the read ends."""
+    end = answers.term(END[answers.kind])
+    if not part or not part.use:
+        return [answers.answer(goal, [*front, end])]
+    use, arm = part.use, labels.next("read")
+    call = Call(own_read(f, part_contract(use), becomes(use.description.error, use.module)), "", arm, arm)
+    residual = f"c.from_residual{f'-in_err-{arm}' * (arm != 'read')}.ensures.1"
+    stop = answers.of_call(call, STOP, f"in_err-{arm}", residual)
+    go = answers.of_call(call, NEXT, f"in_ok-{arm}")
+    return [answers.answer(f"returns-in_err-{arm}", [*front, stop]), answers.answer(goal, [*front, go, end])]

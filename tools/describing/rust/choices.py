@@ -1,0 +1,110 @@
+"""The code of a choice: its type, the number of a case, and the functions that read and write what stands behind it."""
+from __future__ import annotations
+
+from describing import model as m
+from describing.layout import Format, Line
+from describing.model import snake
+from describing.text import article
+
+
+def choice_code(f: Format, line: Line, kind: m.Choose, number: str) -> list[str]:
+    """Returns the type of a choice with its functions; `number` is the type of the number that selects a case."""
+    derives = "Debug, Drop" if m.grows(kind) else "Clone, Copy, Debug, PartialEq"
+    out = [f"/// {kind.doc or f'A {kind.type}.'}", f"#[derive({derives})]", f"pub enum {kind.type} {{"]
+    for arm, part in line.arms:
+        held = part.use.name if part and part.use else number if arm.number is None else ""
+        said = f"{arm.number}." if arm.number is not None else "Another number, which nothing follows."
+        out += [f"    /// {said}", f"    {arm.case}{f'({held})' if held else ''},"]
+    body = [*number_code(kind, number), *read_code(f, line, kind, number), *write_code(line, kind)]
+    return [*out, "}", "", f"impl {kind.type} {{", *body, "}", ""]
+
+
+def pattern(kind: m.Choose, arm: m.Arm, name: str = "_") -> str:
+    """Returns the pattern of a case, with a name for what it holds."""
+    return f"{kind.type}::{arm.case}" + (f"({name})" if arm.held or arm.number is None else "")
+
+
+def number_code(kind: m.Choose, number: str) -> list[str]:
+    """Returns the function from a case to its number."""
+    numbers = (
+        f"{pattern(kind, it)} => {it.number}," if it.number is not None else f"{pattern(kind, it, 'it')} => *it,"
+        for it in kind.arms
+    )
+    return [
+        "    /// Returns the number of the case.",
+        f"    pub fn number(&self) -> {number}",
+        f"        ensures {{ result ≡ {snake(kind.type)}_number self.now }}",
+        "    {",
+        "        match self {",
+        *(f"            {it}" for it in numbers),
+        "        }",
+        "    }",
+        "",
+    ]
+
+
+def kind_of_read(f: Format, line: Line) -> tuple[str, str]:
+    """Returns how the contract of a read begins, and the type of its error."""
+    if m.grows(line.kind):
+        return f"GrowsOwn R.source {f.becomes_name}", f.e
+    return (f"ReadsOwn R.source {f.becomes_name}", f.e) if line.error else ("Reads R.source", "Error")
+
+
+def errors(f: Format, line: Line, kind: m.Choose) -> list[str]:
+    """Returns the comment about the errors of a read."""
+    out = [f"    /// `{kind.unknown}` if no case has the number: nothing is read then."] * bool(kind.unknown)
+    parts = {part.error: part.use.name for part in line.parts if part.error and part.use}
+    out += [f"    /// `{error}` if {article(name)} is refused." for error, name in parts.items()]
+    last = f"    /// {'Else the' if out else 'The'} errors of the reader: after each of them it has failed."
+    return ["    ///", "    /// # Errors", "    ///", *out, last]
+
+
+def read_code(f: Format, line: Line, kind: m.Choose, number: str) -> list[str]:
+    """Returns the function that reads the case of a number."""
+    reads, error = kind_of_read(f, line)
+    alloc = ", alloc: Global" * m.grows(kind)
+    out = ["    /// Reads what follows the number of a case.", *errors(f, line, kind)]
+    result = f"Result<{kind.type}, {error}>"
+    out += [f"    pub fn read<R: BitRead>(reader: &mut R{alloc}, number: {number}) -> {result}"]
+    out += [
+        f"        ensures {{ {reads} ({snake(kind.type)}_read R.source.order number) reader.old result reader.new }}"
+    ]
+    out += ["    {"]
+    for arm, part in line.arms[: len(kind.tested)]:
+        out += [
+            f"        if number == {arm.number} {{",
+            f"            return Ok({case_read(kind, arm, part)});",
+            "        }",
+        ]
+    last = f"Err({f.error}::{kind.unknown})" if kind.unknown else f"Ok({case_read(kind, *line.arms[-1])})"
+    return [*out, f"        {last}", "    }", ""]
+
+
+def case_read(kind: m.Choose, arm: m.Arm, part: Line | None) -> str:
+    """Returns the expression that reads a case."""
+    if part and part.use:
+        return pattern(kind, arm, f"{part.use.name}::read(reader{', alloc' * m.has_list(part.use)})?")
+    return pattern(kind, arm, "number")
+
+
+def write_code(line: Line, kind: m.Choose) -> list[str]:
+    """Returns the function that writes what follows the number of a case."""
+    writes = (
+        f"{pattern(kind, arm, 'it' if part else '_')} => {'it.write(writer)' if part else 'Ok(())'},"
+        for arm, part in line.arms
+    )
+    return [
+        "    /// Writes what follows the number of the case.",
+        "    ///",
+        "    /// # Errors",
+        "    ///",
+        "    /// `Checked` for a field that does not fit its bits. The fields before it are written then.",
+        "    /// Else the errors of the sink.",
+        "    pub fn write<W: BitWrite>(&self, writer: &mut W) -> Result<(), Error>",
+        f"        ensures {{ WritesAll W.sink ({snake(kind.type)}_writes W.sink.order self.now) writer.old result writer.new }}",
+        "    {",
+        "        match self {",
+        *(f"            {it}" for it in writes),
+        "        }",
+        "    }",
+    ]
