@@ -1,4 +1,7 @@
+mod ChecksumRows
 mod Rows
+pub mod ChecksumLemmas
+pub mod CodedLemmas
 pub mod FrameLemmas
 pub mod LosslessLemmas
 pub mod PredictLemmas

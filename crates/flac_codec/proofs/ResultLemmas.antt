@@ -1,10 +1,11 @@
 -- Errors of a function whose vector is seen as its items, and memory that is refused after a read.
-use Rattle.std.proofs.Common.{◌≡◌, ℤ, List, Result, Ok, Err, Vec, Global, false, ap, refl}
+use Rattle.std.proofs.Common.{◌≡◌, ℤ, List, Result, Ok, Err, Vec, Global, false, ap, refl, subst, sym}
 use Rattle.std.specs.Result.{IsErrAnd}
-use Rattle.bitstream_io.specs.Callers.{BitSource, Decoder, Error, Failed, GrowsOwn, OutOfMemory, OwnAnswer, result_map, stores}
+use Rattle.bitstream_io.specs.Callers.{BitSource, Decoder, Error, Failed, GrowsOwn, OutOfMemory, OwnAnswer, Reads, ReadsOwn, and_then, part_then, pure, result_map, stores}
 use Rattle.bitstream_io.specs.Grows.{GrowingOutcome, by_reads, in_a_read, between_reads}
 use Rattle.bitstream_io.specs.Reads.{had_failed, was_done, was_refused, memory_refused}
-use Rattle.bitstream_io.proofs.CallerLemmas.{Reads-pure, own_refused}
+use Rattle.bitstream_io.proofs.CallerLemmas.{Reads-and_then-ok, Reads-pure, own_end, own_refused}
+use Rattle.bitstream_io.proofs.OwnSteps.{part_stops}
 use Rattle.bitstream_io.proofs.ReadsLemmas.{Reads-same, ok_prefix}
 use Rattle.flac_codec.specs.Errors.{becomes_flac}
 use Rattle.flac_codec.specs.declared.error.FlacError.{FlacError}
@@ -73,3 +74,35 @@ store_done {s = s} samples found is = record {
   called = by_reads (Reads-same (record { reads = λ p b. refl; on_failed = refl }) (Reads-pure (Ok samples) s));
   answer = ap Ok is;
 }
+
+-- ---- parts that ask for no memory
+
+own_goes : {R A B E : Type 0} {K : BitSource R} (becomes : Error → E → Type 0) {e : Decoder (Result A E)} (f : A
+    → Decoder (Result B E)) {r : Result B E} {s t z : R} (a : A) (plain : Result (Result A E) Error) → Reads K e s plain t
+    → OwnAnswer becomes (λ y. y) plain (Ok a) → ReadsOwn K becomes (f a) t r z
+    → ReadsOwn K becomes (and_then e (part_then f)) s r z
+own_goes {K = K} becomes {e = e} f {s = s} {t = t} a (Ok x) h own k = record {
+  plain = k.plain;
+  called = Reads-and_then-ok e (part_then f) (subst (λ y. Reads K e s (Ok y) t) (sym own) h) k.called;
+  answer = k.answer;
+}
+own_goes becomes f a (Err x) h own k = absurd own
+
+module _ {R A B E : Type 0} {K : BitSource R} {becomes : Error → E → Type 0} {r : Result B E} (f : A → Decoder (Result B E)) where
+  pub own_part_go : {e : Decoder (Result A E)} {s t z : R} {a : A} → ReadsOwn K becomes e s (Ok a) t
+      → ReadsOwn K becomes (f a) t r z → ReadsOwn K becomes (and_then e (part_then f)) s r z
+  own_part_go {a = a} h k = own_goes becomes f a h.plain h.called h.answer k
+
+  pub own_part_stop : {e : Decoder (Result A E)} {s t : R} {x : E} → r ≡ Err x → ReadsOwn K becomes e s (Err x) t
+      → ReadsOwn K becomes (and_then e (part_then f)) s r t
+  own_part_stop {x = x} is h = part_stops f x h.plain is h.called h.answer
+
+  -- a value that is computed of what was read
+  pub own_value_go : {s z : R} {a : A} {x : Result A E} → Ok a ≡ x → ReadsOwn K becomes (f a) s r z
+      → ReadsOwn K becomes (part_then f x) s r z
+  own_value_go {s = s} {z = z} is k = subst (λ y. ReadsOwn K becomes (part_then f y) s r z) is k
+
+  pub own_value_stop : {s : R} {y : E} {x : Result A E} → Err y ≡ x → r ≡ Err y → ReadsOwn K becomes (part_then f x) s r s
+  own_value_stop {s = s} {y = y} is stop =
+      subst (λ z. ReadsOwn K becomes (part_then f z) s r s) is
+      (subst (λ z. ReadsOwn K becomes (pure (Err y)) s z s) (sym stop) (own_end (Err y) s))

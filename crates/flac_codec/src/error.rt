@@ -9,9 +9,33 @@ pub enum FlacError {
     /// The bits were not read, or memory was refused.
     #[error("{0}")]
     Reader(Error),
+    /// No frame begins here: the first 15 bits are not its sync code.
+    #[error("no frame begins here")]
+    NoSync,
     /// A bit that must be 0 is 1.
     #[error("a reserved bit is set")]
     ReservedBit,
+    /// The code of the block size is reserved.
+    #[error("the block size is reserved")]
+    ReservedBlockSize,
+    /// The block has 65536 samples, which is forbidden.
+    #[error("a block of 65536 samples is forbidden")]
+    ForbiddenBlockSize,
+    /// The code of the sample rate is forbidden.
+    #[error("the sample rate is forbidden")]
+    ForbiddenSampleRate,
+    /// The code of the channels is reserved.
+    #[error("the channels are reserved")]
+    ReservedChannels,
+    /// The code of the bits of a sample is reserved.
+    #[error("the sample size is reserved")]
+    ReservedSampleSize,
+    /// The coded number is none.
+    #[error("no coded number")]
+    NotCoded,
+    /// The coded number has more bytes than it needs.
+    #[error("the coded number is longer than it has to be")]
+    LongCoded,
     /// The type of the subframe is reserved.
     #[error("the type of the subframe is reserved")]
     ReservedSubframe,

@@ -5,8 +5,11 @@
 //! chooses is left open, so a better choice needs no new contract.
 #![tactic(auto)]
 
+mod checksum;
 mod choice;
+mod coded;
 mod error;
+mod header;
 mod laws;
 mod lossless;
 mod numbers;
@@ -16,7 +19,10 @@ mod residual;
 mod rice;
 mod writing;
 
+pub use checksum::{crc8, crc16};
+pub use coded::read_coded;
 pub use error::FlacError;
+pub use header::{Channels, FrameHeader, read_header};
 pub use laws::frame_round_trip;
 pub use lossless::{decode, encode, round_trip};
 pub use reading::read_subframe;
