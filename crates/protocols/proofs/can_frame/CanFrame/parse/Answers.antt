@@ -1,0 +1,30 @@
+-- Made by `./format` from formats/can_frame.fields: edit that file and make this one anew.
+use Rattle.protocols.specs.CanFrame.{can_frame_decoder, can_frame_at}
+use Rattle.protocols.proofs.CanFrameLemmas.{can_frame_packs, told}
+use Rattle.std.proofs.Common.{◌++◌, ◌∙◌, ℕ, List, Ok, refl, ap, sym, arith}
+use Rattle.bitstream_io.proofs.CallerLemmas.{Finds, fields_there, fields_short, prefix_answered, slice_ends, bit-finds, unsigned-finds, skip-finds, pure-finds, packs-whole}
+use Rattle.bitstream_io.proofs.SliceLemmas.{new_answer}
+use Rattle.bitstream_io.specs.Callers.{High, bits}
+use Rattle.protocols.proofs.can_frame.CanFrame.parse.Goals as goal
+
+found : (packet : List ℕ)
+    → Finds (bits High packet) 0 (can_frame_decoder High) 64 (Ok (can_frame_at (bits High packet)))
+found packet = bit-finds _ _ 64 _ _ refl (bit-finds _ _ 63 _ _ refl (bit-finds _ _ 62 _ _ refl (unsigned-finds _ _ 29 61
+    _ High 32 _ refl refl (unsigned-finds _ _ 8 32 _ High 8 _ refl refl (skip-finds _ _ 24 24 _ _ refl (pure-finds _ _
+    _))))))
+
+pub returns-clause-answer : goal.returns-clause-answer
+returns-clause-answer c = new_answer slice_ends _ _ c.over.ensures.state c.read.ensures
+
+pub returns-clause-there : goal.returns-clause-there
+returns-clause-there c = λ enough. fields_there slice_ends c.over.ensures.state refl c.read.ensures (found _) (omega
+    arith)
+
+pub returns-clause-short : goal.returns-clause-short
+returns-clause-short c = λ few. fields_short slice_ends c.over.ensures.state refl c.read.ensures (found _) (omega arith)
+
+pub returns-clause-back : goal.returns-clause-back
+returns-clause-back c = λ value more fits is.
+    prefix_answered slice_ends c.over.ensures.state refl c.read.ensures (ap ((can_frame_decoder High).reads 0) (is ∙ ap
+    (λ w. w ++ more) (sym (told value) ∙ packs-whole (can_frame_packs High value fits) refl)) ∙
+    c.can_frame_round_trip.ensures.back High value 0 0 more fits)

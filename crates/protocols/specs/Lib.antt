@@ -1,0 +1,16 @@
+pub mod ArpPacket
+pub mod CanFrame
+pub mod DnsHeader
+pub mod EthernetHeader
+pub mod IcmpEcho
+pub mod Ipv4Header
+pub mod Ipv6Header
+pub mod J1939Frame
+pub mod MacFrameControl
+pub mod ModbusHeader
+pub mod Mp3Header
+pub mod PngStart
+pub mod TcpHeader
+pub mod TsHeader
+pub mod UdpHeader
+pub mod VlanTag

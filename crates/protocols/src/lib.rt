@@ -1,0 +1,36 @@
+//! Headers of protocols and of files in use, which `./format` printed from the descriptions in `formats/`. Each
+//! description names the standard and its section, and its examples are from captures or the standard.
+//!
+//! - [`arp_packet`]: a packet of ARP for IPv4 over Ethernet
+//! - [`can_frame`]: the header of a CAN frame in a capture
+//! - [`dns_header`]: the header of a DNS message
+//! - [`ethernet_header`]: the header of an Ethernet frame, with [`vlan_tag`]: the tag of a virtual network
+//! - [`icmp_echo`]: the header of an echo message of ICMP
+//! - [`ipv4_header`]: the header of an IPv4 packet without options
+//! - [`ipv6_header`]: the header of an IPv6 packet without extension headers
+//! - [`j1939_frame`]: a CAN frame of SAE J1939 in a capture
+//! - [`mac_frame_control`]: the frame control field of IEEE 802.15.4
+//! - [`modbus_header`]: the header of a Modbus/TCP message
+//! - [`mp3_header`]: the header of a frame of MPEG audio
+//! - [`png_start`]: the start of a PNG file, with its first chunk
+//! - [`tcp_header`]: the header of a TCP segment without options
+//! - [`ts_header`]: the header of a packet of an MPEG transport stream
+//! - [`udp_header`]: the header of a UDP datagram
+#![tactic(auto)]
+
+pub mod arp_packet;
+pub mod can_frame;
+pub mod dns_header;
+pub mod ethernet_header;
+pub mod icmp_echo;
+pub mod ipv4_header;
+pub mod ipv6_header;
+pub mod j1939_frame;
+pub mod mac_frame_control;
+pub mod modbus_header;
+pub mod mp3_header;
+pub mod png_start;
+pub mod tcp_header;
+pub mod ts_header;
+pub mod udp_header;
+pub mod vlan_tag;

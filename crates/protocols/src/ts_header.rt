@@ -1,0 +1,249 @@
+//! The header of a packet of an MPEG transport stream (ISO/IEC 13818-1, section 2.4.3.2).
+//!
+//! Made by `./format` from formats/ts_header.fields: edit that file and make this one anew.
+ghost use Rattle.protocols.specs.TsHeader.{ts_header_decoder, ts_header_writes, ts_header_bits, ts_header_at, Fits, becomes_ts_header, bits_at, const_at_0, adaptation_of, adaptation_number, adaptation_read};
+ghost use Rattle.protocols.specs.declared.ts_header.TsHeader.{TsHeader};
+ghost use Rattle.protocols.specs.declared.ts_header.TsError.{TsError};
+ghost use Rattle.protocols.specs.declared.ts_header.TsError.TheVariants.{Reader, NoSync, NoAdaptation};
+ghost use Rattle.protocols.specs.declared.ts_header.Adaptation.{Adaptation};
+ghost use Rattle.std.specs.Prelude.{◌≡◌, ◌≢◌, ◌<◌, ◌≤◌, ◌++◌, ℕ, Bool, List, Ok, Err, length, IfOk, IsOk};
+ghost use Rattle.std.specs.declared.io.ErrorKind.TheVariants.{WriteZero};
+ghost use Rattle.bitstream_io.specs.Callers.{Done, Error, EndOfInput, Order, High, bits, number, write_sequence, ReadsOwn, OwnAnswer, WritesAll, sequence_length, sure_answer, Stream, same_error};
+ghost use Rattle.bitstream_io.specs.SliceMut.{HoldsFirst, written_bytes};
+
+use bitstream_io::{
+    BE, BitRead, BitReadExt, BitReader, BitWrite, BitWriteExt, Bits, Error, FromBitStream,
+    SliceMut, ToBitStream, pack_into,
+};
+
+/// The header of a packet of an MPEG transport stream (ISO/IEC 13818-1, section 2.4.3.2).
+///
+/// ```text
+///  0                   1                   2                   3
+///  0 1 2 3 4 5 6 7 8 9 0 1 2 3 4 5 6 7 8 9 0 1 2 3 4 5 6 7 8 9 0 1
+/// +-+-+-+-+-+-+-+-+-+-+-+-+-+-+-+-+-+-+-+-+-+-+-+-+-+-+-+-+-+-+-+-+
+/// |      =71      |d|s|p|           pid           |scr|ada|continu|
+/// +-+-+-+-+-+-+-+-+-+-+-+-+-+-+-+-+-+-+-+-+-+-+-+-+-+-+-+-+-+-+-+-+
+/// ```
+#[derive(Clone, Copy, Debug, PartialEq)]
+pub struct TsHeader {
+    /// True if the packet has an error that was not corrected.
+    pub damaged: bool,
+    /// True if a unit of the payload starts in the packet.
+    pub starts: bool,
+    /// True if the packet goes before others of its PID.
+    pub priority: bool,
+    /// The stream that the packet belongs to. Below 2^13.
+    pub pid: u16,
+    /// Whether the payload is scrambled, and how. Below 2^2.
+    pub scrambling: u8,
+    /// Whether an adaptation field or a payload follows, or both.
+    pub adaptation: Adaptation,
+    /// The number of the packet among those with a payload. Below 2^4.
+    pub continuity: u8,
+}
+
+/// The errors of reading a `TsHeader`.
+#[derive(Debug, Drop, thiserror::Error)]
+pub enum TsError {
+    /// An error of the reader.
+    #[error("{0}")]
+    Reader(Error),
+    /// The packet does not begin with the sync byte.
+    #[error("the packet does not begin with the sync byte")]
+    NoSync,
+    /// `adaptation` is not the number of a case of `Adaptation`.
+    #[error("`adaptation` is not the number of a case of `Adaptation`")]
+    NoAdaptation,
+}
+
+impl From<Error> for TsError {
+    ghost from_gives = { becomes_ts_header };
+
+    fn from(error: Error) -> TsError {
+        TsError::Reader(error)
+    }
+}
+
+/// Whether an adaptation field or a payload follows, or both.
+#[derive(Clone, Copy, Debug, PartialEq)]
+pub enum Adaptation {
+    /// 1.
+    Payload,
+    /// 2.
+    Field,
+    /// 3.
+    Both,
+}
+
+impl Adaptation {
+    /// Decodes a number.
+    pub fn of(number: u8) -> Result<Adaptation, TsError>
+        ensures { result ≡ adaptation_of number }
+    {
+        if number == 1 {
+            return Ok(Adaptation::Payload);
+        }
+        if number == 2 {
+            return Ok(Adaptation::Field);
+        }
+        if number == 3 {
+            return Ok(Adaptation::Both);
+        }
+        Err(TsError::NoAdaptation)
+    }
+
+    /// Returns the number of the case.
+    pub fn number(self) -> u8
+        ensures { result ≡ adaptation_number self }
+    {
+        match self {
+            Adaptation::Payload => 1,
+            Adaptation::Field => 2,
+            Adaptation::Both => 3,
+        }
+    }
+
+    /// Reads a number of 2 bits, and decodes it.
+    pub fn read<R: BitRead>(reader: &mut R) -> Result<Adaptation, TsError>
+        ensures { ReadsOwn R.source becomes_ts_header (adaptation_read R.source.order) reader.old result reader.new }
+    {
+        let number = reader.read::<Bits<2>, u8>()?;
+        Adaptation::of(number)
+    }
+}
+
+impl TsHeader {
+    /// The number of bits before each line of the description.
+    pub const PLACES: [u64; 8] = [0, 8, 9, 10, 11, 24, 26, 28];
+
+    /// Reads the fields in order.
+    ///
+    /// # Errors
+    ///
+    /// `NoSync`, `NoAdaptation`, after the bits that are refused.
+    /// Else the errors of the reader: after each of them it has failed.
+    pub fn read<R: BitRead>(reader: &mut R) -> Result<TsHeader, TsError>
+        ensures { ReadsOwn R.source becomes_ts_header (ts_header_decoder R.source.order) reader.old result reader.new }
+    {
+        reader.read_const::<Bits<8>, Bits<71>, TsError>(TsError::NoSync)?;
+        let damaged = reader.read_bit()?;
+        let starts = reader.read_bit()?;
+        let priority = reader.read_bit()?;
+        let pid = reader.read::<Bits<13>, u16>()?;
+        let scrambling = reader.read::<Bits<2>, u8>()?;
+        let adaptation = Adaptation::read(reader)?;
+        let continuity = reader.read::<Bits<4>, u8>()?;
+        Ok(TsHeader {
+            damaged,
+            starts,
+            priority,
+            pid,
+            scrambling,
+            adaptation,
+            continuity,
+        })
+    }
+
+    /// Parses the value at the start of `packet`.
+    ///
+    /// # Errors
+    ///
+    /// `NoSync`, `NoAdaptation`, `Reader(EndOfInput)` for fewer than 4 bytes.
+    pub fn parse(packet: &[u8]) -> Result<TsHeader, TsError>
+        ensures answer { OwnAnswer becomes_ts_header (λ answer. answer)
+            (sure_answer ((ts_header_decoder High).reads 0 (bits High packet.now))) result }
+        ensures there { 4 ≤ length packet.now → (adaptation : Adaptation)
+            → const_at_0 (bits High packet.now) ≡ 71
+            → adaptation_of (number High (bits_at 26 2 (bits High packet.now))) ≡ Ok adaptation
+            → result ≡ Ok (ts_header_at adaptation (bits High packet.now)) }
+        ensures short { length packet.now < 4 → (adaptation : Adaptation)
+            → const_at_0 (bits High packet.now) ≡ 71
+            → adaptation_of (number High (bits_at 26 2 (bits High packet.now))) ≡ Ok adaptation
+            → result ≡ Err (TsError.Reader EndOfInput) }
+        ensures no_sync { 1 ≤ length packet.now → const_at_0 (bits High packet.now) ≢ 71
+            → result ≡ Err (TsError.NoSync) }
+        ensures no_adaptation { 4 ≤ length packet.now → const_at_0 (bits High packet.now) ≡ 71
+            → adaptation_of (number High (bits_at 26 2 (bits High packet.now))) ≡ Err NoAdaptation
+            → result ≡ Err (TsError.NoAdaptation) }
+        ensures back { (value : TsHeader) (more : List Bool) → Fits value
+            → bits High packet.now ≡ ts_header_bits value ++ more → result ≡ Ok value }
+    {
+        ts_header_round_trip();
+        TsHeader::read(&mut BitReader::<_, BE>::over(packet))
+    }
+
+    /// Writes the fields in order.
+    ///
+    /// # Errors
+    ///
+    /// `Checked` for a field that does not fit its bits. The fields before it are written then.
+    /// Else the errors of the sink.
+    pub fn write<W: BitWrite>(&self, writer: &mut W) -> Result<(), Error>
+        ensures { WritesAll W.sink (ts_header_writes W.sink.order self.now) writer.old result writer.new }
+    {
+        writer.write_const::<Bits<8>, Bits<71>>()?;
+        writer.write_bit(self.damaged)?;
+        writer.write_bit(self.starts)?;
+        writer.write_bit(self.priority)?;
+        writer.write::<Bits<13>, u16>(self.pid)?;
+        writer.write::<Bits<2>, u8>(self.scrambling)?;
+        writer.write::<Bits<2>, u8>(self.adaptation.number())?;
+        writer.write::<Bits<4>, u8>(self.continuity)?;
+        Ok(())
+    }
+
+    /// Writes the fields to the first bytes of a buffer, and returns what was written. The other bytes
+    /// stay as they were. No memory is asked for.
+    ///
+    /// # Errors
+    ///
+    /// `Checked` for the first field that does not fit its bits, however long the buffer is.
+    /// `Stream(WriteZero)` if all fields fit, and the buffer has fewer than 4 bytes.
+    /// The first bytes of the buffer may be changed then.
+    pub fn pack_into<'a>(&self, buffer: &'a mut [u8]) -> Result<SliceMut<'a>, Error>
+        ensures packed { IfOk result (λ packed. bits High (written_bytes packed) ≡ ts_header_bits self.now) }
+        ensures first { IfOk result (HoldsFirst buffer.entry.ghost_name buffer.old) }
+        ensures fits { IsOk result → Fits self.now }
+        ensures misfit { (error : Error) → sequence_length (ts_header_writes High self.now) 0 ≡ Err error
+            → result ≡ Err error }
+        ensures room { Fits self.now → 4 ≤ length buffer.old → IsOk result }
+        ensures short { Fits self.now → length buffer.old < 4 → result ≡ Err (Stream WriteZero) }
+    {
+        pack_into::<BE, TsHeader>(self, buffer)
+    }
+}
+
+impl FromBitStream for TsHeader {
+    type Error = TsError;
+
+    ghost becomes = { becomes_ts_header };
+
+    ghost reads = { ts_header_decoder };
+
+    fn from_reader<R: BitRead>(reader: &mut R) -> Result<TsHeader, TsError> {
+        TsHeader::read(reader)
+    }
+}
+
+impl ToBitStream for TsHeader {
+    type Error = Error;
+
+    ghost becomes = { same_error };
+
+    ghost writes = { ts_header_writes };
+
+    fn to_writer<W: BitWrite>(&self, writer: &mut W) -> Result<(), Error> {
+        self.write(writer)
+    }
+}
+
+/// A value that fits its bits is read back as it was written, in either order of bits, at any place.
+/// The read takes only the bits that were written: 32 bits.
+pub fn ts_header_round_trip()
+    ensures back { (o : Order) (value : TsHeader) (at from : ℕ) (more : List Bool) → Fits value
+        → let written = write_sequence (ts_header_writes o value) at in
+        (ts_header_decoder o).reads from (written ++ more) ≡ Done (length written) (Ok (Ok value)) }
+    ensures size { (o : Order) (value : TsHeader) (at : ℕ) → Fits value
+        → length (write_sequence (ts_header_writes o value) at) ≡ 32 }
+{}
