@@ -1,8 +1,10 @@
 mod ChecksumRows
+mod HeaderRows
 mod Rows
 pub mod ChecksumLemmas
 pub mod CodedLemmas
 pub mod FrameLemmas
+pub mod HeaderLemmas
 pub mod LosslessLemmas
 pub mod PredictLemmas
 pub mod ResultLemmas
