@@ -1,9 +1,10 @@
 mod ChecksumRows
 mod HeaderRows
 mod Rows
+pub mod ChannelLemmas
 pub mod ChecksumLemmas
 pub mod CodedLemmas
-pub mod FrameLemmas
+pub mod FoundLemmas
 pub mod HeaderLemmas
 pub mod LosslessLemmas
 pub mod PredictLemmas
