@@ -179,3 +179,23 @@ bytes_needed-range number = grind (arith, nat_tests)
 
 pub number_below : (number : ℕ) → number < 2 ^ 36 → number / 2 ^ (6 * (bytes_needed number - 1)) ≡ number / 64 ^ (bytes_needed number - 1)
 number_below number small = rw (sixes (bytes_needed number - 1)) refl
+
+-- the bits of the first byte
+pub number-fits : (number : ℕ) → number < 2 ^ 36 → 2 ^ 7 ≤ number
+    → number / 64 ^ (bytes_needed number - 1) < 2 ^ (7 - bytes_needed number)
+number-fits number small least = elim (cases_lt number (2 ^ 11)) [
+  | inl two ↦ rw (lt-ltb number (2 ^ 11) two) (omega arith)
+  | inr above2 ↦ elim (cases_lt number (2 ^ 16)) [
+    | inl three ↦ rw (le-ltb number (2 ^ 11) above2, lt-ltb number (2 ^ 16) three) (omega arith)
+    | inr above3 ↦ elim (cases_lt number (2 ^ 21)) [
+      | inl four ↦ rw (le-ltb number (2 ^ 11) above2, le-ltb number (2 ^ 16) above3, lt-ltb number (2 ^ 21) four) (omega arith)
+      | inr above4 ↦ elim (cases_lt number (2 ^ 26)) [
+        | inl five ↦ rw (le-ltb number (2 ^ 11) above2, le-ltb number (2 ^ 16) above3, le-ltb number (2 ^ 21) above4, lt-ltb number (2 ^ 26) five) (omega arith)
+        | inr above5 ↦ elim (cases_lt number (2 ^ 31)) [
+          | inl six ↦ rw (le-ltb number (2 ^ 11) above2, le-ltb number (2 ^ 16) above3, le-ltb number (2 ^ 21) above4, le-ltb number (2 ^ 26) above5, lt-ltb number (2 ^ 31) six) (omega arith)
+          | inr above6 ↦ rw (le-ltb number (2 ^ 11) above2, le-ltb number (2 ^ 16) above3, le-ltb number (2 ^ 21) above4, le-ltb number (2 ^ 26) above5, le-ltb number (2 ^ 31) above6) (omega arith)
+        ]
+      ]
+    ]
+  ]
+]

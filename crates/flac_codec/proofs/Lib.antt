@@ -1,8 +1,11 @@
 mod ChecksumRows
+mod HeaderRows
 mod Rows
+pub mod ChannelLemmas
 pub mod ChecksumLemmas
 pub mod CodedLemmas
-pub mod FrameLemmas
+pub mod FoundLemmas
+pub mod HeaderLemmas
 pub mod LosslessLemmas
 pub mod PredictLemmas
 pub mod ResultLemmas

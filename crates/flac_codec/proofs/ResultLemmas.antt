@@ -1,5 +1,6 @@
 -- Errors of a function whose vector is seen as its items, and memory that is refused after a read.
 use Rattle.std.proofs.Common.{◌≡◌, ℤ, List, Result, Ok, Err, Vec, Global, false, ap, refl, subst, sym}
+use Rattle.std.specs.Prelude.{MatchResult}
 use Rattle.std.specs.Result.{IsErrAnd}
 use Rattle.bitstream_io.specs.Callers.{BitSource, Decoder, Error, Failed, GrowsOwn, OutOfMemory, OwnAnswer, Reads, ReadsOwn, and_then, part_then, pure, result_map, stores}
 use Rattle.bitstream_io.specs.Grows.{GrowingOutcome, by_reads, in_a_read, between_reads}
@@ -9,6 +10,7 @@ use Rattle.bitstream_io.proofs.OwnSteps.{part_stops}
 use Rattle.bitstream_io.proofs.ReadsLemmas.{Reads-same, ok_prefix}
 use Rattle.flac_codec.specs.Errors.{becomes_flac}
 use Rattle.flac_codec.specs.declared.error.FlacError.{FlacError}
+use Rattle.flac_codec.specs.declared.error.FlacError.TheVariants.{Reader}
 
 -- an error of the reader
 pub map_stop : (e : Error) (r : Result (Vec ℤ Global) FlacError) → IsErrAnd r (becomes_flac e)
@@ -106,3 +108,30 @@ module _ {R A B E : Type 0} {K : BitSource R} {becomes : Error → E → Type 0}
   own_value_stop {s = s} {y = y} is stop =
       subst (λ z. ReadsOwn K becomes (part_then f z) s r s) is
       (subst (λ z. ReadsOwn K becomes (pure (Err y)) s z s) (sym stop) (own_end (Err y) s))
+
+-- ---- a vector of channels, or another value that is seen by a view
+
+module _ {V B : Type 0} (view : V → B) where
+  pub seen_stop : (e : Error) (r : Result V FlacError) → IsErrAnd r (becomes_flac e)
+      → IsErrAnd (result_map view r) (becomes_flac e)
+  seen_stop e (Ok v) h = absurd h
+  seen_stop e (Err x) h = h
+
+  pub seen_is : (x : FlacError) (r : Result V FlacError) → IsErrAnd r (λ y. y ≡ x) → result_map view r ≡ Err x
+  seen_is x (Ok v) h = absurd h
+  seen_is x (Err y) h = ap Err h
+
+  -- a value that is stored, if there is memory
+  pub stored : {R : Type 0} {K : BitSource R} {s : R} (value : B) (r : Result V FlacError) → (K.state s).failed ≡ false
+      → MatchResult r (λ v. view v ≡ value) (λ error. error ≡ Reader OutOfMemory)
+      → GrowsOwn K becomes_flac (stores (Ok value)) s (result_map view r) s
+  stored {s = s} value (Ok v) fine is = record {
+    plain = Ok (Ok value);
+    called = by_reads (Reads-same (record { reads = λ p b. refl; on_failed = refl }) (Reads-pure (Ok value) s));
+    answer = ap Ok is;
+  }
+  stored {s = s} value (Err x) fine is = own_refused (stores (Ok value)) (Err x) s fine refl is
+
+pub grown_as : {R A E : Type 0} {K : BitSource R} {becomes : Error → E → Type 0} {e : Decoder (Result A E)} {s t : R}
+    {r x : Result A E} → r ≡ x → GrowsOwn K becomes e s x t → GrowsOwn K becomes e s r t
+grown_as is h = rw is h

@@ -1,54 +1,75 @@
--- A frame of one channel: its header with a checksum, a subframe, and a checksum of all.
-use Rattle.std.specs.Prelude.{◌≡◌, ℕ, ◌+◌, ◌==◌, if◌then◌else◌, Bool, false, List, ◌++◌, length, take, drop, replicate, ℤ, Result, Ok, Err}
-use Rattle.bitstream_io.specs.Codec.{prefix_then}
-use Rattle.bitstream_io.specs.Alignment.{to_boundary}
-use Rattle.bitstream_io.specs.Callers.{Decoder, Done, and_then, pure, Failed, unsigned_decoder, align_decoder, part_then, High, word}
-use Rattle.flac_codec.specs.Subframe.{subframe_decoder}
+-- A frame in bytes (RFC 9639, section 9): a header and its checksum, the channels up to a whole byte, and the checksum of
+-- all its bytes before.
+use Rattle.std.specs.Prelude.{◌≡◌, ◌⊎◌, ℕ, ◌+◌, ◌*◌, ◌/◌, ◌<◌, ◌==◌, nat_lt, if◌then◌else◌, List, ◌++◌, length, take, drop, get_or, ℤ, Result, Ok, Err}
+use Rattle.bitstream_io.specs.Codec.{Prefix, Incomplete, Done}
+use Rattle.bitstream_io.specs.Callers.{bits, Decoder, EndOfInput, High, OutOfMemory}
+use Rattle.flac_codec.specs.Channels.{channels_decoder}
+use Rattle.flac_codec.specs.Checksum.{crc16, crc8}
+use Rattle.flac_codec.specs.Header.{header_decoder}
 use Rattle.flac_codec.specs.declared.error.FlacError.{FlacError}
-use Rattle.flac_codec.specs.declared.error.FlacError.TheVariants.{HeaderChecksum, FrameChecksum}
+use Rattle.flac_codec.specs.declared.error.FlacError.TheVariants.{Reader, HeaderChecksum, FrameChecksum}
+use Rattle.flac_codec.specs.declared.header.FrameHeader.{FrameHeader}
 
--- the checksum of n bits that follows bits that were read; an error of their decoder is kept
-abbrev pub verified : {A : Type 0} → (List Bool → ℕ) → ℕ → FlacError → List Bool → Result A FlacError
-    → Decoder (Result A FlacError)
-verified crc n wrong seen (Ok value) =
-    and_then (unsigned_decoder High 16 n) (λ found. pure (if found == crc seen then Ok value else Err wrong))
-verified crc n wrong seen (Err error) = pure (Err error)
+-- ---- parts of bytes
 
--- a decoder, and then the checksum of the bits that it consumed
-abbrev pub checked : {A : Type 0} → (List Bool → ℕ) → ℕ → FlacError → Decoder (Result A FlacError)
-    → Decoder (Result A FlacError)
-checked crc n wrong decoder = record {
-  reads = λ p bits. prefix_then (decoder.reads p bits) (λ k answer.
-      (verified crc n wrong (take k bits) answer).reads (p + k) (drop k bits));
-  on_failed = Err Failed;
-  allocates = decoder.allocates;
-}
+-- a result and then another, made from its value; an error is kept
+abbrev pub after : {A B : Type 0} → Result A FlacError → (A → Result B FlacError) → Result B FlacError
+after (Ok value) next = next value
+after (Err error) next = Err error
 
--- the samples after a header that gives their number, up to a whole byte
-abbrev pub body_decoder : {H : Type 0} → ℕ → (H → ℕ) → H → Decoder (Result (H × List ℤ) FlacError)
-body_decoder width block_size header =
-    and_then (subframe_decoder High width (block_size header)) (part_then (λ samples.
-    and_then align_decoder (λ _. pure (Ok (header, samples)))))
+-- what a decoder returned, and the number of bytes of which it took bits
+abbrev pub in_bytes : {A : Type 0} → Prefix (Result A FlacError) → Result (A × ℕ) FlacError
+in_bytes Incomplete = Err (Reader EndOfInput)
+in_bytes (Done n (Ok (Ok value))) = Ok (value, (n + 7) / 8)
+in_bytes (Done n (Ok (Err error))) = Err error
+in_bytes (Done n (Err error)) = Err (Reader error)
 
--- a frame of one channel
-abbrev pub frame_decoder : {H : Type 0} → (List Bool → ℕ) → (List Bool → ℕ) → ℕ → (H → ℕ)
-    → Decoder (Result H FlacError) → Decoder (Result (H × List ℤ) FlacError)
-frame_decoder crc8 crc16 width block_size header_decoder =
-    checked crc16 16 FrameChecksum
-    (and_then (checked crc8 8 HeaderChecksum header_decoder) (part_then (body_decoder width block_size)))
+-- what a decoder finds at the start of bytes
+abbrev pub found : {A : Type 0} → Decoder (Result A FlacError) → List ℕ → Result (A × ℕ) FlacError
+found decoder bytes = in_bytes (decoder.reads 0 (bits High bytes))
 
--- bits, and then their checksum of n bits
-abbrev pub with_checksum : (List Bool → ℕ) → ℕ → List Bool → List Bool
-with_checksum crc n bits = bits ++ word High n (crc bits)
+-- the byte after the first n bytes is their CRC-8
+abbrev pub crc8_holds : List ℕ → ℕ → Result (Unit {0}) FlacError
+crc8_holds bytes n =
+    if nat_lt n (length bytes)
+    then (if crc8 (take n bytes) == get_or bytes n 0 then Ok tt else Err HeaderChecksum)
+    else Err (Reader EndOfInput)
 
--- the bits of a frame that begins at a place, with the bits of its header and of its subframe
-abbrev pub frame_bits : (List Bool → ℕ) → (List Bool → ℕ) → ℕ → List Bool → List Bool → List Bool
-frame_bits crc8 crc16 place header subframe =
-    let prefix = with_checksum crc8 8 header in
-    with_checksum crc16 16
-    (prefix ++ (subframe ++ replicate (to_boundary (place + length prefix + length subframe)) false))
+-- the two bytes after the first n bytes are their CRC-16, the high byte first
+abbrev pub crc16_holds : List ℕ → ℕ → Result (Unit {0}) FlacError
+crc16_holds bytes n =
+    if nat_lt (n + 1) (length bytes)
+    then (if crc16 (take n bytes) == 256 * get_or bytes n 0 + get_or bytes (n + 1) 0 then Ok tt else Err FrameChecksum)
+    else Err (Reader EndOfInput)
 
--- at this place the decoder reads the value from these bits, whatever follows them, and consumes only them
-abbrev pub IsFoundAt : {A : Type 0} → Decoder A → ℕ → List Bool → A → Type 0
-IsFoundAt decoder place bits value =
-    (more : List Bool) → decoder.reads place (bits ++ more) ≡ Done (length bits) (Ok value)
+-- ---- a frame
+
+-- the header and its checksum at the start of bytes, and the number of their bytes
+abbrev pub header_at : List ℕ → Result (FrameHeader × ℕ) FlacError
+header_at bytes =
+    after (found (header_decoder High) bytes) (λ (header, n). after (crc8_holds bytes n) (λ _. Ok (header, n + 1)))
+
+-- the bits of a sample of a frame: those of its header, or of STREAMINFO
+abbrev pub width_of : ℕ → FrameHeader → ℕ
+width_of sample_size header = if header.sample_size == 0 then sample_size else header.sample_size
+
+-- the channels of a frame behind its header, which has n bytes with its checksum
+abbrev pub channels_at : ℕ → List ℕ → FrameHeader × ℕ → Result ((FrameHeader × List (List ℤ)) × ℕ) FlacError
+channels_at sample_size bytes (header, n) =
+    after (found (channels_decoder High header.channels (width_of sample_size header) header.block_size) (drop n bytes))
+    (λ (channels, m). Ok ((header, channels), n + m))
+
+-- the frame at the start of bytes of a file whose samples have `sample_size` bits: its header, its channels, and the number
+-- of its bytes
+abbrev pub frame_at : ℕ → List ℕ → Result ((FrameHeader × List (List ℤ)) × ℕ) FlacError
+frame_at sample_size bytes =
+    after (after (header_at bytes) (channels_at sample_size bytes)) (λ (frame, n).
+    after (crc16_holds bytes n) (λ _. Ok (frame, n + 2)))
+
+-- the result is that of a definition, or memory was refused
+abbrev pub IsUnlessRefused : {A : Type 0} → Result A FlacError → Result A FlacError → Type 0
+IsUnlessRefused meant result = (result ≡ meant) ⊎ (result ≡ Err (Reader OutOfMemory))
+
+-- at the start of these bytes a definition finds the value, in all of them, whatever follows them
+abbrev pub IsFoundIn : {A : Type 0} → (List ℕ → Result (A × ℕ) FlacError) → List ℕ → A → Type 0
+IsFoundIn finds bytes value = (more : List ℕ) → finds (bytes ++ more) ≡ Ok (value, length bytes)

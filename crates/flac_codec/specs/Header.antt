@@ -1,5 +1,5 @@
 -- The header of a frame (RFC 9639, section 9.1), without its checksum: its decoder, and the calls that write it.
-use Rattle.std.specs.Prelude.{◌≡◌, ℕ, ◌+◌, ◌*◌, ◌/◌, ◌%◌, ◌^◌, ◌<◌, ◌≤◌, ◌==◌, ◌&&◌, nat_lt, nat_le, if◌then◌else◌, Bool, false, List, [], ◌∷◌, ◌++◌, get_or, Result, Ok, Err}
+use Rattle.std.specs.Prelude.{◌≡◌, ◌⊎◌, ⊤, ℕ, ◌+◌, ◌-◌, ◌*◌, ◌/◌, ◌%◌, ◌^◌, ◌<◌, ◌≤◌, ◌==◌, nat_lt, if◌then◌else◌, false, List, [], ◌∷◌, ◌++◌, get_or, Result, Ok, Err}
 use Rattle.bitstream_io.specs.Callers.{Decoder, Encoder, ◌>>=◌, pure, bit_decoder, unsigned_decoder, part_then, Order, bit, unsigned}
 use Rattle.flac_codec.specs.Coded.{coded_decoder, coded_writes}
 use Rattle.flac_codec.specs.declared.error.FlacError.{FlacError}
@@ -106,3 +106,81 @@ coded_header_decoder o codes =
 -- a header
 abbrev pub header_decoder : Order → Decoder (Result FrameHeader FlacError)
 header_decoder o = codes_decoder o >>= part_then (coded_header_decoder o)
+
+-- ---- what can be written
+
+-- a sample rate that a header can say: in Hz, or in tens of Hz
+abbrev pub IsSampleRate : ℕ → Type 0
+IsSampleRate rate = (rate < 65536) ⊎ ((rate % 10 ≡ 0) × (rate < 655360))
+
+-- the bits of a sample that a header can say, or 0 for those of STREAMINFO
+abbrev pub IsSampleSize : ℕ → Type 0
+IsSampleSize size =
+    (size ≡ 0) ⊎ ((size ≡ 8) ⊎ ((size ≡ 12) ⊎ ((size ≡ 16) ⊎ ((size ≡ 20) ⊎ ((size ≡ 24) ⊎ (size ≡ 32))))))
+
+-- one to eight channels
+abbrev pub IsChannels : Channels → Type 0
+IsChannels (Independent count) = (1 ≤ count) × (count ≤ 8)
+IsChannels _ = ⊤
+
+-- a header that can be written
+pub record IsHeader (header : FrameHeader) : Type 0 where
+  pub some : 1 ≤ header.block_size
+  pub most : header.block_size < 65536
+  pub rate : IsSampleRate header.sample_rate
+  pub channels : IsChannels header.channels
+  pub size : IsSampleSize header.sample_size
+  pub number : header.number < 2 ^ 36
+
+-- a code of a block size: its own, or that of a number that follows
+abbrev pub IsBlockSizeCode : ℕ → ℕ → Type 0
+IsBlockSizeCode size code =
+    ((code < 16) × (get_or block_sizes code 0 ≡ size)) ⊎ (((code ≡ 6) × (size ≤ 256)) ⊎ (code ≡ 7))
+
+-- a code of a sample rate: its own, or that of a number that follows
+abbrev pub IsSampleRateCode : ℕ → ℕ → Type 0
+IsSampleRateCode rate code =
+    ((code < 12) × (get_or sample_rates code 0 ≡ rate))
+    ⊎ (((code ≡ 12) × (rate % 1000 ≡ 0) × (rate < 256000))
+    ⊎ (((code ≡ 13) × (rate < 65536)) ⊎ ((code ≡ 14) × (rate % 10 ≡ 0) × (rate < 655360))))
+
+-- codes of a header
+pub record AreCodes (header : FrameHeader) (codes : Codes) : Type 0 where
+  pub variable : codes.variable ≡ header.variable
+  pub block_size : IsBlockSizeCode header.block_size codes.block_size
+  pub sample_rate : IsSampleRateCode header.sample_rate codes.sample_rate
+  pub channels : channels_of codes.channels ≡ Ok header.channels
+  pub sample_size : sample_size_of codes.sample_size ≡ Ok header.sample_size
+  pub few : codes.channels < 16
+  pub small : codes.sample_size < 8
+
+-- ---- the calls that write
+
+-- the sync code, the codes, and the reserved bit
+abbrev pub codes_writes : Order → Codes → List Encoder
+codes_writes o codes =
+    unsigned o 16 15 0x7ffc ∷ bit codes.variable ∷ unsigned o 8 4 codes.block_size ∷ unsigned o 8 4 codes.sample_rate
+    ∷ unsigned o 8 4 codes.channels ∷ unsigned o 8 3 codes.sample_size ∷ bit false ∷ []
+
+-- the block size after the number, if its code says so
+abbrev pub block_size_writes : Order → ℕ → ℕ → List Encoder
+block_size_writes o code size =
+    if code == 6 then unsigned o 32 8 (size - 1) ∷ []
+    else if code == 7 then unsigned o 32 16 (size - 1) ∷ []
+    else []
+
+-- the sample rate after the block size, if its code says so
+abbrev pub sample_rate_writes : Order → ℕ → ℕ → List Encoder
+sample_rate_writes o code rate =
+    if code == 12 then unsigned o 32 8 (rate / 1000) ∷ []
+    else if code == 13 then unsigned o 32 16 rate ∷ []
+    else if code == 14 then unsigned o 32 16 (rate / 10) ∷ []
+    else []
+
+-- a header with these codes
+abbrev pub header_writes : Order → Codes → FrameHeader → List Encoder
+header_writes o codes header =
+    codes_writes o codes
+    ++ (coded_writes o header.number
+    ++ (block_size_writes o codes.block_size header.block_size
+    ++ sample_rate_writes o codes.sample_rate header.sample_rate))

@@ -40,20 +40,20 @@ pub struct FrameHeader {
 
 // The codes of a header, as they are read.
 #[derive(Clone, Copy)]
-struct Codes {
-    variable: bool,
-    block_size: u8,
-    sample_rate: u8,
-    channels: u8,
-    sample_size: u8,
+pub(crate) struct Codes {
+    pub(crate) variable: bool,
+    pub(crate) block_size: u8,
+    pub(crate) sample_rate: u8,
+    pub(crate) channels: u8,
+    pub(crate) sample_size: u8,
 }
 
 // The block sizes, sample rates and sample sizes by their codes.
-const BLOCK_SIZES: [u32; 16] = [
+pub(crate) const BLOCK_SIZES: [u32; 16] = [
     0, 192, 576, 1152, 2304, 4608, 0, 0, 256, 512, 1024, 2048, 4096, 8192, 16384, 32768,
 ];
 
-const SAMPLE_RATES: [u32; 12] = [
+pub(crate) const SAMPLE_RATES: [u32; 12] = [
     0, 88_200, 176_400, 192_000, 8_000, 16_000, 22_050, 24_000, 32_000, 44_100, 48_000, 96_000,
 ];
 

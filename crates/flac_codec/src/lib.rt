@@ -5,12 +5,14 @@
 //! chooses is left open, so a better choice needs no new contract.
 #![tactic(auto)]
 
+mod channels;
 mod checksum;
 mod choice;
 mod coded;
 mod error;
+mod frame;
 mod header;
-mod laws;
+mod heading;
 mod lossless;
 mod numbers;
 mod predict;
@@ -19,11 +21,13 @@ mod residual;
 mod rice;
 mod writing;
 
+pub use channels::read_channels;
 pub use checksum::{crc8, crc16};
 pub use coded::read_coded;
 pub use error::FlacError;
+pub use frame::{Frame, decode_frame};
 pub use header::{Channels, FrameHeader, read_header};
-pub use laws::frame_round_trip;
+pub use heading::write_header;
 pub use lossless::{decode, encode, round_trip};
 pub use reading::read_subframe;
 pub use rice::{read_rice, rice_round_trip, write_rice};

@@ -1,0 +1,170 @@
+-- What a reader of bytes in memory finds at their start, and in how many of them.
+use Rattle.std.proofs.Common.{arith, inl, inr, ◌⊎◌, ◌≡◌, ◌∙◌, ◌++◌, ◌+◌, ◌-◌, ◌*◌, ◌/◌, ◌%◌, ◌<◌, ◌≤◌, ℕ, ℤ, Bool, true, false, List, [], ◌∷◌, Some, Result, Ok, Err, length, take, drop, refl, sym, ap, subst, add-zero, append_assoc, length-append, zero-add}
+use Rattle.std.specs.Result.{IsErrAnd}
+use Rattle.std.specs.Prelude.{replicate}
+use Rattle.std.proofs.lemmas.Bool.{cases_lt, le-ltb}
+use Rattle.std.proofs.lemmas.List.{length-drop, length-replicate, take_all}
+use Rattle.bitstream_io.specs.Alignment.{to_boundary}
+use Rattle.bitstream_io.specs.Callers.{align, bits, sure_answer, write_sequence, BitSource, Decoder, Encoder, Error, EndOfInput, GrowsOwn, High, MayAllocate, OutOfMemory, OwnAnswer, ReadsOwn}
+use Rattle.bitstream_io.specs.Codec.{Prefix, Incomplete, Done}
+use Rattle.bitstream_io.specs.Grows.{GrowingOutcome, by_reads, in_a_read, between_reads}
+use Rattle.bitstream_io.specs.Reads.{ReadDone, ReaderState, had_failed, was_done, was_refused, memory_refused}
+use Rattle.bitstream_io.specs.Reader.{new_reader_state}
+use Rattle.bitstream_io.specs.ReadBack.{IsReadAs}
+use Rattle.bitstream_io.specs.Refusal.{TrueEnds}
+use Rattle.bitstream_io.proofs.CallerLemmas.{own_answered, own_grown_answered, write_sequence-append}
+use Rattle.bitstream_io.proofs.ReadsLemmas.{Consumes-known}
+use Rattle.bitstream_io.proofs.WordLemmas.{bits-append, length-bits}
+use Rattle.flac_codec.specs.Errors.{becomes_flac}
+use Rattle.flac_codec.specs.Frame.{after, channels_at, crc8_holds, found, header_at, width_of, in_bytes, IsFoundIn}
+use Rattle.flac_codec.specs.Channels.{channels_decoder}
+use Rattle.flac_codec.specs.declared.header.FrameHeader.{FrameHeader}
+use Rattle.flac_codec.specs.declared.error.FlacError.{FlacError}
+use Rattle.flac_codec.specs.declared.error.FlacError.TheVariants.{Reader}
+
+-- an answer that is an error is that of the whole bytes
+same-error : {A : Type 0} (x : FlacError) (p : Prefix (Result A FlacError)) → OwnAnswer becomes_flac (λ y. y) (sure_answer p) (Err x)
+    → in_bytes p ≡ Err x
+same-error x Incomplete is = ap Err (sym is)
+same-error x (Done n (Ok (Ok v))) is = cc
+same-error x (Done n (Ok (Err y))) is = let same : y ≡ x = cc in ap Err same
+same-error x (Done n (Err e)) is = ap Err (sym is)
+
+module _ {R A : Type 0} (K : BitSource R) (high : K.order ≡ High) {e : Decoder (Result A FlacError)} {s t : R} (bytes : List ℕ)
+    (start : K.state s ≡ new_reader_state (Some bytes) []) where
+  taken : (value : A) (rest : List ℕ) → (K.state t).bytes ≡ Some rest → ReadDone K.order e (K.state s) (Ok (Ok value)) (K.state t)
+      → found e bytes ≡ Ok (value, length bytes - length rest)
+  taken value rest left h =
+      let known : (K.state s).bytes ≡ Some bytes = ap (λ (z : ReaderState). z.bytes) start in
+      let lost = Consumes-known (K.state s).bytes (K.state t).bytes h.gone bytes h.loses known in
+      let same : lost.0 ≡ rest = let both = sym lost.1 ∙ left in cc in
+      let all : bytes ≡ h.gone ++ rest = lost.2 ∙ ap (λ xs. h.gone ++ xs) same in
+      let place : (K.state s).taken ≡ 0 = ap (λ (z : ReaderState). z.taken) start in
+      let queue : (K.state s).queue ≡ [] = ap (λ (z : ReaderState). z.queue) start in
+      let none : (K.state s).fetched ≡ 0 = ap (λ (z : ReaderState). z.fetched) start in
+      let gone : bits High h.gone ≡ h.word ++ h.rest =
+      subst (λ q. q ++ bits High h.gone ≡ h.word ++ h.rest) queue
+      (subst (λ o. (K.state s).queue ++ bits o h.gone ≡ h.word ++ h.rest) high h.parts) in
+      let whole : bits High bytes ≡ h.word ++ (h.rest ++ bits High rest) =
+      ap (bits High) all ∙ bits-append High h.gone rest ∙ ap (λ w. w ++ bits High rest) gone
+      ∙ append_assoc h.word h.rest (bits High rest) in
+      let read : e.reads 0 (bits High bytes) ≡ Done (length h.word) (Ok (Ok value)) =
+      ap (e.reads 0) whole ∙ subst (λ p. e.reads p (h.word ++ (h.rest ++ bits High rest)) ≡ Done (length h.word) (Ok (Ok value))) place
+      (h.decides (h.rest ++ bits High rest)) in
+      let size : length bytes ≡ length h.gone + length rest = ap length all ∙ length-append h.gone rest in
+      let whole_bytes = K.demands t in
+      let count : (length h.word + 7) / 8 ≡ length bytes - length rest =
+      omega (arith, size, whole_bytes, h.fetched, h.taken, none, place) in
+      ap in_bytes read ∙ ap (λ n. Ok (value, n)) count
+
+  within : (value : A) (rest : List ℕ) → (K.state t).bytes ≡ Some rest → ReadDone K.order e (K.state s) (Ok (Ok value)) (K.state t)
+      → length rest ≤ length bytes
+  within value rest left h =
+      let known : (K.state s).bytes ≡ Some bytes = ap (λ (z : ReaderState). z.bytes) start in
+      let lost = Consumes-known (K.state s).bytes (K.state t).bytes h.gone bytes h.loses known in
+      let same : lost.0 ≡ rest = let both = sym lost.1 ∙ left in cc in
+      let size : length bytes ≡ length h.gone + length rest =
+      ap length (lost.2 ∙ ap (λ xs. h.gone ++ xs) same) ∙ length-append h.gone rest in
+      omega (arith, size)
+
+  done : (value : A) (plain : Result (Result A FlacError) Error) → GrowingOutcome K e s plain t
+      → OwnAnswer becomes_flac (λ y. y) plain (Ok value) → ReadDone K.order e (K.state s) (Ok (Ok value)) (K.state t)
+  done value (Err x) h is = absurd is
+  done value (Ok x) (by_reads (had_failed h)) is =
+      let fine : (K.state s).failed ≡ false = ap (λ (z : ReaderState). z.failed) start in
+      let failed = h.failed in cc
+  done value (Ok x) (by_reads (was_done h)) is = subst (λ y. ReadDone K.order e (K.state s) (Ok y) (K.state t)) (sym is) h
+  done value (Ok x) (by_reads (was_refused h)) is = let p = h.answer in cc
+  done value (Ok x) (by_reads (memory_refused grows h)) is = let p = h.answer in cc
+  done value (Ok x) (in_a_read h) is = let p = h.refused.answer in cc
+  done value (Ok x) (between_reads h) is = let p = h.answer in cc
+
+  pub found-grown : (value : A) (rest : List ℕ) → (K.state t).bytes ≡ Some rest → GrowsOwn K becomes_flac e s (Ok value) t
+      → found e bytes ≡ Ok (value, length bytes - length rest)
+  found-grown value rest left h = taken value rest left (done value h.plain h.called h.answer)
+
+  pub rest-within : (value : A) (rest : List ℕ) → (K.state t).bytes ≡ Some rest → GrowsOwn K becomes_flac e s (Ok value) t
+      → length rest ≤ length bytes
+  rest-within value rest left h = within value rest left (done value h.plain h.called h.answer)
+
+  pub found-err : (x : FlacError) → TrueEnds K.may → GrowsOwn K becomes_flac e s (Err x) t
+      → (found e bytes ≡ Err x) ⊎ (x ≡ Reader OutOfMemory)
+  found-err x ends h = elim (own_grown_answered ends start refl h) [
+    | inl own ↦ inl (same-error x (e.reads 0 (bits High bytes))
+        (subst (λ o. OwnAnswer becomes_flac (λ y. y) (sure_answer (e.reads 0 (bits o bytes))) (Err x)) high own))
+    | inr refused ↦ inr refused.0
+  ]
+
+  pub found-own_err : (x : FlacError) → TrueEnds K.may → ReadsOwn K becomes_flac e s (Err x) t → found e bytes ≡ Err x
+  found-own_err x ends h =
+      same-error x (e.reads 0 (bits High bytes))
+      (subst (λ o. OwnAnswer becomes_flac (λ y. y) (sure_answer (e.reads 0 (bits o bytes))) (Err x)) high
+      (own_answered ends start refl h))
+
+-- ---- bytes that hold the words of calls, up to a whole byte
+
+aligned-size : (n m : ℕ) → 8 * m ≡ n + to_boundary n → (n + 7) / 8 ≡ m
+aligned-size n m is = omega arith
+
+pub found-written : {A : Type 0} (ws : List Encoder) (bytes : List ℕ) (e : Decoder (Result A FlacError)) (value : A)
+    → bits High bytes ≡ write_sequence (ws ++ align ∷ []) 0 → IsReadAs ws e (Ok value) → IsFoundIn (found e) bytes value
+found-written ws bytes e value is back more =
+    let word = write_sequence ws 0 in
+    let n = length word in
+    let pad = write_sequence (align ∷ []) (0 + n) in
+    let all : bits High (bytes ++ more) ≡ word ++ (pad ++ bits High more) =
+    bits-append High bytes more ∙ ap (λ w. w ++ bits High more) (is ∙ write_sequence-append ws (align ∷ []) 0)
+    ∙ append_assoc word pad (bits High more) in
+    let zeros : length pad ≡ to_boundary n =
+    rw (zero-add n) (length-append (replicate (to_boundary n) false) []
+    ∙ ap (λ k. k + 0) (length-replicate (to_boundary n) false) ∙ add-zero (to_boundary n)) in
+    let size : 8 * length bytes ≡ n + to_boundary n =
+    sym (length-bits High bytes) ∙ ap length (is ∙ write_sequence-append ws (align ∷ []) 0) ∙ length-append word pad
+    ∙ ap (λ k. n + k) zeros in
+    ap (λ b. in_bytes (e.reads 0 b)) all ∙ ap in_bytes (back 0 0 (pad ++ bits High more))
+    ∙ ap (λ k. Ok (value, k)) (aligned-size n (length bytes) size)
+
+-- ---- one result after another
+
+module _ {A B : Type 0} (f : A → Result B FlacError) where
+  pub after-err : {x : FlacError} {p : Result A FlacError} → Err x ≡ p → Err x ≡ after p f
+  after-err is = ap (λ p. after p f) is
+
+  pub after-ok : {v : A} {p : Result A FlacError} {r : Result B FlacError} → Ok v ≡ p → r ≡ f v → r ≡ after p f
+  after-ok is same = same ∙ ap (λ p. after p f) is
+
+-- an error, as one of another type
+pub refused-as : {A : Type 0} {x y : FlacError} {r : Result A FlacError} → Err x ≡ r → r ≡ Err y → x ≡ y
+refused-as is same = cc
+
+pub not-refused : {A : Type 0} {v : A} {x : FlacError} → Ok v ≡ Err x → ⊥
+not-refused is = cc
+
+-- a header and the channels behind it
+pub frame-parts : (sample_size : ℕ) (bytes : List ℕ) {header : FrameHeader} {n m : ℕ} {channels : List (List ℤ)}
+    → Ok (header, n) ≡ header_at bytes
+    → Ok (channels, m) ≡ found (channels_decoder High header.channels (width_of sample_size header) header.block_size) (drop n bytes)
+    → Ok ((header, channels), n + m) ≡ after (header_at bytes) (channels_at sample_size bytes)
+frame-parts sample_size bytes {header = header} {n = n} {m = m} {channels = channels} start body =
+    after-ok (channels_at sample_size bytes) start
+    (after-ok {B = (FrameHeader × List (List ℤ)) × ℕ} (λ (found, k). Ok ((header, found), n + k)) body refl)
+
+pub frame-parts_err : (sample_size : ℕ) (bytes : List ℕ) {header : FrameHeader} {n : ℕ} {x : FlacError}
+    → Ok (header, n) ≡ header_at bytes
+    → Err x ≡ found (channels_decoder High header.channels (width_of sample_size header) header.block_size) (drop n bytes)
+    → Err x ≡ after (header_at bytes) (channels_at sample_size bytes)
+frame-parts_err sample_size bytes {header = header} {n = n} start body =
+    after-ok (channels_at sample_size bytes) start
+    (after-err {B = (FrameHeader × List (List ℤ)) × ℕ} (λ (found, k). Ok ((header, found), n + k)) body)
+
+-- the bytes from a place on, as a slice
+pub rest-all : (xs : List ℕ) (n : ℕ) → take (length xs - n) (drop n xs) ≡ drop n xs
+rest-all xs n = let size = length-drop n xs in take_all (length xs - n) (drop n xs) (omega (arith, size))
+
+-- ---- a checksum that holds lies within the bytes
+
+pub crc8-within : {u : Unit {0}} (bytes : List ℕ) (n : ℕ) → Ok u ≡ crc8_holds bytes n → n < length bytes
+crc8-within bytes n is = elim (cases_lt n (length bytes)) [
+  | inl less ↦ less
+  | inr most ↦ let none : Ok _ ≡ Err (Reader EndOfInput) = rw (le-ltb n (length bytes) most) at is in absurd (not-refused none)
+]

@@ -1,0 +1,21 @@
+use Rattle.std.proofs.Common.{◌∙◌, false, refl, sym}
+use Rattle.bitstream_io.specs.Callers.{High, memory_source}
+use Rattle.bitstream_io.proofs.CallerLemmas.{if_grown, slice_ends}
+use Rattle.flac_codec.proofs.FoundLemmas.{found-grown, found-own_err, rest-within}
+use Rattle.flac_codec.proofs.ResultLemmas.{seen_is}
+use Rattle.flac_codec.proofs.frame.find_header.Goals as goal
+
+pub returns-in_err-header-clause-found : goal.returns-in_err-header-clause-found
+returns-in_err-header-clause-found c =
+    seen_is _ _ _ c.from_residual.ensures.1
+    ∙ sym (found-own_err (memory_source High) refl c.args.bytes.now c.over-reader.ensures.state _ slice_ends c.in_err-header.ensures)
+
+pub overflow_sub-result : goal.overflow_sub-result
+overflow_sub-result c =
+    rest-within (memory_source High) refl c.args.bytes.now c.over-reader.ensures.state _ c.rest.result.now c.rest.ensures
+    (if_grown false c.in_ok-header.ensures)
+
+pub returns-clause-found : goal.returns-clause-found
+returns-clause-found c =
+    sym (found-grown (memory_source High) refl c.args.bytes.now c.over-reader.ensures.state _ c.rest.result.now c.rest.ensures
+    (if_grown false c.in_ok-header.ensures))
