@@ -1,5 +1,7 @@
+pub mod AdsbMessageLemmas
 pub mod ArpPacketLemmas
 pub mod CanFrameLemmas
+pub mod CoapHeaderLemmas
 pub mod DnsHeaderLemmas
 pub mod EthernetHeaderLemmas
 pub mod IcmpEchoLemmas
@@ -9,13 +11,17 @@ pub mod J1939FrameLemmas
 pub mod MacFrameControlLemmas
 pub mod ModbusHeaderLemmas
 pub mod Mp3HeaderLemmas
+pub mod NtpPacketLemmas
+pub mod NtpTimestampLemmas
 pub mod PngStartLemmas
 pub mod TcpHeaderLemmas
 pub mod TsHeaderLemmas
 pub mod UdpHeaderLemmas
 pub mod VlanTagLemmas
+mod AdsbMessageRows
 mod ArpPacketRows
 mod CanFrameRows
+mod CoapHeaderRows
 mod DnsHeaderRows
 mod EthernetHeaderRows
 mod IcmpEchoRows
@@ -25,6 +31,8 @@ mod J1939FrameRows
 mod MacFrameControlRows
 mod ModbusHeaderRows
 mod Mp3HeaderRows
+mod NtpPacketRows
+mod NtpTimestampRows
 mod PngStartRows
 mod TcpHeaderRows
 mod TsHeaderRows

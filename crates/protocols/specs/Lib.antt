@@ -1,5 +1,8 @@
+pub mod AdsbMessage
 pub mod ArpPacket
 pub mod CanFrame
+pub mod CoapHeader
+pub mod CoapHeaderFields
 pub mod DnsHeader
 pub mod EthernetHeader
 pub mod IcmpEcho
@@ -9,6 +12,8 @@ pub mod J1939Frame
 pub mod MacFrameControl
 pub mod ModbusHeader
 pub mod Mp3Header
+pub mod NtpPacket
+pub mod NtpTimestamp
 pub mod PngStart
 pub mod TcpHeader
 pub mod TsHeader

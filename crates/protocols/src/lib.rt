@@ -18,8 +18,10 @@
 //! - [`udp_header`]: the header of a UDP datagram
 #![tactic(auto)]
 
+pub mod adsb_message;
 pub mod arp_packet;
 pub mod can_frame;
+pub mod coap_header;
 pub mod dns_header;
 pub mod ethernet_header;
 pub mod icmp_echo;
@@ -29,6 +31,8 @@ pub mod j1939_frame;
 pub mod mac_frame_control;
 pub mod modbus_header;
 pub mod mp3_header;
+pub mod ntp_packet;
+pub mod ntp_timestamp;
 pub mod png_start;
 pub mod tcp_header;
 pub mod ts_header;
