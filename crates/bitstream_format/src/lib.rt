@@ -20,3 +20,4 @@
 #![tactic(auto)]
 
 pub mod examples;
+pub mod within;

@@ -9,7 +9,11 @@
 
 pub mod ack;
 pub mod event;
+pub mod extension;
+pub mod frame;
 pub mod mark;
 pub mod message;
 pub mod notes;
+pub mod packet;
+pub mod renegotiation;
 pub mod signal;
