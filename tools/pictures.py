@@ -194,7 +194,7 @@ HOLDS = {
     "bitstream_io": "all public names; call sequences; the theorem",
     "bitstream_format": "formats as values, with their laws",
     "bitstream_callers": "callers that the guide shows",
-    "bitstream_messages": "printed formats with choices",
+    "bitstream_messages": "printed formats, choices and sizes",
     "protocols": "headers of protocols, printed from descriptions",
     "bitstream_formats": "FLAC, H.264, AV1 and others",
     "bitfields_core": "layouts of bit fields",

@@ -175,7 +175,7 @@ def check_choice(it: m.Description, kind: m.Choose, names: set[str]) -> None:
     """Refuses a choice whose definitions have the names of other ones: those of the library, of a part or of a type."""
     s = m.snake(kind.type)
     modules = {use.module for one in it.kinds for use in m.uses(one)}
-    cases = {f"{kind.type}{arm.case}" for arm in kind.arms}
+    cases = {f"{kind.type}{arm.case}" for arm in kind.arms} | ({kind.unnamed} - {""})
     definitions = {f"{s}_{word}" for word in ("number", "read", "writes", "size", "fits", "small", "back", "packs")}
     taken = sorted(({s} & modules) | (cases & (names | TAKEN)) | (definitions & TAKEN))
     if taken:

@@ -7,6 +7,10 @@ from describing.model import snake
 from describing.names import Table, merged, spec_of
 from describing.specs.terms import called
 
+WITHIN = "Rattle.bitstream_format"
+SIZES = "is_end sized_decoder size_encoder within UnlessMemory"
+SIZE_LEMMAS = "sized-read size-back size-written within-ok within-err sized-grown"
+
 
 def enum_names(f: Format, line: Line, enum: m.EnumType) -> Table:
     """Returns where the names of an enum come from."""
@@ -44,8 +48,9 @@ def choice_names(f: Format, kind: m.Choose) -> Table:
     """Returns where the names of a choice come from."""
     base, words = f"{f.declared}.{kind.type}", ("number", "read", "writes", "size", "fits")
     cases = " ".join(f"{it.case}={kind.type}{it.case}" for it in kind.arms)
-    own = {f.specs_path: " ".join(f"{snake(kind.type)}_{it}" for it in words)}
-    return {base: kind.type, f"{base}.TheVariants": cases} | own
+    names = [f"{snake(kind.type)}_{it}" for it in words] + [f"{snake(kind.unnamed)}_read"] * bool(kind.unnamed)
+    other = {f"{f.declared}.{kind.unnamed}": kind.unnamed} if kind.unnamed else {}
+    return {base: kind.type, f"{base}.TheVariants": cases} | other | {f.specs_path: " ".join(names)}
 
 
 def line_names(f: Format, line: Line) -> Table:
@@ -53,6 +58,8 @@ def line_names(f: Format, line: Line) -> Table:
     if line.enum:
         return enum_names(f, line, line.enum)
     own = [choice_names(f, line.kind)] if isinstance(line.kind, m.Choose) else []
+    if line.measured:
+        own.append({f.specs_path: f"{line.name}_sized {line.name}_ended", f"{WITHIN}.specs.Within": SIZES})
     return merged(*own, *[part_names(f, it, it.use) for it in line.parts if it.use])
 
 
@@ -93,9 +100,9 @@ def line_lemmas(f: Format, line: Line) -> Table:
     """Returns where the lemmas of a line come from."""
     if line.enum:
         return {f.lemmas_path: f"{snake(line.enum.name)}_small {snake(line.enum.name)}_again"}
-    own = list[Table]()
+    own = [{f"{WITHIN}.proofs.WithinLemmas": SIZE_LEMMAS}] * bool(line.measured)
     if isinstance(line.kind, m.Choose):
-        own = [{f.lemmas_path: " ".join(f"{snake(line.kind.type)}_{it}" for it in ("small", "back", "packs"))}]
+        own += [{f.lemmas_path: " ".join(f"{snake(line.kind.type)}_{it}" for it in ("small", "back", "packs"))}]
     return merged(*own, *[part_lemmas(f, it.use) for it in line.parts if it.use])
 
 

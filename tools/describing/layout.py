@@ -24,7 +24,7 @@ class Line:
     `at` is the number of bits before it, or None if that is not a constant. `clause` names the clause of its refusal.
     `repeats` is true if an earlier line defines its enum. `inner` are the lines of a part, `shared` the cases of its
     enum whose names something else has in specs. `arms` are the cases of a choice, each with the line of the part that it
-    holds; `choice` is the choice whose tag it is.
+    holds; `choice` is the choice whose tag it is, and `measures` the line whose size it is.
     """
 
     kind: m.Printed
@@ -36,6 +36,7 @@ class Line:
     shared: frozenset[str] = frozenset()
     arms: tuple[tuple[m.Arm, Line | None], ...] = ()
     choice: m.Choose | None = None
+    measures: m.Measured | None = None
 
     @property
     def name(self) -> str:
@@ -77,7 +78,12 @@ class Line:
     @property
     def stops(self) -> bool:
         """True if its read may return an error of the format's own, after which nothing is read."""
-        return bool(self.error) or isinstance(self.kind, m.Part | m.Choose) and m.grows(self.kind)
+        return bool(self.error) or isinstance(self.kind, m.Part | m.Choose) and m.allocates(self.kind)
+
+    @property
+    def measured(self) -> m.Measured | None:
+        """The kind of the line, if an earlier line has its size."""
+        return self.kind if m.is_measured(self.kind) else None
 
     @property
     def parts(self) -> list[Line]:
@@ -90,7 +96,7 @@ class Line:
         match self.kind:
             case m.Array() | m.List():
                 return not isinstance(self.kind.item, m.Octet)
-        return isinstance(self.kind, m.Golomb | m.Part | m.Optional | m.If | m.Choose)
+        return isinstance(self.kind, m.Golomb | m.Part | m.Optional | m.If | m.Choose | m.Sized)
 
     def least(self, at: int = 0) -> int:
         """Returns the number of bytes that have all its bits."""
@@ -140,19 +146,16 @@ def lines_of(description: m.Description) -> tuple[Line, ...]:
     found: list[Line] = []
     shared, seen = shared_cases(description), set[int]()
     for index, kind in enumerate(description.kinds):
-        if isinstance(kind, m.Size | m.Sized | m.Fill | m.Rest | m.Until):
+        if isinstance(kind, m.Fill | m.Rest | m.Until):
             raise Refused(UNPRINTED, kind.at)
-        if isinstance(kind, m.Choose) and (kind.sized or m.any_octets(kind)):
-            raise Refused(UNPRINTED, kind.at)
-        if isinstance(kind, m.If) and any(isinstance(it, m.Tag) and it.name == kind.field for it in description.kinds):
-            raise Refused(UNPRINTED, kind.at)
+        check_printed(description, kind)
         enum, error, width = m.held_item(kind), m.error(kind), m.bits(kind)
         again = f"_{at}" if error in [it.error for it in found] else ""
         repeats = id(enum) in seen
         names = frozenset(enum.names()) & shared if isinstance(enum, m.EnumType) else frozenset[str]()
-        clause, choice = snake(error) + again, chosen_by(description, kind)
+        clause, choice, measures = snake(error) + again, chosen_by(description, kind), measured_by(description, kind)
         arms, inner = arm_lines(kind, index), inner_lines(kind)
-        found.append(Line(kind, index, at, clause, repeats, inner, names, arms, choice))
+        found.append(Line(kind, index, at, clause, repeats, inner, names, arms, choice, measures))
         seen.add(id(enum) if isinstance(enum, m.EnumType) else 0)
         at = None if at is None or width is None else at + width
     return tuple(found)
@@ -177,6 +180,37 @@ def arm_lines(kind: m.Printed, index: int) -> tuple[tuple[m.Arm, Line | None], .
     arms = kind.arms if isinstance(kind, m.Choose) else ()
     found = [(arm, m.Part(kind.at, kind.doc, "it", arm.held) if isinstance(arm.held, m.Use) else None) for arm in arms]
     return tuple((arm, Line(it, index, None, "", False, inner_lines(it)) if it else None) for arm, it in found)
+
+
+def measured_by(description: m.Description, kind: m.Printed) -> m.Measured | None:
+    """Returns the line whose size a line has."""
+    found = (
+        it for it in description.kinds if isinstance(kind, m.Size) and m.is_measured(it) and it.name == kind.target
+    )
+    return next(found, None)
+
+
+def check_printed(description: m.Description, kind: m.Printed) -> None:
+    """Refuses what only `--show` and `--pack` know of a line."""
+    tags = [it.name for it in description.kinds if isinstance(it, m.Tag)]
+    match kind:
+        case m.If(field=field) if field in tags:
+            raise Refused(UNPRINTED, kind.at)
+        case m.Sized(item=m.Octet()):
+            raise Refused(UNPRINTED, kind.at)
+        case m.Choose() if m.any_octets(kind) and not kind.sized:
+            raise Refused(f"{UNPRINTED}: a case holds bytes in code if a `size` line says how many", kind.at)
+        case m.Choose() if any(it.number is not None and isinstance(it.held, m.Octet) for it in kind.arms):
+            raise Refused(f"{UNPRINTED}: in code only the case for other numbers holds bytes", kind.at)
+        case m.Size() if kind.unit != 1 or kind.plus or kind.width > 32:
+            raise Refused(
+                f"{UNPRINTED}: a size of at most 32 bits, without `plus`, `less` and `by`, is printed", kind.at
+            )
+        case m.Optional() | m.If() | m.List() if any(m.ordered(use.description) for use in m.uses(kind)):
+            raise Refused("a part with sizes stands neither in a list nor behind a condition", kind.at)
+    for use in m.uses(kind):
+        if m.ordered(use.description) and use.description.order != description.order:
+            raise Refused(f"`{use.module}` has sizes, so its order must be {description.order} as here", kind.at)
 
 
 def chosen_by(description: m.Description, kind: m.Printed) -> m.Choose | None:
@@ -209,7 +243,8 @@ class Format:
         self.made = f"Made by `./format` from {path}: edit that file and make this one anew."
         self.type, self.doc, self.error = description.name, description.doc, description.error
         self.total, self.order, self.o = description.bits, description.order, ORDERS[description.order]
-        self.grows = any(m.grows(it.kind) for it in self.lines)  # the read allocates memory
+        self.grows = any(m.allocates(it.kind) for it in self.lines)  # the read allocates memory
+        self.ordered = m.ordered(description)  # code reads it in its own order alone
         self.own, self.sized, self.e = bool(self.error) or self.grows, self.total is not None, self.error or "Error"
         self.becomes_name = f"becomes_{module}" if self.error else "same_error"
         self.fields = [it for it in self.lines if it.is_field]
@@ -252,7 +287,9 @@ class Format:
     def mapped(self, kind: m.Printed) -> bool:
         """Returns true if errors of a part become errors of the format."""
         for use in m.uses(kind):
-            return bool(use.description.error or isinstance(kind, m.Part) and m.has_list(use) and self.error)
+            return bool(
+                use.description.error or isinstance(kind, m.Part | m.Sized) and m.allocating(use) and self.error
+            )
         return False
 
     def is_first(self, line: Line) -> bool:

@@ -342,6 +342,11 @@ class Choose(Field):
         return "" if self.other or self.total else f"No{self.type}"
 
     @property
+    def unnamed(self) -> str:
+        """The type of another number with the bytes after it, or an empty text."""
+        return f"{self.other.case}{self.type}" if self.other and isinstance(self.other.held, Octet) else ""
+
+    @property
     def tested(self) -> tuple[Arm, ...]:
         """The cases whose numbers are compared: all but the case that is left."""
         return self.arms[:-1] if self.other or self.total else self.arms
@@ -375,8 +380,9 @@ Kind: TypeAlias = Described | Hidden
 # The kinds of which code is printed.
 Printed: TypeAlias = (
     Bool | Number | NonZero | MaybeNonZero | Enum | Array | Unary | Groups | Golomb | Part | Optional | If | List
-    | Const | Skip | Flag | Count | Tag | Choose
+    | Const | Skip | Flag | Count | Tag | Choose | Size | Sized
 )  # fmt: skip
+Measured: TypeAlias = Sized | Choose
 
 
 def is_field(kind: Kind) -> TypeGuard[Described]:
@@ -531,6 +537,26 @@ def grows(kind: Kind) -> bool:
 def has_list(use: Use) -> bool:
     """Returns true if a part has a list."""
     return any(grows(it) for it in use.description.kinds)
+
+
+def is_measured(kind: Kind) -> TypeGuard[Measured]:
+    """Returns true if an earlier line has the size of this line, which is printed in code."""
+    return isinstance(kind, Sized) or isinstance(kind, Choose) and kind.sized
+
+
+def ordered(description: Description) -> bool:
+    """Returns true if a description, or a part of it, has sizes: code reads it in its own order of bits alone."""
+    return any(is_measured(it) or any(ordered(use.description) for use in uses(it)) for it in description.kinds)
+
+
+def allocates(kind: Kind) -> bool:
+    """Returns true if the read of a line asks for memory: for its value, or for the bytes of its size."""
+    return grows(kind) or is_measured(kind) or any(allocating(it) for it in uses(kind))
+
+
+def allocating(use: Use) -> bool:
+    """Returns true if the read of a part asks for memory."""
+    return any(allocates(it) for it in use.description.kinds)
 
 
 def item_type(item: Item) -> str:

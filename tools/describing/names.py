@@ -6,7 +6,7 @@ from typing import TypeAlias
 
 Table: TypeAlias = dict[str, str]  # the names of each module, with blanks between them
 
-SYMBOLS = {it: f"◌{it}◌" for it in "≡ ≢ ∷ ++ ^ < ≤ + - * ∙ == ⊎ ↔".split()}
+SYMBOLS = {it: f"◌{it}◌" for it in "≡ ≢ ∷ ++ ^ < ≤ + - * / ∙ == ⊎ ↔".split()}
 SYMBOLS |= {"[]": "[]", "if": "if◌then◌else◌", "←": "◌>>=◌"}
 TOKEN = re.compile(r"\+\+|==|\[\]|[^\W\d][\w]*(?:-[^\W\d][\w]*)*(?:-\d+)?|\S")
 
@@ -25,7 +25,7 @@ def table(text: str) -> Table:
 # In specs, and in the contracts of code.
 SPECS = table(
     """
-Rattle.std.specs.Prelude: ≡ ≢ ^ < ≤ + - * ++ ∷ [] == ⊎ if ℕ ℤ Bool true false List Result Ok Err Option Some None
+Rattle.std.specs.Prelude: ≡ ≢ ^ < ≤ + - * / ++ ∷ [] == ⊎ if ℕ ℤ Bool true false List Result Ok Err Option Some None
     is_some length take drop map ⊤ IfOk IsOk unsigned_abs not nat_lt nat_le
 Rattle.std.specs.List: All flat_map
 Rattle.std.specs.Option: ForSome
@@ -57,7 +57,7 @@ SPECS |= {f"Rattle.std.specs.declared.num.NonZeroU{n}": f"NonZeroU{n}" for n in 
 # In proofs. A name comes from the first module that has it.
 PROOFS = table(
     """
-Rattle.std.proofs.Common: w8 w16 w32 w64 ≡ ≢ ^ < ≤ + - * ++ ∷ [] == ⊎ ∙ ℕ ℤ Bool true false List Result Ok Err Option Some None length
+Rattle.std.proofs.Common: w8 w16 w32 w64 ≡ ≢ ^ < ≤ + - * / ++ ∷ [] == ⊎ ∙ ℕ ℤ Bool true false List Result Ok Err Option Some None length
     refl ap sym subst arith rules
 Rattle.std.specs.Prelude: is_some if take drop pos negsuc map
 Rattle.std.specs.Int: w128
@@ -84,13 +84,14 @@ Rattle.bitstream_io.proofs.CallerLemmas: RoundTrip Finds Packs inl inr is_error 
     items-begin items-push items-stop items-refused grown written-begin written-more written-stop
     non_zero_u8-again non_zero_u16-again non_zero_u32-again non_zero_u64-again non_zero_u128-again
     option_u8-again option_u16-again option_u32-again option_u64-again option_u128-again
-Rattle.bitstream_io.proofs.EachLemmas: all-made own_map_err own_optional-back each_part-back made-each packs-made made_items-back
+Rattle.bitstream_io.proofs.GrowsLemmas: go_grown stop_grown grown_end vec-grown
+Rattle.bitstream_io.proofs.EachLemmas: grown_made all-made own_map_err own_optional-back each_part-back made-each packs-made made_items-back
     made_items-finds part_items-finds part_items-misses all_ok-items made-put made-all made-stop
 Rattle.bitstream_io.proofs.GolombLemmas: ue-back ue-packs se-back se-packs
 Rattle.std.proofs.lemmas.List: map-id length-set
 Rattle.bitstream_io.proofs.SliceLemmas: new_answer
 Rattle.bitstream_io.proofs.ReadsLemmas: map_err
-Rattle.bitstream_io.proofs.CallsBack: signed_vbr-back any_signed_vbr-back mapped-read then_made-read
+Rattle.bitstream_io.proofs.CallsBack: signed_vbr-back any_signed_vbr-back mapped-read then_made-read bytes-read
 Rattle.bitstream_io.proofs.WriteParts: all_none
 """
 )
@@ -130,13 +131,14 @@ UNFOLDS: Table = {
     "Grows": "parts_decoder",
     "NonZero": "non_zero non_zero_decoder option_decoder",
     "Vbr": "groups groups_at",
+    "Rattle.bitstream_format.specs.Within": "size_encoder",
 }
 
 
 def modules_of(unfolded: set[str]) -> Table:
     """Returns the modules of the definitions that proofs unfold."""
     named = {place: " ".join(it for it in names.split() if it in unfolded) for place, names in UNFOLDS.items()}
-    return {f"Rattle.bitstream_io.specs.{place}": names for place, names in named.items() if names}
+    return {it if "." in it else f"Rattle.bitstream_io.specs.{it}": names for it, names in named.items() if names}
 
 
 def uses(text: str, *tables: Table, begins: str = "use ", ends: str = "") -> list[str]:

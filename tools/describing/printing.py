@@ -94,9 +94,11 @@ def printed(descriptions: Mapping[str, str], folder: str) -> list[tuple[Format, 
 
 def listed(f: Format, root: str) -> dict[str, list[str]]:
     """Returns the lines that name the files, by the file that has them; `root` is the root file of the crate."""
+    unnamed = any(isinstance(it.kind, m.Choose) and it.kind.unnamed for it in f.lines)
+    others = [f"pub mod {f.spec}Bytes"] * unnamed
     return {
         root: ["pub " * (root == "src/lib.rt") + f"mod {f.m};"],
-        "specs/Lib.antt": [f"pub mod {f.spec}"] + [f"pub mod {f.spec}Fields"] * f.grows,
+        "specs/Lib.antt": [f"pub mod {f.spec}"] + [f"pub mod {f.spec}Fields"] * f.grows + others,
         "proofs/Lib.antt": [f"pub mod {f.spec}Lemmas"] + [f"mod {f.spec}Rows"] * bool(f.description.examples),
     }
 

@@ -1,2 +1,3 @@
 mod DhcpLemmas
 mod Rows
+pub mod WithinLemmas

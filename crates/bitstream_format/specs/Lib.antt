@@ -4,5 +4,6 @@ pub mod Atoms
 pub mod Lists
 pub mod Choices
 pub mod Sizes
+pub mod Within
 pub mod Places
 pub mod Examples

@@ -1,8 +1,17 @@
 pub mod Ack
 pub mod Event
+pub mod Extension
+pub mod ExtensionBytes
+pub mod ExtensionFields
+pub mod Frame
+pub mod FrameFields
 pub mod Mark
 pub mod Message
 pub mod MessageFields
 pub mod Notes
 pub mod NotesFields
+pub mod Packet
+pub mod PacketFields
+pub mod Renegotiation
+pub mod RenegotiationFields
 pub mod Signal

@@ -1,15 +1,21 @@
-//! Formats whose parts depend on tags, as `./format` prints them from the descriptions in `formats/`.
+//! Formats with choices and sizes, as `./format` prints them from the descriptions in `formats/`.
 //!
 //! - [`message`]: a body of one of several types, chosen by a tag: a Rust enum, and no field that could
 //!   contradict it
 //! - [`signal`]: choices with a case for all other numbers, or whose cases have all numbers
 //! - [`event`]: a choice by a field before it
-//! - [`ack`], [`mark`], [`notes`]: the parts that they hold
+//! - [`packet`], [`frame`]: parts behind their size in bytes, which limits the reader
+//! - [`extension`]: an extension of a TLS hello; an unknown one keeps its bytes
+//! - [`ack`], [`mark`], [`notes`], [`renegotiation`]: the parts that they hold
 #![tactic(auto)]
 
 pub mod ack;
 pub mod event;
+pub mod extension;
+pub mod frame;
 pub mod mark;
 pub mod message;
 pub mod notes;
+pub mod packet;
+pub mod renegotiation;
 pub mod signal;

@@ -6,6 +6,7 @@ from typing import assert_never
 from describing import model as m
 from describing.layout import Format, Line
 from describing.model import snake
+from describing.specs.sizes import overrun
 from describing.specs.terms import (
     bit,
     entry,
@@ -13,6 +14,10 @@ from describing.specs.terms import (
     enum_shape,
     groups_call,
     here,
+    inside,
+    measured_module,
+    measured_size,
+    measured_writes,
     if_there,
     item_writes,
     known,
@@ -66,8 +71,18 @@ def back(f: Format, line: Line, behind: str) -> str:
             assert line.choice
             number, small_tag = tag_number(line), choice_small(line.choice)
             return f"unsigned-back o {kind.width} _ _ {tag_bits(kind.width)} ({number}) _ refl {small_tag} ({behind})"
+        case m.Size():
+            assert line.measures
+            width, size = kind.width, measured_size(line.measures, "High")
+            shown = f"({measured_writes(line.measures, 'High')}) _ _ ({size}) _"
+            return f"size-back o {width} {shown} {size_facts(line)} ({behind})"
+        case m.Sized():
+            read = f"{kind.name}_sized o ({measured_size(kind, 'High')} / 8)"
+            return f"part-back ({read}) _ ({word(line)}) _ (Ok {term}) _ {kind.name} ({behind})"
         case m.Choose():
             read = f"{snake(kind.type)}_read o {chosen(f, kind)}"
+            if kind.sized:
+                read = f"{kind.name}_sized o {chosen(f, kind)} ({measured_size(kind, 'High')} / 8)"
             return f"part-back ({read}) _ ({word(line)}) _ {answered(line, term)} _ {kind.name} ({behind})"
         case m.List():
             return list_back(f, line, kind, behind)
@@ -122,6 +137,18 @@ def choice_small(kind: m.Choose) -> str:
 def chosen(f: Format, kind: m.Choose) -> str:
     """Returns the number that selects the case of a choice that was written."""
     return written_number(f, kind) if tag_of(f, kind) is None else f"({snake(kind.type)}_number value.{kind.name})"
+
+
+def size_facts(line: Line) -> str:
+    """Returns the facts about a size: what has it is accepted, and its number of bytes fits."""
+    assert isinstance(line.kind, m.Size) and line.measures
+    few = f"(let few = fits.{line.name} in omega (arith, few))"
+    return f"({measured_packs(line.measures, 'High')}) {few} refl fits.{line.name}"
+
+
+def measured_packs(kind: m.Measured, order: str) -> str:
+    """Returns the term that the writes of a part are accepted, in an order of bits."""
+    return f"{measured_module(kind)}_packs {order} value.{kind.name} fits.{kind.name}"
 
 
 def again(kind: m.Enum) -> str:
@@ -220,10 +247,21 @@ def choice_back(f: Format, line: Line, kind: m.Choose) -> str:
     """Returns the term that the case of a choice is read back, behind a tag or by an earlier field."""
     s, term = snake(kind.type), value(line)
     back = f"{s}_back o {term} fits.{kind.name}"
-    if tag_of(f, kind):
+    if not tag_of(f, kind):
+        size = f" ({measured_size(kind, 'High')} / 8)" * bool(kind.unnamed)
+        read = f"IsReadAs ({word(line)}) ({s}_read o number{size}) {answered(line, term)}"
+        back = f"subst (λ (number : ℕ). {read}) fits.{kind.name}_tag ({back})"
+    if not kind.sized:
         return back
-    read = f"IsReadAs ({word(line)}) ({s}_read o number) {answered(line, term)}"
-    return f"subst (λ (number : ℕ). {read}) fits.{kind.name}_tag ({back})"
+    size = f" ({measured_size(kind, 'High')} / 8)" * bool(kind.unnamed)
+    return sized_back(f, line, kind, f"{s}_read o {chosen(f, kind)}{size}", f"({back})")
+
+
+def sized_back(f: Format, line: Line, kind: m.Measured, read: str, back: str) -> str:
+    """Returns the term that a part is read back over the bytes of its size, from the term that it is read back."""
+    shape = f"(λ o. {read}) {overrun(kind)} (λ error. Reader error) {kind.name}_ended o"
+    packs = f"(packs-is ({measured_packs(kind, 'o')}) (fits.{kind.name}_whole o))"
+    return f"sized-read {shape} ({measured_size(kind, 'High')} / 8) ({word(line)}) {value(line)} {packs} {back}"
 
 
 def lets(f: Format, line: Line) -> list[str]:
@@ -239,4 +277,10 @@ def lets(f: Format, line: Line) -> list[str]:
             return [f"let {kind.name} = {moved} in"]
         case m.Choose():
             return [f"let {kind.name} = {choice_back(f, line, kind)} in"]
+        case m.Sized(item=m.Use() as use):
+            inner = is_read(f, line, use, value(line), f"fits.{kind.name}")
+            if not f.mapped(kind):
+                writes, read = f"({word(line)})", f"({use.module}_decoder o)"
+                inner = f"(mapped-read (λ v. Ok v) {writes} {read} {value(line)} {inner})"
+            return [f"let {kind.name} = {sized_back(f, line, kind, inside(f, line, 'o'), inner)} in"]
     return []

@@ -33,7 +33,7 @@ def contract(error: str, grows: bool) -> str:
 
 def part_contract(use: m.Use) -> str:
     """Returns the contract of the read of a part."""
-    return contract(use.description.error, m.has_list(use))
+    return contract(use.description.error, m.allocating(use))
 
 
 def becomes(error: str, module: str) -> str:
@@ -72,8 +72,10 @@ def read_call(f: Format, line: Line) -> tuple[str, str, str]:
             return own_read(f, part_contract(use), becomes(use.description.error, use.module)), "", ""
         case m.Optional() | m.If():
             return own_read(f, OWN if line.error else PLAIN, f.becomes_name), "", ""
+        case m.Sized():
+            return "growing part", "", ""
         case m.Choose():
-            return own_read(f, contract(line.error, m.grows(kind)), f.becomes_name), "", ""
+            return own_read(f, contract(line.error, m.allocates(kind)), f.becomes_name), "", ""
         case m.List():
             if isinstance(kind.item, m.Octet):
                 return "growing", "reads", ""
@@ -163,8 +165,10 @@ class Writes:
                 return "call", "pad", "writes", ""
             case m.Unary():
                 return "call", "write_unary", "writes", ""
-            case m.Part() | m.Choose():
+            case m.Part() | m.Choose() | m.Sized():
                 return "list", "write", "", ""
+            case m.Size():
+                return "value", "write_size", "", ""
             case m.Optional() | m.If():
                 return "list", f"write_{snake(kind.use.name)}_if", "", ""
             case m.Array() | m.List():
@@ -180,6 +184,8 @@ class Writes:
                 return (f"c.{self.steps.next('is_some')}.ensures",)
             case m.Enum() | m.Tag():
                 return (f"c.{self.steps.next('number')}.ensures",)
+            case m.Size():
+                return (f"size-wrote _ _ _ _ _ _ _ _ c.{self.steps.next('bits')}.ensures.counts",)
             case m.Count():
                 length = f"{self.fields}.{kind.target}.ok.0"
                 return (f"(c.{self.steps.next('len')}.ensures ∙ {length})",)

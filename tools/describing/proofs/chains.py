@@ -155,6 +155,7 @@ LEMMAS = {
     CALLER + "ReadSteps": "next_signed_read",
     "Rattle.std.proofs.lemmas.Int": "to_z-of_z",
     CALLER + "ReadsLemmas": "Reads-and_then-ok Reads-pure exit",
+    "Rattle.bitstream_format.proofs.WithinLemmas": "size-wrote",
     CALLER + "WriteParts": "all_append all_none all_one all_stop",
     CALLER + "WriteSteps": "next_call next_write next_signed next_signed_call stop_call stop_write stop_signed"
     " stop_signed_call signed_value",
@@ -202,6 +203,10 @@ class Answers:
             raise UnknownCall(call.line, f"`{call.step}` {where}")
         fact = f"c.{arm}.ensures" + (f".{call.fact}" if call.fact else "")
         for known in call.known:
+            if known.startswith("size-wrote"):
+                self.used.add("size-wrote")
+                fact = f"({known} {fact})"
+                continue
             fact = f"(rw {known} at {fact})"
             self.used |= {"◌∙◌"} if "∙" in known else set()
         if table is LAST and self.signed:

@@ -18,19 +18,21 @@ def lemmas(f: Format, line: Line, kind: m.Choose) -> list[str]:
     s, ok = snake(kind.type), "(Ok it)" if line.stops else "it"
     out = ["-- the number of each case fits its bits"]
     out += [f"{s}_small : (it : {kind.type}) → {s}_fits it → {s}_number it < 2 ^ {kind.width}"]
-    small = {True: "fits" if not kind.tested else "fits.0", False: "omega arith"}
+    small = {True: "fits.0", False: "omega arith"}
     out += [f"{s}_small {pattern(kind, arm)} fits = {small[arm.number is None]}" for arm in kind.arms]
-    read = f"IsReadAs ({s}_writes o it) ({s}_read o ({s}_number it)) {ok}"
+    size = f" ({s}_size High it / 8)" * bool(kind.unnamed)
+    read = f"IsReadAs ({s}_writes o it) ({s}_read o ({s}_number it){size}) {ok}"
     out += ["", "-- each case is read back behind its number"]
     out += [f"{s}_back : (o : Order) (it : {kind.type}) → {s}_fits it → {read}"]
     out += [f"{s}_back o {pattern(kind, arm)} fits = {case_back(f, line, kind, arm, part)}" for arm, part in line.arms]
     out += ["", "-- the writes of each case are accepted, and its size is their number of bits"]
-    packs = f"Packs ({s}_writes o it) ({s}_size o it)"
-    out += [f"{s}_packs : (o : Order) (it : {kind.type}) → {s}_fits it → {packs}"]
+    says = f"Packs ({s}_writes o it) ({s}_size o it)"
+    out += [f"{s}_packs : (o : Order) (it : {kind.type}) → {s}_fits it → {says}"]
     for arm, part in line.arms:
-        out.append(
-            f"{s}_packs o {pattern(kind, arm)} fits = {f'{module(part)}_packs o it fits' if part else 'packs-none'}"
-        )
+        packs = f"{module(part)}_packs o it fits" if part else "packs-none"
+        if arm.held and not part:
+            packs = "packs-is (packs-more (bytes-written o (length it.bytes) it.bytes refl) packs-none) (omega arith)"
+        out.append(f"{s}_packs o {pattern(kind, arm)} fits = {packs}")
     return [*out, ""]
 
 
@@ -45,8 +47,24 @@ def case_back(f: Format, line: Line, kind: m.Choose, arm: m.Arm, part: Line | No
         return f"mapped-read (λ v. {answer}) {writes} ({here(f, part)}) it {read}"
     if arm.number is not None:
         return "λ len p more. refl"
+    if arm.held:
+        return unnamed_back(kind)
     misses = ", ".join(f"ne_eqb n {it.number} fits.{k + 1}" for k, it in enumerate(kind.tested))
     return f"λ len p more. rw ({misses}) refl"
+
+
+def unnamed_back(kind: m.Choose) -> str:
+    """Returns the term that another number is read back, with the bytes after it."""
+    misses = ", ".join(f"ne_eqb it.number {it.number} fits.{k + 1}" for k, it in enumerate(kind.tested))
+    s, writes, count = snake(kind.unnamed), "(buffer o it.bytes ∷ [])", "(8 * length it.bytes / 8)"
+    record = "(λ bytes. Ok (record { number = it.number; bytes = bytes }))"
+    octets = f"(bytes-read o it.bytes fits.{len(kind.tested) + 1})"
+    read = f"mapped-read {record} {writes} (vec_decoder o (length it.bytes)) it.bytes {octets}"
+    same = "(let same : length it.bytes ≡ 8 * length it.bytes / 8 = omega arith in same)"
+    whole = f"(subst (λ (k : ℕ). IsReadAs {writes} ({s}_read o it.number k) (Ok it)) {same} ({read}))"
+    case = f"(λ v. {kind.type}{kind.other.case if kind.other else ''} v)"
+    made = f"then_made-read ({s}_read o it.number {count}) {case} {writes} it {whole}"
+    return f"λ len p more. rw ({misses}) (({made}) len p more)"
 
 
 # ---- answers
@@ -57,8 +75,25 @@ def number_answers(f: Format, kind: m.Choose) -> list[str]:
     out = [f"use {f.goals}.{kind.type}.number.Goals as goal"]
     for arm in kind.arms:
         goal = f"returns-in-{arm.case}"
-        out += ["", f"pub {goal} : goal.{goal}", f"{goal} c = rw c.in-{arm.case}.is refl"]
+        known = f"c.in-{arm.case}.is"
+        if isinstance(arm.held, m.Octet):  # by the model of its bytes
+            known = f"({known}, ← c.it.view_is)"
+        out += ["", f"pub {goal} : goal.{goal}", f"{goal} c = rw {known} refl"]
     return out
+
+
+def unnamed_answers(f: Format, kind: m.Choose) -> dict[str, str]:
+    """Returns the answers of the read and the write of another number with the bytes after it."""
+    goals = f"{f.goals}.{kind.unnamed}"
+    read, write = Answers(GROWING, "", "", True), Answers("WritesAll", "", "rw (← c.self.view_is)", True)
+    reads = read.all([Call("growing", "reads", "bytes", "")])
+    call = Call("call", "writes", "write_bytes", "", known=("c.deref.ensures.value",))
+    writes = write.all([call])
+    made = f"-- {f.made}\n"
+    return {
+        f"{kind.unnamed}/read": "\n\n".join([made + read.uses(f"{goals}.read.Goals"), *reads]),
+        f"{kind.unnamed}/write": "\n\n".join([made + write.uses(f"{goals}.write.Goals"), *writes]),
+    }
 
 
 def write_answers(f: Format, line: Line, kind: m.Choose) -> list[str]:
@@ -66,7 +101,7 @@ def write_answers(f: Format, line: Line, kind: m.Choose) -> list[str]:
     out = [f"use {f.goals}.{kind.type}.write.Goals as goal"]
     for arm, part in line.arms:
         goal = f"returns-in-{arm.case}"
-        if not part:
+        if not arm.held:
             out += ["", f"pub {goal} : goal.{goal}", f"{goal} g c = rw c.in-{arm.case}.is (all_none _ _)"]
     return out
 
@@ -80,7 +115,7 @@ def answers(f: Format, line: Line, kind: m.Choose) -> Printed:
 
 def read_contract(f: Format, line: Line) -> str:
     """Returns the contract of the read of a choice."""
-    return GROWING if m.grows(line.kind) else contract(line.error, False)
+    return GROWING if m.allocates(line.kind) else contract(line.error, False)
 
 
 def read_answers(f: Format, line: Line, kind: m.Choose) -> str:
@@ -95,7 +130,10 @@ def read_answers(f: Format, line: Line, kind: m.Choose) -> str:
         front.append(f"{fails} (ne_eqb _ {arm.number} c.if-{label}.false)")
         answers.used |= {"eq-eqb", "ne_eqb"}
     last = None if kind.unknown else line.arms[-1][1]
-    found += case_answers(f, answers, labels, front, "returns", last)
+    if kind.unnamed:
+        found += arm_answers(answers, labels, front, "returns", "growing part")
+    else:
+        found += case_answers(f, answers, labels, front, "returns", last)
     goals = f"{f.goals}.{kind.type}.read.Goals"
     return "\n\n".join([f"-- {f.made}\n{answers.uses(goals)}", *found])
 
@@ -104,11 +142,17 @@ def case_answers(
     f: Format, answers: Answers, labels: Labels, front: list[str], goal: str, part: Line | None
 ) -> list[str]:
     """Returns the answers of one case: its part may be refused, and else the read ends."""
-    end = answers.term(END[answers.kind])
     if not part or not part.use:
-        return [answers.answer(goal, [*front, end])]
-    use, arm = part.use, labels.next("read")
-    call = Call(own_read(f, part_contract(use), becomes(use.description.error, use.module)), "", arm, arm)
+        return [answers.answer(goal, [*front, answers.term(END[answers.kind])])]
+    use = part.use
+    form = own_read(f, part_contract(use), becomes(use.description.error, use.module))
+    return arm_answers(answers, labels, front, goal, form)
+
+
+def arm_answers(answers: Answers, labels: Labels, front: list[str], goal: str, form: str) -> list[str]:
+    """Returns the answers of a case whose read has this form."""
+    end, arm = answers.term(END[answers.kind]), labels.next("read")
+    call = Call(form, "", arm, arm)
     residual = f"c.from_residual{f'-in_err-{arm}' * (arm != 'read')}.ensures.1"
     stop = answers.of_call(call, STOP, f"in_err-{arm}", residual)
     go = answers.of_call(call, NEXT, f"in_ok-{arm}")

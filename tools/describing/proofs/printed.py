@@ -5,7 +5,7 @@ from describing import model as m
 from describing.imports import own_lemmas, own_specs, parts_lemmas, types
 from describing.layout import Format, Line
 from describing.names import PROOFS, Table, modules_of, uses
-from describing.proofs import choices, enums, lists, parts
+from describing.proofs import choices, enums, lists, parts, sizes
 from describing.proofs.laws import lemmas
 from describing.proofs.parse import parse_lines
 from describing.proofs.rows import rows
@@ -35,6 +35,8 @@ def answer_files(f: Format) -> dict[str, str]:
         answers |= line_answers(f, it)
         if isinstance(it.kind, m.Choose):
             found[answers_path(f, f"{it.kind.type}/read")] = choices.read_answers(f, it, it.kind)
+            unnamed = choices.unnamed_answers(f, it.kind) if it.kind.unnamed else {}
+            found |= {answers_path(f, path): said for path, said in unnamed.items()}
     return found | {answers_path(f, path): text(f, [], lines, own_lemmas(f)) for path, lines in answers.items()}
 
 
@@ -71,6 +73,9 @@ def line_answers(f: Format, line: Line) -> Answers:
         found |= parts.answers(f, it, it.use) if it.use else {}
     if isinstance(kind, m.Choose):
         found |= choices.answers(f, line, kind)
+        found |= to_answers(f, kind.type) if kind.sized else {}
+    if line.measured:
+        found |= sizes.answers(f, line, line.measured)
     if isinstance(kind, m.List) and not isinstance(kind.item, m.Octet):
         found |= lists.answers(f, line, kind)
     return found
@@ -96,9 +101,14 @@ def traits(f: Format) -> Answers:
     """Returns the answers of the impls of the traits of the library."""
     around = "" if f.own else "plainly_read "
     read = f"record {{ reads = {around}c.read.ensures }}"
-    write = "record { writes = plainly_written _ _ _ _ _ c.write.ensures }"
     found = answer(f, f"{f.type}FromBitStream{'Using' * f.grows}/from_reader", ("returns", "g c", read))
-    return found | answer(f, f"{f.type}ToBitStream/to_writer", ("returns", "g c", write))
+    return ({} if f.ordered else found) | to_answers(f, f.type)
+
+
+def to_answers(f: Format, type: str) -> Answers:
+    """Returns the answers of the impl of `ToBitStream` for a type."""
+    write = "record { writes = plainly_written _ _ _ _ _ c.write.ensures }"
+    return answer(f, f"{type}ToBitStream/to_writer", ("returns", "g c", write))
 
 
 def pack(f: Format) -> Answers:

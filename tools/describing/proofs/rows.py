@@ -26,7 +26,7 @@ def term(line: Line, value: Value, within: str = "") -> str:
             return list_term(line, kind.item, value, within)
         case m.Enum():
             return case_term(line, value, within)
-        case m.Part():
+        case m.Part() | m.Sized():
             return record_term(line, value)
         case m.Choose():
             return choice_term(line, kind, value, within)
@@ -74,7 +74,16 @@ def choice_term(line: Line, kind: m.Choose, value: Value, within: str) -> str:
     assert isinstance(value, dict)
     case, held = next(iter(value.items()))
     part = next(part for arm, part in line.arms if arm.case == case)
+    if isinstance(held, dict) and not part:
+        octets = "".join(f"{it} ∷ " for it in bytes_in(held["bytes"]))
+        return f"{within}{kind.type}{case} (record {{ number = {number(held['number'])}; bytes = {octets}[] }})"
     return f"{within}{kind.type}{case} " + (f"({record_term(part, held)})" if part else str(number(held)))
+
+
+def bytes_in(value: Value) -> bytes:
+    """Returns a value that is bytes."""
+    assert isinstance(value, bytes)
+    return value
 
 
 def list_term(line: Line, item: m.Item, value: Value, within: str) -> str:
@@ -110,7 +119,7 @@ def row(f: Format, k: int, data: bytes, said: dict[str, Value] | str, unfolds: l
 
 def refused_row(f: Format, k: int, said: str, unfolds: list[str]) -> list[str]:
     """Returns that the bytes are refused with an error."""
-    own = any(it.error == said for it in f.lines)
+    own = any(case == said for it in f.tests for case, _ in m.refusals(it.kind))
     answer = f"Ok (Err {said})" if own else f"Err {said}"
     return [
         f"refused_{k} : sure_answer (({f.m}_decoder {f.o}).reads 0 (bits {f.o} row_{k})) ≡ {answer}",

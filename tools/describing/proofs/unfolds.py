@@ -28,6 +28,8 @@ def unfolds(line: Line) -> list[str]:
             return ["skip_decoder"]
         case m.Enum() | m.Count() | m.Tag():
             return [*NUMBER]
+        case m.Size():
+            return [*NUMBER, "size_encoder"]
         case m.Unary():
             return ["unary_decoder"]
         case m.Groups():
@@ -38,8 +40,9 @@ def unfolds(line: Line) -> list[str]:
             return of_items(line, kind)
         case m.Part() | m.Optional() | m.If():
             return [*of_lines(line.inner)]
-        case m.Choose():
-            return [it for part in line.parts for it in of_lines(part.inner)]
+        case m.Choose() | m.Sized():
+            within = ["bytes_decoder", "bytes_of"] * bool(line.measured)
+            return [*within, *(it for part in line.parts for it in of_lines(part.inner))]
     assert_never(kind)
 
 

@@ -5,13 +5,23 @@ from typing import assert_never
 
 from describing import model as m
 from describing.layout import Line
-from describing.model import snake
-from describing.proofs.back import choice_small, each_is, enum_items_shape, items_known, items_shape, small
+from describing.proofs.back import (
+    choice_small,
+    each_is,
+    enum_items_shape,
+    items_known,
+    items_shape,
+    measured_packs,
+    size_facts,
+    small,
+)
 from describing.specs.terms import (
     bit,
     enum_number,
     enum_shape,
     groups_number,
+    measured_size,
+    measured_writes,
     non_zero,
     or_zero,
     shape,
@@ -58,8 +68,12 @@ def written(line: Line) -> str:
             assert line.choice
             number, width = tag_number(line), tag_bits(kind.width)
             return f"unsigned-written o {width} {kind.width} ({number}) refl {choice_small(line.choice)}"
-        case m.Choose():
-            return f"{snake(kind.type)}_packs o {term} fits.{kind.name}"
+        case m.Size():
+            assert line.measures
+            shown = f"({measured_writes(line.measures, 'High')}) ({measured_size(line.measures, 'High')})"
+            return f"size-written o {kind.width} {shown} {size_facts(line)}"
+        case m.Choose() | m.Sized():
+            return measured_packs(kind, "o")
         case m.List():
             return list_written(line, kind)
         case m.Part():

@@ -68,6 +68,8 @@ def imports(line: Line) -> list[str]:
         found.append(f"crate::{use.module}::{f'{{{use.name}, {error}}}' if error else use.name}")
     if isinstance(kind, m.List) and line.error:
         found.append("std::alloc::AllocFailed")
+    if line.measured:
+        found.append("bitstream_format::within::{is_end, write_size}")
     return found
 
 
@@ -98,21 +100,33 @@ def refusal(line: Line) -> str:
 def error_cases(line: Line) -> dict[str, list[str]]:
     """Returns the cases of the error for a line, each with its text."""
     kind = line.kind
+    if isinstance(kind, m.Sized):
+        inner = {it: error_case(line) for it, held in m.refusals(kind) if held}
+        return overrun_case(kind.name, kind.error) | inner
     if not isinstance(kind, m.Choose):
         return {line.error: error_case(line)} if line.error else {}
     why = f"The number before `{kind.name}` is that of no case of `{kind.type}`."
     if kind.by != kind.name:
         why = f"`{kind.by}` is the number of no case of `{kind.type}`."
     own = {kind.unknown: [f"    /// {why}", f'    #[error("{shown(why)}")]', f"    {kind.unknown},"]}
-    return (own if kind.unknown else {}) | {it.error: error_case(it) for it in line.parts if it.error}
+    own = (own if kind.unknown else {}) | (overrun_case(kind.name, kind.overrun) if kind.sized else {})
+    return own | {it.error: error_case(it) for it in line.parts if it.error}
+
+
+def overrun_case(name: str, error: str) -> dict[str, list[str]]:
+    """Returns the case of the error for a part that does not fill its size."""
+    why = f"`{name}` does not fill the bytes that its size states."
+    return {error: [f"    /// {why}", f'    #[error("{shown(why)}")]', f"    {error},"]}
 
 
 def error_case(line: Line) -> list[str]:
     """Returns the case of the error for a line: its comment, its text, and what it holds."""
     held, text = "", shown(refusal(line))
+    error = line.error
     if line.use:
         held, text = f"({line.use.description.error})", f"in {article(line.use.name)}: {{0}}"
-    return [f"    /// {refusal(line)}", f'    #[error("{text}")]', f"    {line.error}{held},"]
+        error = line.use.error
+    return [f"    /// {refusal(line)}", f'    #[error("{text}")]', f"    {error}{held},"]
 
 
 # ---- reads
@@ -151,10 +165,16 @@ def read(f: Format, kind: m.Printed) -> str:
             return f"reader.read::<Bits<{kind.width}>, u64>()"
         case m.Tag():
             return f"reader.read::<Bits<{kind.width}>, {value_type(kind)}>()"
+        case m.Size():
+            return f"reader.read::<Bits<{kind.width}>, u64>()"
+        case m.Sized():
+            return f"read_{kind.name}(reader, alloc, {kind.name}_bytes)"
         case m.Choose():
-            return f"{kind.type}::read(reader{', alloc' * m.grows(kind)}, {selecting(f, kind)})"
+            if kind.sized:
+                return f"read_{kind.name}(reader, alloc, {selecting(f, kind)}, {kind.name}_bytes)"
+            return f"{kind.type}::read(reader{', alloc' * m.allocates(kind)}, {selecting(f, kind)})"
         case m.Part():
-            return f"{kind.use.name}::read(reader{', alloc' * m.has_list(kind.use)})"
+            return f"{kind.use.name}::read(reader{', alloc' * m.allocating(kind.use)})"
         case m.Optional() | m.If():
             return f"read_{snake(kind.use.name)}_if(reader, {there(f, kind)})"
         case m.List():
@@ -239,7 +259,9 @@ def write(line: Line) -> str:
             return f"writer.write::<Bits<{kind.width}>, u64>(self.{kind.target}.len() as u64)"
         case m.Tag():
             return f"writer.write::<Bits<{kind.width}>, {value_type(kind)}>(self.{target}.number())"
-        case m.Choose() | m.Part():
+        case m.Size():
+            return f"write_size(writer, {kind.width}, self.{kind.target}.bits::<u64>())"
+        case m.Choose() | m.Part() | m.Sized():
             return f"self.{kind.name}.write(writer)"
         case m.Optional() | m.If():
             return f"write_{snake(kind.use.name)}_if(writer, self.{kind.name})"
@@ -261,7 +283,7 @@ def value_type(kind: m.Printed) -> str:
     match kind:
         case m.Flag():
             return "bool"
-        case m.Count():
+        case m.Count() | m.Size():
             return "u64"
         case m.Tag():
             return f"u{tag_bits(kind.width)}"

@@ -9,14 +9,65 @@ from describing.text import article
 
 def choice_code(f: Format, line: Line, kind: m.Choose, number: str) -> list[str]:
     """Returns the type of a choice with its functions; `number` is the type of the number that selects a case."""
-    derives = "Debug, Drop" if m.grows(kind) else "Clone, Copy, Debug, PartialEq"
+    derives = "Debug, Drop" if m.allocates(kind) else "Clone, Copy, Debug, PartialEq"
     out = [f"/// {kind.doc or f'A {kind.type}.'}", f"#[derive({derives})]", f"pub enum {kind.type} {{"]
     for arm, part in line.arms:
         held = part.use.name if part and part.use else number if arm.number is None else ""
         said = f"{arm.number}." if arm.number is not None else "Another number, which nothing follows."
+        if arm.held and not part:
+            held, said = kind.unnamed, "Another number, and the bytes after it."
         out += [f"    /// {said}", f"    {arm.case}{f'({held})' if held else ''},"]
     body = [*number_code(kind, number), *read_code(f, line, kind, number), *write_code(line, kind)]
-    return [*out, "}", "", f"impl {kind.type} {{", *body, "}", ""]
+    return [*unnamed_code(f, kind, number), *out, "}", "", f"impl {kind.type} {{", *body, "}", ""]
+
+
+def unnamed_code(f: Format, kind: m.Choose, number: str) -> list[str]:
+    """Returns the type of another number with the bytes after it."""
+    t, s = kind.unnamed, snake(kind.unnamed)
+    if not t:
+        return []
+    result = f"Result<{t}, {f.error}>"
+    return [
+        f"/// A number that is that of no other case of `{kind.type}`, and the bytes after it.",
+        "#[derive(Debug, Drop)]",
+        f"pub struct {t} {{",
+        "    /// The number.",
+        f"    pub number: {number},",
+        "    /// The bytes.",
+        "    pub bytes: Vec<u8>,",
+        "}",
+        "",
+        f"impl Model for {t} {{",
+        f"    ghost use Rattle.{f.crate}.specs.{f.spec}Bytes.{{{t}Fields}};",
+        "",
+        f"    ghost Value = {{ {t}Fields }};",
+        "",
+        "    ghost view = { λ value. record {",
+        "        number = value.number;",
+        "        bytes = value.bytes.items;",
+        "    } };",
+        "}",
+        "",
+        f"impl {t} {{",
+        "    /// Reads `size` bytes.",
+        f"    fn read<R: BitRead>(reader: &mut R, alloc: Global, number: {number}, size: u64) -> {result}",
+        f"        ensures {{ GrowsOwn R.source {f.becomes_name} ({s}_read R.source.order number size)",
+        "            reader.old result reader.new }",
+        "    {",
+        "        let bytes = reader.read_to_vec(alloc, size as usize)?;",
+        f"        Ok({t} {{ number, bytes }})",
+        "    }",
+        "",
+        "    /// Writes the bytes.",
+        "    fn write<W: BitWrite>(&self, writer: &mut W) -> Result<(), Error>",
+        "        ensures { WritesAll W.sink (buffer W.sink.order self.now.bytes ∷ []) writer.old result writer.new }",
+        "    {",
+        "        writer.write_bytes(&self.bytes)?;",
+        "        Ok(())",
+        "    }",
+        "}",
+        "",
+    ]
 
 
 def pattern(kind: m.Choose, arm: m.Arm, name: str = "_") -> str:
@@ -27,7 +78,11 @@ def pattern(kind: m.Choose, arm: m.Arm, name: str = "_") -> str:
 def number_code(kind: m.Choose, number: str) -> list[str]:
     """Returns the function from a case to its number."""
     numbers = (
-        f"{pattern(kind, it)} => {it.number}," if it.number is not None else f"{pattern(kind, it, 'it')} => *it,"
+        (
+            f"{pattern(kind, it)} => {it.number},"
+            if it.number is not None
+            else f"{pattern(kind, it, 'it')} => {'it.number' if it.held else '*it'},"
+        )
         for it in kind.arms
     )
     return [
@@ -45,7 +100,7 @@ def number_code(kind: m.Choose, number: str) -> list[str]:
 
 def kind_of_read(f: Format, line: Line) -> tuple[str, str]:
     """Returns how the contract of a read begins, and the type of its error."""
-    if m.grows(line.kind):
+    if m.allocates(line.kind):
         return f"GrowsOwn R.source {f.becomes_name}", f.e
     return (f"ReadsOwn R.source {f.becomes_name}", f.e) if line.error else ("Reads R.source", "Error")
 
@@ -62,12 +117,14 @@ def errors(f: Format, line: Line, kind: m.Choose) -> list[str]:
 def read_code(f: Format, line: Line, kind: m.Choose, number: str) -> list[str]:
     """Returns the function that reads the case of a number."""
     reads, error = kind_of_read(f, line)
-    alloc = ", alloc: Global" * m.grows(kind)
+    alloc = ", alloc: Global" * m.allocates(kind)
     out = ["    /// Reads what follows the number of a case.", *errors(f, line, kind)]
     result = f"Result<{kind.type}, {error}>"
-    out += [f"    pub fn read<R: BitRead>(reader: &mut R{alloc}, number: {number}) -> {result}"]
+    size, said = (" size", ", size: u64") if kind.unnamed else ("", "")
+    out += [f"    pub fn read<R: BitRead>(reader: &mut R{alloc}, number: {number}{said}) -> {result}"]
+    out += [f"        requires {{ R.source.order ≡ {f.o} }}"] * any(m.ordered(it.description) for it in m.uses(kind))
     out += [
-        f"        ensures {{ {reads} ({snake(kind.type)}_read R.source.order number) reader.old result reader.new }}"
+        f"        ensures {{ {reads} ({snake(kind.type)}_read R.source.order number{size}) reader.old result reader.new }}"
     ]
     out += ["    {"]
     for arm, part in line.arms[: len(kind.tested)]:
@@ -83,14 +140,16 @@ def read_code(f: Format, line: Line, kind: m.Choose, number: str) -> list[str]:
 def case_read(kind: m.Choose, arm: m.Arm, part: Line | None) -> str:
     """Returns the expression that reads a case."""
     if part and part.use:
-        return pattern(kind, arm, f"{part.use.name}::read(reader{', alloc' * m.has_list(part.use)})?")
+        return pattern(kind, arm, f"{part.use.name}::read(reader{', alloc' * m.allocating(part.use)})?")
+    if arm.held:
+        return pattern(kind, arm, f"{kind.unnamed}::read(reader, alloc, number, size)?")
     return pattern(kind, arm, "number")
 
 
 def write_code(line: Line, kind: m.Choose) -> list[str]:
     """Returns the function that writes what follows the number of a case."""
     writes = (
-        f"{pattern(kind, arm, 'it' if part else '_')} => {'it.write(writer)' if part else 'Ok(())'},"
+        f"{pattern(kind, arm, 'it' if arm.held else '_')} => {'it.write(writer)' if arm.held else 'Ok(())'},"
         for arm, part in line.arms
     )
     return [

@@ -43,6 +43,11 @@ def memory(f: Format) -> str:
     return ", alloc: Global" * f.grows
 
 
+def in_order(f: Format) -> list[str]:
+    """Returns the premise of the reads of a format with sizes: the reader has the order of the format."""
+    return [f"        requires {{ R.source.order ≡ {f.o} }}"] * f.ordered
+
+
 def of_reader(f: Format, error: str) -> str:
     """Returns an error of the reader as an error of the format, in code."""
     return f"Reader({error})" if f.error else error

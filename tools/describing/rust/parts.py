@@ -15,7 +15,7 @@ def error_code(f: Format, line: Line, use: m.Use) -> list[str]:
     arms = [f"            {theirs}::Reader(error) => {f.error}::Reader(error),"]
     for case, held in part_cases(use):
         said = f"{theirs}::{case}{'(error)' * bool(held)}"
-        arms.append(f"            {said} => {f.error}::{line.error}({said}),")
+        arms.append(f"            {said} => {f.error}::{use.error}({said}),")
     return [
         f"impl From<{theirs}> for {f.error} {{",
         f"    ghost from_gives = {{ λ error own. own ≡ {use.module}_error error }};",

@@ -8,6 +8,7 @@ from describing import model as m
 from describing import picture
 from describing.imports import own_specs, types
 from describing.layout import Format, Line
+from describing.model import snake
 from describing.names import SPECS, uses
 from describing.rust.calls import error_cases, field_comment, imports, number_type, value_type
 from describing.rust.choices import choice_code
@@ -16,13 +17,14 @@ from describing.rust.enums import enum_code
 from describing.rust.lists import list_code, write_code as write_items
 from describing.rust.parts import error_code as part_error, optional_code
 from describing.rust.reads import parse_code, read_code
-from describing.rust.traits import from_code, law_code, to_code
+from describing.rust.sizes import sized_code
+from describing.rust.traits import from_code, law_code, to_code, to_impl
 from describing.rust.writes import pack_code, write_code
 from describing.specs.terms import seen, value
 from describing.text import article
 
 LIBRARY = """BE LE BitRead BitReadExt BitReader BitWrite BitWriteExt BitWriter Bits Error FromBitStream
-    FromBitStreamUsing SliceMut ToBitStream pack_into"""
+    FromBitStreamUsing SliceMut SliceReader ToBitStream pack_into"""
 
 
 def files(f: Format) -> dict[str, str]:
@@ -39,6 +41,10 @@ def declares(f: Format, line: Line) -> list[str]:
         out += part_error(f, it, it.use) if it.use else []
     if isinstance(kind, m.Choose):
         out += choice_code(f, line, kind, number_type(f, kind))
+        out += to_impl(kind.type, f"{snake(kind.type)}_writes") if kind.sized else []
+    if line.measured:
+        number = number_type(f, line.measured) if isinstance(line.measured, m.Choose) else ""
+        out += sized_code(f, line, line.measured, number)
     if line.use and isinstance(kind, m.Optional | m.If):
         out += optional_code(f, line, line.use)
     if isinstance(kind, m.Array) and line.enum:
@@ -70,7 +76,7 @@ def imported(f: Format, text: str) -> list[str]:
     found = {path for it in f.lines for path in imports(it)}
     paths = sorted(found | {"std::alloc::Global", "std::marker::Model"} if f.grows else found)
     library = f"use bitstream_io::{{{', '.join(it for it in LIBRARY.split() if it in words)}}};"
-    mine = [f"use {it};" for it in paths if it.startswith(("crate", "bitstream_io"))]
+    mine = [f"use {it};" for it in paths if it.startswith(("crate", "bitstream_"))]
     return [*ghosts, "", *mine, library, *(f"use {it};" for it in paths if it.startswith("std"))]
 
 

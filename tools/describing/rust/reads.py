@@ -3,7 +3,7 @@ from __future__ import annotations
 
 from describing.layout import Format, reader_errors
 from describing.rust.calls import reads, value_type
-from describing.rust.clauses import clause, first_of, memory, of_reader, or_refused, refusals
+from describing.rust.clauses import clause, first_of, in_order, memory, of_reader, or_refused, refusals
 from describing.specs.terms import at_bits, fails, holds, known_of, only_constants, seen
 
 
@@ -24,6 +24,7 @@ def read_code(f: Format) -> list[str]:
         *own,
         f"    /// {'Else the' if f.own else 'The'} errors of the reader: after each of them it has failed.",
         f"    pub fn read<R: BitRead>(reader: &mut R{memory(f)}) -> Result<{f.type}, {f.e}>",
+        *in_order(f),
         f"        ensures {{ {outcome} ({f.m}_decoder R.source.order) reader.old result reader.new }}",
         *read_body(f, 0),
         *later_reads(f, outcome),
@@ -50,6 +51,7 @@ def later_reads(f: Format, outcome: str) -> list[str]:
         out += [
             f"    /// Reads the fields from `{first_of(piece)}` on.",
             f"    fn read_{k + 1}<R: BitRead>(reader: &mut R{memory(f)}{given}) -> Result<{f.type}, {f.e}>",
+            *in_order(f),
             f"        ensures {{ {outcome}",
             f"            ({entry} R.source.order{values})",
             "            reader.old result reader.new }",

@@ -6,7 +6,9 @@ from describing.rust.clauses import memory
 
 
 def from_code(f: Format) -> list[str]:
-    """Returns the impl of `FromBitStream`."""
+    """Returns the impl of `FromBitStream`, which a format has that is read in either order of bits."""
+    if f.ordered:
+        return []
     m, t, e = f.m, f.type, f.e
     reads = f"{m}_decoder" if f.own else f"λ o. plain_reads ({m}_decoder o)"
     context, grows = list[str](), list[str]()
@@ -33,13 +35,18 @@ def from_code(f: Format) -> list[str]:
 
 def to_code(f: Format) -> list[str]:
     """Returns the impl of `ToBitStream`."""
+    return to_impl(f.type, f"{f.m}_writes")
+
+
+def to_impl(type: str, writes: str) -> list[str]:
+    """Returns the impl of `ToBitStream` for a type with a method `write`."""
     return [
-        f"impl ToBitStream for {f.type} {{",
+        f"impl ToBitStream for {type} {{",
         "    type Error = Error;",
         "",
         "    ghost becomes = { same_error };",
         "",
-        f"    ghost writes = {{ {f.m}_writes }};",
+        f"    ghost writes = {{ {writes} }};",
         "",
         "    fn to_writer<W: BitWrite>(&self, writer: &mut W) -> Result<(), Error> {",
         "        self.write(writer)",

@@ -9,7 +9,26 @@ from describing.specs.terms import here
 
 def definitions(f: Format, line: Line, kind: m.Choose) -> list[str]:
     """Returns the definitions of a choice."""
-    return [*number_specs(line, kind), *read_specs(f, line, kind), *written_specs(line, kind), *fits_specs(line, kind)]
+    out = number_specs(line, kind) + unnamed_specs(f, kind) + read_specs(f, line, kind)
+    return [*out, *written_specs(line, kind), *fits_specs(line, kind)]
+
+
+def unnamed_specs(f: Format, kind: m.Choose) -> list[str]:
+    """Returns the definition of the read of another number, with the bytes after it."""
+    if not kind.unnamed:
+        return []
+    s, record = snake(kind.unnamed), "record { number = n; bytes = bytes }"
+    return [
+        "-- the reads of k bytes after another number",
+        f"abbrev pub {s}_read : Order → ℕ → ℕ → Decoder (Result {kind.unnamed} {f.error})",
+        f"{s}_read o n k = and_then (vec_decoder o k) (λ bytes. pure (Ok ({record})))",
+        "",
+    ]
+
+
+def number_of(arm: m.Arm) -> str:
+    """Returns the number of a case, of what its pattern holds."""
+    return str(arm.number) if arm.number is not None else "it.number" if arm.held else "n"
 
 
 def called(kind: m.Choose, arm: m.Arm) -> str:
@@ -27,12 +46,15 @@ def number_specs(line: Line, kind: m.Choose) -> list[str]:
     """Returns the definition of the number of a case."""
     s = snake(kind.type)
     head = [f"-- the number of the case of a `{kind.type}`", f"abbrev pub {s}_number : {kind.type} → ℕ"]
-    numbers = (f"{s}_number {pattern(kind, it)} = {'n' if it.number is None else it.number}" for it in kind.arms)
+    numbers = (f"{s}_number {pattern(kind, it)} = {number_of(it)}" for it in kind.arms)
     return [*head, *numbers, ""]
 
 
 def made(f: Format, line: Line, kind: m.Choose, arm: m.Arm, part: Line | None) -> str:
     """Returns the read of a case."""
+    if arm.held and not part:
+        said = f"{called(kind, arm)} it"
+        return f"and_then ({snake(kind.unnamed)}_read o n k) (part_then (λ it. pure (Ok ({said}))))"
     case = f"{called(kind, arm)}{' it' if part else ' n' if arm.number is None else ''}"
     answer = f"pure (Ok ({case}))" if line.stops else f"pure ({case})"
     if not part:
@@ -47,8 +69,9 @@ def read_specs(f: Format, line: Line, kind: m.Choose) -> list[str]:
     cases = [(arm, made(f, line, kind, arm, part)) for arm, part in line.arms]
     tests = "".join(f"if n == {arm.number} then {read} else " for arm, read in cases[: len(kind.tested)])
     last = f"pure (Err {kind.unknown})" if kind.unknown else cases[-1][1]
-    head = ["-- the reads of the case with the number n", f"abbrev pub {s}_read : Order → ℕ → Decoder {result}"]
-    return [*head, f"{s}_read o n = {tests}{last}", ""]
+    more, k = ("ℕ → ", " k") if kind.unnamed else ("", "")
+    head = ["-- the reads of the case with the number n", f"abbrev pub {s}_read : Order → ℕ → {more}Decoder {result}"]
+    return [*head, f"{s}_read o n{k} = {tests}{last}", ""]
 
 
 def written_specs(line: Line, kind: m.Choose) -> list[str]:
@@ -56,11 +79,21 @@ def written_specs(line: Line, kind: m.Choose) -> list[str]:
     s = snake(kind.type)
     out = ["-- the writes behind the number", f"abbrev pub {s}_writes : Order → {kind.type} → List Encoder"]
     for arm, part in line.arms:
-        out.append(f"{s}_writes o {pattern(kind, arm)} = {f'{module(part)}_writes o it' if part else '[]'}")
+        out.append(f"{s}_writes o {pattern(kind, arm)} = {arm_writes(arm, part)}")
     out += ["", "-- the number of their bits", f"abbrev pub {s}_size : Order → {kind.type} → ℕ"]
     for arm, part in line.arms:
-        out.append(f"{s}_size o {pattern(kind, arm)} = {f'{module(part)}_size o it' if part else '0'}")
+        out.append(f"{s}_size o {pattern(kind, arm)} = {arm_size(arm, part)}")
     return [*out, ""]
+
+
+def arm_writes(arm: m.Arm, part: Line | None) -> str:
+    """Returns what a case writes behind its number."""
+    return f"{module(part)}_writes o it" if part else "buffer o it.bytes ∷ []" if arm.held else "[]"
+
+
+def arm_size(arm: m.Arm, part: Line | None) -> str:
+    """Returns the number of bits of a case."""
+    return f"{module(part)}_size o it" if part else "8 * length it.bytes" if arm.held else "0"
 
 
 def module(part: Line) -> str:
@@ -71,7 +104,8 @@ def module(part: Line) -> str:
 def fits_specs(line: Line, kind: m.Choose) -> list[str]:
     """Returns the definition that a case fits its bits: another number is that of no other case."""
     s = snake(kind.type)
-    others = " × ".join([f"(n < 2 ^ {kind.width})", *(f"(n ≢ {arm.number})" for arm in kind.tested)])
+    n, octets = ("it.number", ["(All (λ b. b < 256) it.bytes)"]) if kind.unnamed else ("n", [])
+    others = " × ".join([f"({n} < 2 ^ {kind.width})", *(f"({n} ≢ {arm.number})" for arm in kind.tested), *octets])
     out = ["-- the case fits its bits", f"abbrev pub {s}_fits : {kind.type} → Type 0"]
     for arm, part in line.arms:
         fits = f"{part.use.name}Fits it" if part and part.use else others if arm.number is None else "⊤"

@@ -5,7 +5,7 @@ from describing import model as m
 from describing.imports import part_cases
 from describing.layout import Format, Line, enum_bits
 from describing.model import snake
-from describing.specs import choices
+from describing.specs import choices, sizes
 from describing.specs.terms import called
 
 
@@ -17,7 +17,8 @@ def definitions(f: Format, line: Line) -> list[str]:
         return [] if line.repeats else [*case_specs(f, line, line.enum), *read_specs(f, line, line.enum)]
     parts = [it for it in line.parts if it.use and f.mapped(it.kind) and f.is_first(it)]
     found = [said for it in parts if it.use for said in mapped_specs(f, it, it.use)]
-    return found + choices.definitions(f, line, line.kind) if isinstance(line.kind, m.Choose) else found
+    found += choices.definitions(f, line, line.kind) if isinstance(line.kind, m.Choose) else []
+    return found + (sizes.definitions(f, line, line.measured) if line.measured else [])
 
 
 def const_at(f: Format, line: Line, kind: m.Const) -> list[str]:
@@ -86,7 +87,7 @@ def mapped_specs(f: Format, line: Line, use: m.Use) -> list[str]:
     out += [f"{module}_error {f'({part}Reader error)' if own else 'error'} = Reader error"]
     for case, held in part_cases(use):
         said = f"({part}{case} error)" if held else f"{part}{case}"
-        out.append(f"{module}_error {said} = {line.error} {said}")
+        out.append(f"{module}_error {said} = {use.error} {said}")
     answers = f"Result {part} {theirs} → Result {part} {f.error}"
     out += ["", "-- a result with these errors", f"abbrev pub {module}_answer : {answers}"]
     out += [f"{module}_answer (Ok value) = Ok value"]

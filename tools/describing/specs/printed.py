@@ -3,6 +3,7 @@ from __future__ import annotations
 
 import re
 
+from describing import model as m
 from describing.imports import parts_specs, types
 from describing.layout import Format, Line
 from describing.names import SPECS, uses
@@ -18,7 +19,19 @@ def files(f: Format) -> dict[str, str]:
 
 def fields_files(f: Format) -> dict[str, str]:
     """Returns what contracts see of a format with lists, by its place in the crate."""
-    return {f"specs/{f.spec}Fields.antt": fields_specs(f)} if f.grows else {}
+    found = {f"specs/{f.spec}Fields.antt": fields_specs(f)} if f.grows else {}
+    unnamed = [it.kind.unnamed for it in f.lines if isinstance(it.kind, m.Choose) and it.kind.unnamed]
+    return found | ({f"specs/{f.spec}Bytes.antt": bytes_specs(f, unnamed)} if unnamed else {})
+
+
+def bytes_specs(f: Format, unnamed: list[str]) -> str:
+    """Returns the text of the file of what contracts see of other numbers and the bytes after them."""
+    out = [f"-- The values of other numbers of {article(f.type)}, with the bytes after them, in contracts."]
+    out += ["use Rattle.std.specs.Prelude.{ℕ, List}", "", f"-- {f.made}"]
+    for name in unnamed:
+        fields = ["  pub number : ℕ", "  pub bytes : List ℕ"]
+        out += ["", "-- the number, and the bytes", f"pub record {name}Fields : Type 0 where", *fields]
+    return "\n".join(out) + "\n"
 
 
 def specs(f: Format) -> str:

@@ -39,7 +39,9 @@ def spec_type(kind: m.Printed) -> str:
             return f"Option {kind.use.name}"
         case m.Choose():
             return kind.type
-        case m.Unary() | m.Count() | m.Tag() | m.Const() | m.Skip():
+        case m.Sized():
+            return item_type(kind.item)
+        case m.Unary() | m.Count() | m.Tag() | m.Size() | m.Const() | m.Skip():
             return "ℕ"
     assert_never(kind)
 
@@ -137,6 +139,39 @@ def called(line: Line, case: str) -> str:
     return (line.enum.name if line.enum and case in line.shared else "") + case
 
 
+# ---- parts of a stated size
+
+
+def measured_module(kind: m.Measured) -> str:
+    """Returns the first word of the definitions of what a line writes."""
+    if isinstance(kind, m.Choose):
+        return snake(kind.type)
+    return kind.item.module if isinstance(kind.item, m.Use) else ""
+
+
+def measured_name(kind: m.Measured) -> str:
+    """Returns the type of the value."""
+    return kind.type if isinstance(kind, m.Choose) else item_type(kind.item)
+
+
+def measured_writes(kind: m.Measured, order: str) -> str:
+    """Returns what a line writes, in an order of bits."""
+    return f"{measured_module(kind)}_writes {order} value.{kind.name}"
+
+
+def measured_size(kind: m.Measured, order: str) -> str:
+    """Returns the number of bits, in an order of bits."""
+    return f"{measured_module(kind)}_size {order} value.{kind.name}"
+
+
+def inside(f: Format, line: Line, order: str) -> str:
+    """Returns the read of a part over the bytes of its size; `number` selects the case of a choice."""
+    if isinstance(line.kind, m.Choose):
+        return f"{snake(line.kind.type)}_read {order} number" + " size" * bool(line.kind.unnamed)
+    read = placed(here(f, line), order)
+    return read if f.mapped(line.kind) else f"plain_reads ({read})"
+
+
 # ---- choices
 
 
@@ -213,8 +248,13 @@ def entry(f: Format, line: Line) -> str:
             return f"unsigned_decoder o 64 {kind.width}"
         case m.Tag():
             return f"unsigned_decoder {tag_shape(kind)}"
+        case m.Size():
+            return f"unsigned_decoder o 64 {kind.width}"
+        case m.Sized():
+            return f"{kind.name}_sized o {kind.name}_bytes"
         case m.Choose():
-            return f"{snake(kind.type)}_read o {selected(f, kind)}"
+            read = f"{kind.name}_sized" if kind.sized else f"{snake(kind.type)}_read"
+            return f"{read} o {selected(f, kind)}" + f" {kind.name}_bytes" * kind.sized
         case m.Part():
             return here(f, line)
         case m.Optional() | m.If():
@@ -362,8 +402,11 @@ def word(line: Line) -> str:
             return f"unsigned o 64 {kind.width} (length value.{kind.target})"
         case m.Tag():
             return f"unsigned {tag_shape(kind)} ({tag_number(line)})"
-        case m.Choose():
-            return f"{snake(kind.type)}_writes o {term}"
+        case m.Size():
+            assert line.measures
+            return f"size_encoder o {kind.width} ({measured_writes(line.measures, 'High')})"
+        case m.Choose() | m.Sized():
+            return measured_writes(kind, "o")
         case m.Array() | m.List():
             if isinstance(kind.item, m.Octet):
                 return f"buffer o {term}"
@@ -403,8 +446,8 @@ def size(line: Line) -> str:
             return f"{short(kind)}_size {term}"
         case m.Part():
             return f"{kind.use.module}_size o {term}"
-        case m.Choose():
-            return f"{snake(kind.type)}_size o {term}"
+        case m.Choose() | m.Sized():
+            return measured_size(kind, "o")
         case m.Optional() | m.If():
             return f"optional_size ({kind.use.module}_size o) {term}"
         case m.List():
@@ -434,8 +477,13 @@ def fits(f: Format, line: Line) -> list[tuple[str, str]]:
     match kind:
         case m.Bool() | m.Const() | m.Skip() | m.Flag() | m.Tag():
             return []
+        case m.Size():
+            assert line.measures
+            return [(line.name, f"{measured_size(line.measures, 'High')} / 8 < 2 ^ {kind.width}")]
+        case m.Sized():
+            return [(kind.name, f"{measured_name(kind)}Fits {term}"), whole_fits(kind)]
         case m.Choose():
-            return choice_fits(f, kind)
+            return choice_fits(f, kind) + [whole_fits(kind)] * kind.sized
         case m.Number():
             return [(kind.name, number_fits(kind.integer, term))]
         case m.NonZero():
@@ -471,6 +519,11 @@ def choice_fits(f: Format, kind: m.Choose) -> list[tuple[str, str]]:
     s, term = snake(kind.type), f"value.{kind.name}"
     found = [(kind.name, f"{s}_fits {term}")]
     return found + [(f"{kind.name}_tag", f"{s}_number {term} ≡ {written_number(f, kind)}")] * (tag_of(f, kind) is None)
+
+
+def whole_fits(kind: m.Measured) -> tuple[str, str]:
+    """Returns the fact that a part has whole bytes, as many in either order of bits."""
+    return f"{kind.name}_whole", f"(o : Order) → {measured_size(kind, 'o')} ≡ 8 * ({measured_size(kind, 'High')} / 8)"
 
 
 def number_fits(integer: m.Integer, term: str) -> str:

@@ -1,0 +1,47 @@
+"""The definitions of a part of a stated size: its errors inside these bytes, and its reads."""
+from __future__ import annotations
+
+from describing import model as m
+from describing.layout import Format, Line
+from describing.specs.terms import inside, measured_name
+
+
+def definitions(f: Format, line: Line, kind: m.Measured) -> list[str]:
+    """Returns the definitions of a part of a stated size."""
+    return [*ended_specs(f, kind), *sized_specs(f, line, kind)]
+
+
+def overrun(kind: m.Measured) -> str:
+    """Returns the case of the error for a part that does not fill its size."""
+    return kind.overrun if isinstance(kind, m.Choose) else kind.error
+
+
+def error_cases(f: Format) -> list[tuple[str, str]]:
+    """Returns the cases of the error of a format, except the reader's, each with the type that it holds."""
+    return list(dict(one for it in f.tests for one in m.refusals(it.kind)).items())
+
+
+def ended_specs(f: Format, kind: m.Measured) -> list[str]:
+    """Returns the definition of an error inside the bytes of a size."""
+    name, wrong = f"{kind.name}_ended", overrun(kind)
+    out = [
+        f"-- an error inside the bytes of `{kind.name}`: their end is `{wrong}`",
+        f"abbrev pub {name} : {f.error} → {f.error}",
+    ]
+    out += [f"{name} (Reader error) = if is_end error then {wrong} else Reader error"]
+    for case, held in error_cases(f):
+        said = f"({case} error)" if held else case
+        out.append(f"{name} {said} = {said.strip('()')}")
+    return [*out, ""]
+
+
+def sized_specs(f: Format, line: Line, kind: m.Measured) -> list[str]:
+    """Returns the definition of the reads of a part of n bytes."""
+    chosen = isinstance(kind, m.Choose)
+    head = (
+        f"abbrev pub {kind.name}_sized : Order → {'ℕ → ' * chosen}ℕ → Decoder (Result {measured_name(kind)} {f.error})"
+    )
+    inner = inside(f, line, "o").replace(" size", " n")
+    read = f"sized_decoder (λ o. {inner}) {overrun(kind)} (λ error. Reader error) {kind.name}_ended o n"
+    said = f"{kind.name}_sized o{' number' * chosen} n = {read}"
+    return [f"-- the reads of `{kind.name}`, of n bytes, over these bytes alone", head, said, ""]
