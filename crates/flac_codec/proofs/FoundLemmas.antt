@@ -1,8 +1,10 @@
 -- What a reader of bytes in memory finds at their start, and in how many of them.
-use Rattle.std.proofs.Common.{arith, inl, inr, ◌⊎◌, ◌≡◌, ◌∙◌, ◌++◌, ◌+◌, ◌-◌, ◌*◌, ◌/◌, ◌%◌, ◌<◌, ◌≤◌, ℕ, ℤ, Bool, true, false, List, [], ◌∷◌, Some, Result, Ok, Err, length, take, drop, refl, sym, ap, subst, add-zero, append_assoc, length-append, zero-add}
+use Rattle.std.proofs.Common.{arith, inl, inr, ◌⊎◌, ◌≡◌, ◌∙◌, ◌++◌, ◌+◌, ◌-◌, ◌*◌, ◌/◌, ◌%◌, ◌<◌, ◌≤◌, ◌^◌, ℕ, ℤ, suc, Bool, true, false, List, [], ◌∷◌, Some, Result, Ok, Err, length, take, drop, refl, sym, ap, subst, add-zero, add_assoc, append_assoc, get_or, length-append, zero-add}
 use Rattle.std.specs.Result.{IsErrAnd}
-use Rattle.std.specs.Prelude.{replicate}
-use Rattle.std.proofs.lemmas.Bool.{cases_lt, le-ltb}
+use Rattle.std.specs.Prelude.{bit_and, nat_lt, replicate}
+use Rattle.std.proofs.lemmas.Nat.{and_mask}
+use Rattle.std.proofs.lemmas.Bool.{cases_lt, eq-eqb, le-ltb, lt-ltb}
+use Rattle.std.proofs.Math.Seq.{drop-append_seam, take-append_seam}
 use Rattle.std.proofs.lemmas.List.{length-drop, length-replicate, take_all}
 use Rattle.bitstream_io.specs.Alignment.{to_boundary}
 use Rattle.bitstream_io.specs.Callers.{align, bits, sure_answer, write_sequence, BitSource, Decoder, Encoder, Error, EndOfInput, GrowsOwn, High, MayAllocate, OutOfMemory, OwnAnswer, ReadsOwn}
@@ -16,8 +18,10 @@ use Rattle.bitstream_io.proofs.CallerLemmas.{own_answered, own_grown_answered, w
 use Rattle.bitstream_io.proofs.ReadsLemmas.{Consumes-known}
 use Rattle.bitstream_io.proofs.WordLemmas.{bits-append, length-bits}
 use Rattle.flac_codec.specs.Errors.{becomes_flac}
-use Rattle.flac_codec.specs.Frame.{after, channels_at, crc8_holds, found, header_at, width_of, in_bytes, IsFoundIn}
+use Rattle.flac_codec.specs.Frame.{after, channels_at, crc16_holds, crc8_holds, found, frame_at, header_at, width_of, in_bytes, IsFoundIn}
 use Rattle.flac_codec.specs.Channels.{channels_decoder}
+use Rattle.flac_codec.specs.Checksum.{crc16, crc8}
+use Rattle.flac_codec.specs.Header.{header_decoder}
 use Rattle.flac_codec.specs.declared.header.FrameHeader.{FrameHeader}
 use Rattle.flac_codec.specs.declared.error.FlacError.{FlacError}
 use Rattle.flac_codec.specs.declared.error.FlacError.TheVariants.{Reader}
@@ -168,3 +172,62 @@ crc8-within bytes n is = elim (cases_lt n (length bytes)) [
   | inl less ↦ less
   | inr most ↦ let none : Ok _ ≡ Err (Reader EndOfInput) = rw (le-ltb n (length bytes) most) at is in absurd (not-refused none)
 ]
+
+-- ---- checksums that were appended
+
+get_or-append : (xs : List ℕ) (x : ℕ) (ys : List ℕ) → get_or (xs ++ (x ∷ ys)) (length xs) 0 ≡ x
+get_or-append [] x ys = refl
+get_or-append (z ∷ xs) x ys = get_or-append xs x ys
+
+get_or-append_next : (xs : List ℕ) (x y : ℕ) (ys : List ℕ) → get_or (xs ++ (x ∷ y ∷ ys)) (length xs + 1) 0 ≡ y
+get_or-append_next [] x y ys = refl
+get_or-append_next (z ∷ xs) x y ys =
+    let next : suc (length xs) + 1 ≡ suc (length xs + 1) = omega arith in
+    rw next (get_or-append_next xs x y ys)
+
+pub header-found : (h : List ℕ) (header : FrameHeader) (c : ℕ) → IsFoundIn (found (header_decoder High)) h header → c ≡ crc8 h
+    → IsFoundIn header_at (h ++ c ∷ []) header
+header-found h header c inside is more =
+    let all : (h ++ c ∷ []) ++ more ≡ h ++ (c ∷ more) = append_assoc h (c ∷ []) more in
+    let size : length (h ++ (c ∷ more)) ≡ length h + length (c ∷ more) = length-append h (c ∷ more) in
+    let long : length (h ++ c ∷ []) ≡ length h + 1 = length-append h (c ∷ []) in
+    let inner : nat_lt (length h) (length (h ++ (c ∷ more))) ≡ true = lt-ltb _ _ (omega (arith, size)) in
+    let held : crc8_holds (h ++ (c ∷ more)) (length h) ≡ Ok tt =
+    rw (inner, take-append_seam h (c ∷ more), get_or-append h c more, eq-eqb (crc8 h) c (sym is)) refl in
+    rw (all, long) (sym (after-ok (λ (v, n). after (crc8_holds (h ++ (c ∷ more)) n) (λ _. Ok (v, n + 1))) (sym (inside (c ∷ more)))
+    (after-ok {A = Unit {0}} (λ _. Ok (header, length h + 1)) (sym held) refl)))
+
+pub frame-found : (sample_size : ℕ) (h body : List ℕ) (header : FrameHeader) (channels : List (List ℤ)) (high low : ℕ)
+    → IsFoundIn header_at h header
+    → IsFoundIn (found (channels_decoder High header.channels (width_of sample_size header) header.block_size)) body channels
+    → crc16 (h ++ body) ≡ 256 * high + low
+    → IsFoundIn (frame_at sample_size) (((h ++ body) ++ high ∷ []) ++ low ∷ []) (header, channels)
+frame-found sample_size h body header channels high low start inside is more =
+    let rest = high ∷ low ∷ more in
+    let b = h ++ body in
+    let n = length h + length body in
+    let joined : ((b ++ high ∷ []) ++ low ∷ []) ++ more ≡ b ++ rest =
+    append_assoc (b ++ high ∷ []) (low ∷ []) more ∙ append_assoc b (high ∷ []) (low ∷ more) in
+    let apart : b ++ rest ≡ h ++ (body ++ rest) = append_assoc h body rest in
+    let size : length b ≡ n = length-append h body in
+    let whole : length (b ++ rest) ≡ length b + length rest = length-append b rest in
+    let long : length ((b ++ high ∷ []) ++ low ∷ []) ≡ n + 2 =
+    length-append (b ++ high ∷ []) (low ∷ []) ∙ ap (λ k. k + 1) (length-append b (high ∷ []) ∙ ap (λ k. k + 1) size) ∙ add_assoc n 1 1 in
+    let first : Ok (header, length h) ≡ header_at (b ++ rest) = sym (ap header_at apart ∙ start (body ++ rest)) in
+    let second : Ok (channels, length body)
+    ≡ found (channels_decoder High header.channels (width_of sample_size header) header.block_size) (drop (length h) (b ++ rest)) =
+    sym (ap (λ xs. found (channels_decoder High header.channels (width_of sample_size header) header.block_size) xs)
+    (ap (drop (length h)) apart ∙ drop-append_seam h (body ++ rest)) ∙ inside rest) in
+    let inner : nat_lt (n + 1) (length (b ++ rest)) ≡ true = lt-ltb _ _ (omega (arith, size, whole)) in
+    let taken_all : take n (b ++ rest) ≡ b = ap (λ k. take k (b ++ rest)) (sym size) ∙ take-append_seam b rest in
+    let one : get_or (b ++ rest) n 0 ≡ high = ap (λ k. get_or (b ++ rest) k 0) (sym size) ∙ get_or-append b high (low ∷ more) in
+    let two : get_or (b ++ rest) (n + 1) 0 ≡ low =
+    ap (λ k. get_or (b ++ rest) (k + 1) 0) (sym size) ∙ get_or-append_next b high low more in
+    let held : crc16_holds (b ++ rest) n ≡ Ok tt =
+    rw (inner, taken_all, one, two, eq-eqb (crc16 b) (256 * high + low) is) refl in
+    rw (joined, long) (sym (after-ok (λ (v, k). after (crc16_holds (b ++ rest) k) (λ _. Ok (v, k + 2)))
+    (frame-parts sample_size (b ++ rest) first second)
+    (after-ok {A = Unit {0}} (λ _. Ok ((header, channels), n + 2)) (sym held) refl)))
+
+pub two_bytes : (n : ℕ) → n ≡ 256 * (n / 2 ^ 8) + bit_and n 255
+two_bytes n = let mask : bit_and n 255 ≡ n % 2 ^ 8 = and_mask n 8 in rw mask (omega arith)

@@ -10,4 +10,6 @@ pub mod LosslessLemmas
 pub mod PredictLemmas
 pub mod ResultLemmas
 pub mod RiceLemmas
+pub mod StereoLemmas
 pub mod SubframeLemmas
+pub mod WrittenLemmas

@@ -61,7 +61,7 @@ numbers-read o k xs small fit =
     (All-weaker (λ x. zig x < 2 ^ 32) (λ x. IsReadAs (rice_writes o k x) (list_item (rice_decoder o k)) x) one xs fit)
 
 -- a value that is stored
-stored-back : {A : Type 0} (a b : A) → a ≡ b → RoundTrip (stores a) [] b
+pub stored-back : {A : Type 0} (a b : A) → a ≡ b → RoundTrip (stores a) [] b
 stored-back a b is = record { back = (computed-back a b is).back }
 
 -- ---- a subframe of each kind

@@ -87,7 +87,7 @@ fn find_header(bytes: &[u8]) -> Result<HeaderAt, FlacError>
 }
 
 /// Returns the bits of a sample of a frame.
-fn width_of(sample_size: u8, header: &FrameHeader) -> u8
+pub(crate) fn width_of(sample_size: u8, header: &FrameHeader) -> u8
     ensures { result ≡ width_of sample_size header.now }
 {
     if header.sample_size == 0 {

@@ -5,12 +5,14 @@
 //! chooses is left open, so a better choice needs no new contract.
 #![tactic(auto)]
 
+mod channel_writing;
 mod channels;
 mod checksum;
 mod choice;
 mod coded;
 mod error;
 mod frame;
+mod framing;
 mod header;
 mod heading;
 mod lossless;
@@ -26,6 +28,7 @@ pub use checksum::{crc8, crc16};
 pub use coded::read_coded;
 pub use error::FlacError;
 pub use frame::{Frame, decode_frame};
+pub use framing::encode_frame;
 pub use header::{Channels, FrameHeader, read_header};
 pub use heading::write_header;
 pub use lossless::{decode, encode, round_trip};
