@@ -322,7 +322,13 @@ def main(words: list[str]) -> int:
     except Ended as it:
         report(str(it))
         return it.status
-    except (Refused, OSError, UnicodeDecodeError) as it:
+    except OSError as it:
+        report(f"{it.filename or asked.description}: {it.strerror}")
+        return 2
+    except UnicodeDecodeError:
+        report(f"{asked.description}: this is no text, and so no description; the file that is read comes after it")
+        return 2
+    except Refused as it:
         report(f"{asked.description}: {it}")
         return 2
     return 0

@@ -25,6 +25,24 @@ pub enum Ended {
         start: u64,
         error: PrimaryHeaderError,
     },
+    /// The input ends inside the bytes after a record.
+    #[error("record {number}: the input ends {missing} bytes before the end of the {size} bytes to skip after it")]
+    Short {
+        number: u64,
+        missing: u64,
+        size: u64,
+    },
+    /// The next record would begin inside a record.
+    #[error("record {number}: {size} bytes would be skipped, so the next record would begin inside this one")]
+    Inside {
+        number: u64,
+        size: i128,
+    },
+    /// The bytes after a record are a field that is no number of it.
+    #[error("record {number}: the field of `--skip` is not a number of the record")]
+    NoNumber {
+        number: u64,
+    },
     /// A line does not fit the format.
     #[error("line {number}: {why}")]
     Line {
@@ -46,9 +64,9 @@ impl Ended {
     /// Returns the exit status.
     pub fn status(&self) -> u8 {
         match self {
-            Ended::Torn { .. } => 4,
-            Ended::Refused { .. } | Ended::Line { .. } => 3,
-            Ended::Io(_) => 2,
+            Ended::Torn { .. } | Ended::Short { .. } => 4,
+            Ended::Refused { .. } | Ended::Inside { .. } | Ended::Line { .. } => 3,
+            Ended::NoNumber { .. } | Ended::Io(_) => 2,
         }
     }
 

@@ -10,10 +10,12 @@ mod fields;
 mod pack;
 mod primary_header_json;
 mod show;
+mod skip;
 
 use ended::Ended;
 use pack::pack;
 use show::show;
+use skip::Skip;
 use std::fs::File;
 use std::io::{BufReader, BufWriter, Read, Write};
 use std::process::ExitCode;
@@ -21,13 +23,14 @@ use std::{env, io};
 
 /// The usage text.
 const USAGE: &str = "\
-usage: packet_headers show [FILE]    prints each record as a line of JSON
-       packet_headers pack [FILE]    packs such lines into bytes
+usage: packet_headers show [FILE] [--skip EXPRESSION]    prints each record as a line of JSON
+       packet_headers pack [FILE]                        packs such lines into bytes
 
-Without FILE the standard input is read.
+Without FILE the standard input is read. EXPRESSION is the number of bytes between a record and the next one: a number, or
+FIELD, FIELD+N or FIELD*N-N for a number FIELD of the record (PART.FIELD inside a part).
 
 status: 0 the input ended after a record; 2 the command or a file is refused; 3 a record is refused, or a line does not
-fit the format; 4 the input ended inside a record. The records before are written.
+fit the format; 4 the input ended inside a record, or before the next one. The records before are written.
 ";
 
 /// The bytes that are written at once.
@@ -53,13 +56,46 @@ impl Command {
     }
 }
 
+/// What the arguments ask for.
+#[derive(Clone, Copy, Debug)]
+struct Call<'a> {
+    command: Command,
+    path: Option<&'a str>,
+    skip: Skip<'a>,
+}
+
+/// Parses the arguments. `None` if they are refused.
+fn call_of(words: &[String]) -> Option<Call<'_>> {
+    let (first, rest) = words.split_first()?;
+    let command = Command::of(first.as_str())?;
+    let (mut path, mut skip, mut is_skip) = (None, Skip::Bytes(0), false);
+    for word in rest {
+        let word = word.as_str();
+        if is_skip {
+            skip = Skip::of(word)?;
+            is_skip = false;
+        } else if word == "--skip" && command == Command::Show {
+            is_skip = true;
+        } else if path.is_none() && !word.starts_with("--") {
+            path = Some(word);
+        } else {
+            return None;
+        }
+    }
+    (!is_skip).then_some(Call {
+        command,
+        path,
+        skip,
+    })
+}
+
 /// Runs a command on an input.
-fn run_on<R: Read + Drop>(rt: &HostRuntime, command: Command, input: R) -> Result<(), Ended> {
+fn run_on<R: Read + Drop>(rt: &HostRuntime, call: &Call<'_>, input: R) -> Result<(), Ended> {
     let mut out = BufWriter::with_capacity(rt.alloc(), OUT, rt.stdout())?;
     let mut input = BufReader::new(rt.alloc(), input)?;
-    let done = match command {
+    let done = match call.command {
         Command::Help => out.write_all(USAGE.as_bytes()).map_err(Ended::Io),
-        Command::Show => show(rt.alloc(), &mut input, &mut out),
+        Command::Show => show(rt.alloc(), &mut input, call.skip, &mut out),
         Command::Pack => pack(rt.alloc(), &mut input, &mut out),
     };
     out.flush()?;
@@ -67,24 +103,23 @@ fn run_on<R: Read + Drop>(rt: &HostRuntime, command: Command, input: R) -> Resul
 }
 
 /// Runs a command on a file, or on the standard input.
-fn run(rt: &HostRuntime, command: Command, path: Option<String>) -> Result<(), Ended> {
-    match path {
-        Some(path) => run_on(rt, command, File::open(rt, path.as_str())?),
-        None => run_on(rt, command, rt.stdin()),
+fn run(rt: &HostRuntime, call: &Call<'_>) -> Result<(), Ended> {
+    match call.path {
+        Some(path) => run_on(rt, call, File::open(rt, path)?),
+        None => run_on(rt, call, rt.stdin()),
     }
 }
 
 fn main(rt: HostRuntime) -> io::Result<ExitCode> {
-    let mut words = env::args(&rt)?.skip(1);
-    let (Some(word), path, None) = (words.next(), words.next(), words.next()) else {
+    let mut words = Vec::new(rt.alloc());
+    for word in env::args(&rt)?.skip(1) {
+        words.push(word)?;
+    }
+    let Some(call) = call_of(words.as_slice()) else {
         eprint!(rt; "{USAGE}")?;
         return Ok(ExitCode::from(2));
     };
-    let Some(command) = Command::of(word.as_str()) else {
-        eprint!(rt; "{USAGE}")?;
-        return Ok(ExitCode::from(2));
-    };
-    match run(&rt, command, path) {
+    match run(&rt, &call) {
         Ok(()) => Ok(ExitCode::SUCCESS),
         Err(ended) if ended.is_closed_output() => Ok(ExitCode::SUCCESS),
         Err(ended) => {

@@ -50,3 +50,14 @@ pub fn primary_header_of(alloc: Global, object: &Value) -> Result<PrimaryHeader,
         length: unsigned(alloc, "length", field(alloc, object, "length")?, 0, 65535)? as u16,
     })
 }
+
+/// Returns a number of a record by its path, whose names have dots between them.
+pub fn primary_header_number(record: &PrimaryHeader, path: &str) -> Option<i128> {
+    match path {
+        "apid" => Some(record.apid as i128),
+        "sequence" => Some(record.sequence as i128),
+        "count" => Some(record.count as i128),
+        "length" => Some(record.length as i128),
+        _ => None,
+    }
+}

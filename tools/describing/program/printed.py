@@ -16,8 +16,8 @@ from describing.program import values
 HERE = os.path.dirname(os.path.abspath(__file__))
 MADE = re.compile(r"^//! Made by `./format --program` from (\S+): ", re.MULTILINE)
 HELPERS = (
-    "at_item boolean check_names check_object field fill_octets inside items misfit other_number print_octets "
-    "print_wide print_wide_signed signed unsigned wide_signed wide_unsigned"
+    "at_item boolean check_names check_object field fill_octets inside items list misfit octets other_number part_item "
+    "print_octets print_wide print_wide_signed signed unsigned wide_signed wide_unsigned"
 ).split()
 
 
@@ -67,16 +67,21 @@ class Program:
         return f"{self.crate}: {' '.join([*own, 'bitstream_io', *hexed, 'serde_json', 'thiserror'])}"
 
 
+def replaced(text: str, words: dict[str, str]) -> str:
+    """Returns a text with its words replaced."""
+    return re.sub(r"\{\{([A-Z_]+)\}\}", lambda found: words[found[1]], text)
+
+
 def filled(name: str, words: dict[str, str]) -> str:
     """Returns a text of this folder with its words replaced."""
-    return re.sub(r"\{\{([A-Z_]+)\}\}", lambda found: words[found[1]], text_of(HERE, f"{name}.txt"))
+    return replaced(text_of(HERE, f"{name}.txt"), words)
 
 
 def words_of(p: Program) -> dict[str, str]:
     """Returns the words that the texts have in capitals."""
     it, error = p.it, p.it.error
     names = f"{{{it.name}, {error}}}" if error else it.name
-    return {
+    words = {
         "CRATE": p.crate,
         "DOC": it.doc,
         "MADE": p.made,
@@ -89,9 +94,47 @@ def words_of(p: Program) -> dict[str, str]:
         "ERROR_USE": f"use {p.place(p.module)}::{error};\n" if error else "",
         "ERROR": error or "Error",
         "OWN_ERROR": error or "bitstream_io::Error",
-        "TORN": f"{error}::Reader(Error::EndOfInput)" if error else "Error::EndOfInput",
+        "TORN": reader_error(error, "EndOfInput"),
         "ORDER": it.order,
-        "BYTES": str(-(-values.most_bits(it) // 8)),
+    }
+    return words | read_words(it) | write_words(it, words)
+
+
+# The error of a list for which no memory is left.
+FAILED = """impl<T: Drop> From<AllocFailed<T>> for Unfit {
+    fn from(_refused: AllocFailed<T>) -> Unfit {
+        Unfit::Memory
+    }
+}
+
+"""
+
+
+def reader_error(error: str, case: str) -> str:
+    """Returns an error of the reader, inside the error of the format if it has one."""
+    return f"{error}::Reader(Error::{case})" if error else f"Error::{case}"
+
+
+def read_words(it: m.Description) -> dict[str, str]:
+    """Returns the words of reading, which takes memory if a record has a list."""
+    refused = reader_error(it.error, "OutOfMemory")
+    stop = f"Err({refused}) => return Err(Ended::Io(io::Error::from(ErrorKind::OutOfMemory))),\n"
+    words = {"ALLOC": ", alloc", "ALLOC_FIRST": "alloc, ", "ALLOC_PARAMETER": "alloc: Global,\n", "MEMORY": stop}
+    words |= {"FAILED_USE": "AllocFailed, ", "ALLOC_FAILED": FAILED}
+    return words if values.has_list(it) else dict.fromkeys(words, "")
+
+
+def write_words(it: m.Description, words: dict[str, str]) -> dict[str, str]:
+    """Returns the words of writing: into an array if the greatest number of bits is a constant, else into a vector."""
+    most = values.most_bits(it)
+    if most is not None:
+        fixed = replaced(text_of(HERE, "pack_fixed.txt"), words | {"BYTES": str(-(-most // 8))})
+        return {"BITS_USE": "", "ROOM": "", "RECORD_AND_ROOM": "record", "WRITE_RECORD": fixed}
+    return {
+        "BITS_USE": f"use bitstream_io::{{{it.order}, BitWrite, BitWriter, Error}};\n",
+        "ROOM": "let mut room: Vec<u8> = Vec::new(alloc);\n",
+        "RECORD_AND_ROOM": "&record, &mut room",
+        "WRITE_RECORD": replaced(text_of(HERE, "pack_held.txt"), words),
     }
 
 
@@ -109,7 +152,9 @@ def json_code(p: Program, module: str, it: m.Description) -> str:
     uses = [f"use crate::fields::{{{', '.join(helpers)}}};"]
     for use in {use.module: use for kind in it.kinds for use in m.uses(kind)}.values():
         part = snake(use.name)
-        uses.append(f"use crate::{use.module}_json::{{print_{part}, {part}_of}};")
+        named = [name for name in (f"print_{part}", f"{part}_number", f"{part}_of") if re.search(rf"\b{name}\b", body)]
+        uses.append(f"use crate::{use.module}_json::{{{', '.join(named)}}};")
+        uses += [f"use {p.place(use.module)}::{use.name};"] * (f"Vec<{use.name}>" in body)
     uses.append(
         f"use {p.place(module)}::{{{', '.join(types)}}};" if types[1:] else f"use {p.place(module)}::{it.name};"
     )
@@ -139,7 +184,7 @@ def fields_code(p: Program, used: str) -> str:
 def files_of(p: Program) -> dict[str, str]:
     """Returns the texts by their places in the crate."""
     found = {f"src/{module}_json.rt": json_code(p, module, it) for module, it in p.modules()}
-    found |= {f"src/{name}.rt": filled(name, words_of(p)) for name in ("main", "ended", "show", "pack")}
+    found |= {f"src/{name}.rt": filled(name, words_of(p)) for name in ("main", "ended", "show", "skip", "pack")}
     return found | {"src/fields.rt": fields_code(p, "\n".join(found.values()))}
 
 

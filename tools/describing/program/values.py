@@ -1,7 +1,7 @@
 """The text of the module that prints the records of a description as JSON, and reads them from JSON."""
 from __future__ import annotations
 
-from typing import Iterator
+from typing import Iterator, TypeAlias, TypeGuard, assert_never, get_args
 
 from describing import model as m
 from describing.checks import new_enums
@@ -9,23 +9,23 @@ from describing.layout import enum_bits
 from describing.model import Refused, snake
 from describing.write import EXACT
 
-# Names of lines whose values, or numbers of bits, a program cannot have yet.
-LATER = {
-    m.Unary: "a unary number",
-    m.Groups: "a number in groups",
-    m.Golomb: "an Exp-Golomb number",
-    m.List: "a list",
-    m.Count: "a count",
-    m.Tag: "a tag",
-    m.Choose: "a choice",
-}
+# The fields whose values a program prints and reads.
+Shown: TypeAlias = (
+    m.Bool | m.Number | m.NonZero | m.MaybeNonZero | m.Enum | m.Array | m.Unary | m.Groups | m.Golomb | m.Part
+    | m.Optional | m.If | m.List
+)  # fmt: skip
+
+
+def is_shown(kind: m.Kind) -> TypeGuard[Shown]:
+    """Returns true if a program prints and reads the field of a line."""
+    return isinstance(kind, get_args(Shown))
 
 
 def check(it: m.Description) -> None:
     """Refuses a description of which no program is printed."""
     for kind in it.kinds:
-        if type(kind) in LATER:
-            raise Refused(f"`{m.label(kind)}` is {LATER[type(kind)]}: no program is printed for it yet", kind.at)
+        if not is_shown(kind) and not isinstance(kind, m.Const | m.Skip | m.Flag | m.Count):
+            raise Refused(f"`{m.label(kind)}`: no program is printed for it yet", kind.at)
         for use in m.uses(kind):
             try:
                 check(use.description)
@@ -33,13 +33,26 @@ def check(it: m.Description) -> None:
                 raise Refused(f"`{use.module}`: {why}", kind.at) from None
 
 
-def most_bits(it: m.Description) -> int:
-    """Returns the greatest number of bits of a record."""
+def most_bits(it: m.Description) -> int | None:
+    """Returns the greatest number of bits of a record, or None if it is known only when it is written."""
     found = 0
     for kind in it.kinds:
         parts = [most_bits(use.description) for use in m.uses(kind)]
-        found += parts[0] if parts else m.bits(kind) or 0
+        bits = m.bits(kind) if not parts or isinstance(kind, m.List) else parts[0]
+        if bits is None:
+            return None
+        found += bits
     return found
+
+
+def has_list(it: m.Description) -> bool:
+    """Returns true if a record has a list, so that reading it takes memory."""
+    return any(m.grows(kind) for kind in it.kinds)
+
+
+def shown(it: m.Description) -> list[Shown]:
+    """Returns the fields of a description that was checked."""
+    return [kind for kind in it.kinds if is_shown(kind)]
 
 
 def all_uses(it: m.Description) -> Iterator[m.Use]:
@@ -64,19 +77,21 @@ def printed_number(whole: m.Integer, value: str) -> str:
 
 
 def printed_item(item: m.Item, value: str) -> str:
-    """Returns the statement that prints an item of an array."""
+    """Returns the statement that prints an item of an array or a list."""
     if isinstance(item, m.Integer):
         return printed_number(item, f"*{value}")
-    return f"print_{snake(m.item_type(item))}(*{value}, out)?;"
+    return f"print_{snake(m.item_type(item))}({'' if isinstance(item, m.Use) else '*'}{value}, out)?;"
 
 
-def printed_value(kind: m.Described) -> list[str]:
+def printed_value(kind: Shown) -> list[str]:
     """Returns the statements that print a value."""
     value = f"record.{kind.name}"
     match kind:
         case m.Bool():
             return [f'write!(out, "{{}}", {value})?;']
-        case m.Number(integer=whole):
+        case m.Unary() | m.Golomb():
+            return [f'write!(out, "{{}}", {value})?;']
+        case m.Number(integer=whole) | m.Groups(integer=whole):
             return [printed_number(whole, value)]
         case m.NonZero(integer=whole):
             return [printed_number(m.Integer(whole.base, whole.width + 1), f"{value}.get()")]
@@ -86,15 +101,18 @@ def printed_value(kind: m.Described) -> list[str]:
             return [f"print_{snake(enum.name)}({value}, out)?;"]
         case m.Array(item=m.Octet()):
             return [f"print_octets(&{value}, out)?;"]
-        case m.Array(item=item):
+        case m.List(item=m.Octet()):
+            return [f"print_octets({value}.as_slice(), out)?;"]
+        case m.Array(item=item) | m.List(item=item):
             comma = 'if place > 0 { out.write_all(b", ")?; }'
-            loop = f"for (place, item) in {value}.iter().enumerate() {{"
+            items = f"{value}{'.as_slice()' if isinstance(kind, m.List) else ''}"
+            loop = f"for (place, item) in {items}.iter().enumerate() {{"
             return ['out.write_all(b"[")?;', loop, comma, printed_item(item, "item"), "}", 'out.write_all(b"]")?;']
         case m.Part(use=use):
             return [f"print_{snake(use.name)}(&{value}, out)?;"]
         case m.Optional(use=use) | m.If(use=use):
             return [f"match {value} {{", f"Some(part) => print_{snake(use.name)}(&part, out)?,", *NULL]
-    raise AssertionError(kind)
+    assert_never(kind)
 
 
 NULL = ['None => out.write_all(b"null")?,', "}"]
@@ -103,7 +121,7 @@ NULL = ['None => out.write_all(b"null")?,', "}"]
 def print_record(it: m.Description) -> list[str]:
     """Returns the function that prints a record."""
     body: list[str] = []
-    for place, kind in enumerate(it.fields):
+    for place, kind in enumerate(shown(it)):
         name = f'{"{" if place == 0 else ", "}\\"{kind.name}\\": '
         body += [f'out.write_all(b"{name}")?;', *printed_value(kind)]
     return [
@@ -136,27 +154,33 @@ def read_number(whole: m.Integer, name: str, value: str) -> str:
     return f"{call}(alloc, {name}, {value}, {whole.least}, {whole.most})"
 
 
-def read_value(it: m.Description, kind: m.Described) -> str:
+def read_value(it: m.Description, kind: Shown) -> str:
     """Returns the expression of a field."""
     name, value = f'"{kind.name}"', f'field(alloc, object, "{kind.name}")?'
     match kind:
         case m.Bool():
             return f"boolean(alloc, {name}, {value})?"
-        case m.Number(integer=whole):
+        case m.Number(integer=whole) | m.Groups(integer=whole):
             return f"{read_number(whole, name, value)}? as {whole.base}"
+        case m.Unary() | m.Golomb():
+            least, most = m.range_of(kind) or (0, 0)
+            call = "signed" if least else "unsigned"
+            return f"{call}(alloc, {name}, {value}, {least}, {most})? as {m.rust_type(kind)}"
         case m.NonZero(integer=whole):
             return f"{{ let value = {value}; {non_zero(whole, whole.most + 1, name)} }}"
         case m.MaybeNonZero(integer=whole):
             return some(value, non_zero(whole, whole.most, name))
         case m.Enum(enum=enum):
             return f"{snake(enum.name)}_of(alloc, {name}, {value})?"
-        case m.Array():
-            return f"{snake(it.name)}_{kind.name}(alloc, {value})?"
+        case m.List(item=m.Octet()):
+            return f"octets(alloc, {name}, {value}, {most_items(it, kind)})?"
+        case m.Array() | m.List():
+            return f"read_{kind.name}(alloc, {value})?"
         case m.Part(use=use):
             return f"{{ let value = {value}; {read_part(use, name)} }}"
         case m.Optional(use=use) | m.If(use=use):
             return some(value, read_part(use, name))
-    raise AssertionError(kind)
+    assert_never(kind)
 
 
 def some(value: str, present: str) -> str:
@@ -177,12 +201,44 @@ def read_part(use: m.Use, name: str) -> str:
     return f"check_object(alloc, {name}, value)?; inside(alloc, {name}, {snake(use.name)}_of(alloc, value))?"
 
 
-def read_array(it: m.Description, kind: m.Array) -> list[str]:
+def most_items(it: m.Description, kind: m.List) -> int:
+    """Returns the greatest number of items of a list, which its `count` line holds."""
+    return next((1 << line.width) - 1 for line in it.kinds if isinstance(line, m.Count) and line.target == kind.name)
+
+
+def read_list(it: m.Description, kind: m.List) -> list[str]:
+    """Returns the function that makes a list of JSON."""
+    name, item = f'"{kind.name}"', kind.item
+    match item:
+        case m.Octet():
+            return []
+        case m.Integer():
+            one = f"at_item(alloc, place, {read_number(item, name, 'item')})? as {item.base}"
+        case m.EnumType():
+            one = f"at_item(alloc, place, {snake(item.name)}_of(alloc, {name}, item))?"
+        case m.Use():
+            one = f"part_item(alloc, {name}, place, {snake(item.name)}_of(alloc, item))?"
+    checked = [f"at_item(alloc, place, check_object(alloc, {name}, item))?;"] * isinstance(item, m.Use)
+    return [
+        f"/// Returns the list `{kind.name}`.",
+        f"fn read_{kind.name}(alloc: Global, value: &Value) -> Result<{m.rust_type(kind)}, Unfit> {{",
+        "let mut found = Vec::new(alloc);",
+        f"for (place, item) in list(alloc, {name}, value, {most_items(it, kind)})?.iter().enumerate() {{",
+        *checked,
+        f"found.push({one})?;",
+        "}",
+        "Ok(found)",
+        "}",
+        "",
+    ]
+
+
+def read_array(kind: m.Array) -> list[str]:
     """Returns the function that makes an array of JSON."""
     name, item = f'"{kind.name}"', kind.item
     head = [
         f"/// Returns the array `{kind.name}`.",
-        f"fn {snake(it.name)}_{kind.name}(alloc: Global, value: &Value) -> Result<{m.rust_type(kind)}, Unfit> {{",
+        f"fn read_{kind.name}(alloc: Global, value: &Value) -> Result<{m.rust_type(kind)}, Unfit> {{",
     ]
     match item:
         case m.Octet():
@@ -213,7 +269,7 @@ def check_there(kind: m.If) -> list[str]:
 def read_record(it: m.Description) -> list[str]:
     """Returns the function that makes a record of an object."""
     names = ", ".join(f'"{kind.name}"' for kind in it.fields)
-    values = [f"{kind.name}: {read_value(it, kind)}," for kind in it.fields]
+    values = [f"{kind.name}: {read_value(it, kind)}," for kind in shown(it)]
     checks = [line for kind in it.fields if isinstance(kind, m.If) for line in check_there(kind)]
     made = [f"Ok({it.name} {{", *values, "})"]
     if checks:
@@ -225,7 +281,8 @@ def read_record(it: m.Description) -> list[str]:
         *made,
         "}",
         "",
-        *(line for kind in it.fields if isinstance(kind, m.Array) for line in read_array(it, kind)),
+        *(line for kind in it.fields if isinstance(kind, m.Array) for line in read_array(kind)),
+        *(line for kind in it.fields if isinstance(kind, m.List) for line in read_list(it, kind)),
     ]
 
 
@@ -247,8 +304,60 @@ def read_enum(enum: m.EnumType) -> list[str]:
     return ["/// Returns the case of JSON.", head, *body, "}", ""]
 
 
+# ---- numbers by their paths
+
+
+def number_arm(kind: Shown) -> list[str]:
+    """Returns the arm that gives the number of a field, if it is one."""
+    value = f"record.{kind.name}"
+    match kind:
+        case m.Number() | m.Groups():
+            base = kind.integer.base
+        case m.NonZero() | m.MaybeNonZero():
+            base = kind.integer.base
+            value += ".get()" if isinstance(kind, m.NonZero) else "?.get()"
+        case m.Unary() | m.Golomb():
+            base = m.rust_type(kind)
+        case _:
+            return []
+    value += ".min(i128::MAX as u128)" * (base == "u128")
+    return [f'"{kind.name}" => Some({value} as i128),']
+
+
+def part_arm(kind: Shown) -> list[str]:
+    """Returns the arm that gives a number of a part, if a field is one."""
+    match kind:
+        case m.Part(use=use):
+            return [f'"{kind.name}" => {snake(use.name)}_number(&record.{kind.name}, inner),']
+        case m.Optional(use=use) | m.If(use=use):
+            return [f'"{kind.name}" => {snake(use.name)}_number(&record.{kind.name}?, inner),']
+    return []
+
+
+def number_of(it: m.Description) -> list[str]:
+    """Returns the function that gives a number of a record by its path."""
+    numbers = [line for kind in shown(it) for line in number_arm(kind)]
+    parts = [line for kind in shown(it) for line in part_arm(kind)]
+    body = ["None"]
+    if parts:
+        split = "let Some((name, inner)) = path.split_once('.') else { return None; };"
+        body = [split, "match name {", *parts, "_ => None,", "}"]
+    if numbers:
+        inner = ["_ => {", *body, "}"] if parts else ["_ => None,"]
+        body = ["match path {", *numbers, *inner, "}"]
+    record, path = "record" if numbers or parts else "_record", "path" if numbers or parts else "_path"
+    return [
+        "/// Returns a number of a record by its path, whose names have dots between them.",
+        f"pub fn {snake(it.name)}_number({record}: &{it.name}, {path}: &str) -> Option<i128> {{",
+        *body,
+        "}",
+        "",
+    ]
+
+
 def functions(it: m.Description) -> list[str]:
     """Returns the functions of a description."""
     enums = [enum for _, enum in new_enums(it)]
     out = [*print_record(it), *(line for enum in enums for line in print_enum(enum))]
-    return [*out, *read_record(it), *(line for enum in enums for line in read_enum(enum))]
+    out += [*read_record(it), *(line for enum in enums for line in read_enum(enum))]
+    return [*out, *number_of(it)]
