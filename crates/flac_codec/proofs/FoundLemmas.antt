@@ -1,7 +1,7 @@
 -- What a reader of bytes in memory finds at their start, and in how many of them.
 use Rattle.std.proofs.Common.{arith, inl, inr, ◌⊎◌, ◌≡◌, ◌∙◌, ◌++◌, ◌+◌, ◌-◌, ◌*◌, ◌/◌, ◌%◌, ◌<◌, ◌≤◌, ◌^◌, ℕ, ℤ, suc, Bool, true, false, List, [], ◌∷◌, Some, Result, Ok, Err, length, take, drop, refl, sym, ap, subst, add-zero, add_assoc, append_assoc, get_or, length-append, zero-add}
 use Rattle.std.specs.Result.{IsErrAnd}
-use Rattle.std.specs.Prelude.{bit_and, nat_lt, replicate}
+use Rattle.std.specs.Prelude.{MatchResult, bit_and, nat_lt, replicate}
 use Rattle.std.proofs.lemmas.Nat.{and_mask}
 use Rattle.std.proofs.lemmas.Bool.{cases_lt, eq-eqb, le-ltb, lt-ltb}
 use Rattle.std.proofs.Math.Seq.{drop-append_seam, take-append_seam}
@@ -143,6 +143,11 @@ refused-as is same = cc
 
 pub not-refused : {A : Type 0} {v : A} {x : FlacError} → Ok v ≡ Err x → ⊥
 not-refused is = cc
+
+pub first-same : {A : Type 0} {x y : A} {n m : ℕ} → ◌≡◌ {A = Result (A × ℕ) FlacError} (Ok (x, n)) (Ok (y, m)) → x ≡ y
+first-same {A = A} {x = x} {y = y} {n = n} {m = m} is =
+    let P : Result (A × ℕ) FlacError → Type 0 = λ r. MatchResult r (λ p. x ≡ p.0) (λ e. ⊥) in
+    subst P is refl
 
 -- a header and the channels behind it
 pub frame-parts : (sample_size : ℕ) (bytes : List ℕ) {header : FrameHeader} {n m : ℕ} {channels : List (List ℤ)}

@@ -1,4 +1,5 @@
 mod ChecksumRows
+mod FrameRows
 mod HeaderRows
 mod Rows
 pub mod ChannelLemmas

@@ -4,11 +4,13 @@ ghost use Rattle.std.specs.List.{All};
 ghost use Rattle.bitstream_io.specs.Callers.{FitsSignedBits, High, OutOfMemory};
 ghost use Rattle.flac_codec.specs.Channels.{channel_count, channels_decoder};
 ghost use Rattle.flac_codec.specs.Frame.{found, frame_at, header_at, width_of, IsFoundIn};
+ghost use Rattle.flac_codec.specs.declared.error.FlacError.TheVariants.{Reader};
 ghost use Rattle.flac_codec.specs.Header.{header_decoder, IsHeader};
 
 use crate::channel_writing::write_channels;
 use crate::checksum::{crc8, crc16};
-use crate::frame::width_of;
+use crate::error::FlacError;
+use crate::frame::{Frame, decode_frame, width_of};
 use crate::header::{Channels, FrameHeader};
 use crate::heading::write_header;
 use bitstream_io::{BE, BitWrite, BitWriter, Error, Growing};
@@ -44,6 +46,33 @@ pub fn encode_frame(
     bytes.push((checksum >> 8) as u8)?;
     bytes.push((checksum & 0xff) as u8)?;
     Ok(bytes)
+}
+
+/// Encodes a frame, and decodes what was encoded: the header and the samples again.
+///
+/// # Errors
+///
+/// Memory was refused.
+pub fn frame_round_trip(
+    alloc: Global,
+    sample_size: u8,
+    header: &FrameHeader,
+    channels: &[Vec<i64>],
+) -> Result<Frame, FlacError>
+    requires valid { IsHeader header.now }
+    requires some { 1 ≤ width_of sample_size header.now }
+    requires within { width_of sample_size header.now ≤ 32 }
+    requires count { length channels.now ≡ channel_count header.now.channels }
+    requires whole { All (λ channel. length channel.items ≡ header.now.block_size) channels.now }
+    requires fit { All (λ channel. All (FitsSignedBits (width_of sample_size header.now)) channel.items) channels.now }
+    ensures { MatchResult result
+        (λ frame. (frame.header ≡ header.now)
+        × (map (λ channel. channel.items) frame.channels.items ≡ map (λ channel. channel.items) channels.now))
+        (λ error. error ≡ Reader OutOfMemory) }
+{
+    let bytes = encode_frame(alloc, sample_size, header, channels)?;
+    let frame = decode_frame(alloc, sample_size, bytes.as_slice())?;
+    Ok(frame)
 }
 
 /// Returns a header and its checksum.

@@ -28,7 +28,7 @@ pub use checksum::{crc8, crc16};
 pub use coded::read_coded;
 pub use error::FlacError;
 pub use frame::{Frame, decode_frame};
-pub use framing::encode_frame;
+pub use framing::{encode_frame, frame_round_trip};
 pub use header::{Channels, FrameHeader, read_header};
 pub use heading::write_header;
 pub use lossless::{decode, encode, round_trip};
