@@ -16,8 +16,8 @@ from describing.program import values
 HERE = os.path.dirname(os.path.abspath(__file__))
 MADE = re.compile(r"^//! Made by `./format --program` from (\S+): ", re.MULTILINE)
 HELPERS = (
-    "at_item boolean check_names check_object field fill_octets inside items list misfit octets other_number part_item "
-    "print_octets print_wide print_wide_signed signed unsigned wide_signed wide_unsigned"
+    "at_item boolean check_names check_object field fill_octets inside items list misfit octets other_case part_item "
+    "put_octets put_wide put_wide_signed signed unsigned wide_signed wide_unsigned"
 ).split()
 
 

@@ -72,8 +72,8 @@ def printed_number(whole: m.Integer, value: str) -> str:
     if max(-whole.least, whole.most) <= EXACT:
         return f'write!(out, "{{}}", {value})?;'
     if whole.signed:
-        return f"print_wide_signed({value} as i128, out)?;"
-    return f"print_wide({value} as u128, out)?;"
+        return f"put_wide_signed({value} as i128, out)?;"
+    return f"put_wide({value} as u128, out)?;"
 
 
 def printed_item(item: m.Item, value: str) -> str:
@@ -100,9 +100,9 @@ def printed_value(kind: Shown) -> list[str]:
         case m.Enum(enum=enum):
             return [f"print_{snake(enum.name)}({value}, out)?;"]
         case m.Array(item=m.Octet()):
-            return [f"print_octets(&{value}, out)?;"]
+            return [f"put_octets(&{value}, out)?;"]
         case m.List(item=m.Octet()):
-            return [f"print_octets({value}.as_slice(), out)?;"]
+            return [f"put_octets({value}.as_slice(), out)?;"]
         case m.Array(item=item) | m.List(item=item):
             comma = 'if place > 0 { out.write_all(b", ")?; }'
             items = f"{value}{'.as_slice()' if isinstance(kind, m.List) else ''}"
@@ -297,7 +297,7 @@ def read_enum(enum: m.EnumType) -> list[str]:
     body = ["match value.as_str() {", *arms, f"_ => {refused},", "}"]
     if enum.other:
         known = " | ".join(str(number) for number, _ in enum.cases)
-        said = f'other_number(value, "{enum.other}", {(1 << enum.width) - 1})'
+        said = f'other_case(value, "{enum.other}", {(1 << enum.width) - 1})'
         other = f"Some(number) => Ok({enum.name}::{enum.other}(number as u{enum_bits(enum)})),"
         inner = [f"_ => match {said} {{", f"None | Some({known}) => {refused},", other, "},"]
         body = ["match value.as_str() {", *arms, *inner, "}"]
