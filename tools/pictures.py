@@ -198,7 +198,7 @@ HOLDS = {
     "protocols": "headers of protocols, printed from descriptions",
     "bitstream_formats": "FLAC, H.264, AV1 and others",
     "bitfields_core": "layouts of bit fields",
-    "flac_codec": "FLAC subframes, lossless",
+    "flac_codec": "FLAC frames, lossless",
     "bitfields": "the program",
     "formats": "the program",
     "wav_header": "a whole program, printed from a description",
