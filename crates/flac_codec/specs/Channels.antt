@@ -30,11 +30,12 @@ joined SideRight side right = more 0 right side ∷ right ∷ []
 joined MidSide middle side = let right = less 1 middle side in more 0 right side ∷ right ∷ []
 joined (Independent count) first second = first ∷ second ∷ []
 
--- the bits of a sample of the first subframe and of the second one: a side has one more
+-- the bits of a sample of the first subframe: a side has one more
 abbrev pub first_width : Channels → ℕ → ℕ
 first_width SideRight width = width + 1
 first_width channels width = width
 
+-- and of the second one
 abbrev pub second_width : Channels → ℕ → ℕ
 second_width LeftSide width = width + 1
 second_width MidSide width = width + 1
