@@ -35,7 +35,7 @@ abbrev pub first_width : Channels → ℕ → ℕ
 first_width SideRight width = width + 1
 first_width channels width = width
 
--- the bits of a sample of the second subframe: a side has one more
+-- and of the second one
 abbrev pub second_width : Channels → ℕ → ℕ
 second_width LeftSide width = width + 1
 second_width MidSide width = width + 1

@@ -1,12 +1,10 @@
-//! The channels of a frame (sections 4.2 and 9.2), read and written.
+//! The channels of a frame (sections 4.2 and 9.2), read.
 ghost use Rattle.std.specs.Prelude.{◌≡◌, ◌<◌, ◌∷◌, [], map, IfOk, MatchResult};
-ghost use Rattle.bitstream_io.specs.Callers.{result_map, GrowsOwn};
+ghost use Rattle.bitstream_io.specs.Callers.{parts_decoder, result_map, GrowsOwn, OutOfMemory};
 ghost use Rattle.flac_codec.specs.Channels.{channels_decoder, first_width, joined, less, more, pair_decoder, second_width};
 ghost use Rattle.flac_codec.specs.Errors.{becomes_flac};
 ghost use Rattle.flac_codec.specs.Subframe.{subframe_decoder};
-ghost use Rattle.bitstream_io.specs.Callers.{parts_decoder};
 ghost use Rattle.flac_codec.specs.declared.error.FlacError.TheVariants.{Reader};
-ghost use Rattle.bitstream_io.specs.Callers.{OutOfMemory};
 
 use crate::error::FlacError;
 use crate::header::Channels;

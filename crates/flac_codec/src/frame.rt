@@ -150,3 +150,27 @@ fn check_crc16(bytes: &[u8], size: usize) -> Result<(), FlacError>
     }
     Ok(())
 }
+
+#[cfg(test)]
+mod tests {
+    use super::*;
+    use std::test::Fail;
+
+    // The second frame of the second example of RFC 9639 (appendix D.2): three samples in two verbatim channels.
+    #[test]
+    fn decodes_a_frame_of_the_rfc(rt: HostRuntime) -> Result<(), Fail> {
+        let bytes = [
+            0xff, 0xf8, 0x69, 0x18, 0x01, 0x02, 0xa4, 0x02, 0xc3, 0x82, 0xc4, 0x0b, 0xc1, 0x4a,
+            0x03, 0xee, 0x48, 0xdd, 0x03, 0xb6, 0x7c, 0x13, 0x30,
+        ];
+        let frame = decode_frame(rt.alloc(), 16, &bytes)?;
+        assert_eq!(rt; frame.size, 23);
+        assert_eq!(rt; frame.header.number, 1);
+        assert_eq!(rt; frame.channels.len(), 2);
+        assert_eq!(rt;
+            frame.channels[0].as_slice(),
+            [-15486, -15349, -16054].as_slice()
+        );
+        Ok(())
+    }
+}

@@ -1,8 +1,10 @@
-//! Subframes of FLAC (RFC 9639, section 9.2), proved lossless: [`decode`] returns the samples that [`encode`] was given.
+//! Subframes and frames of FLAC (RFC 9639, section 9), proved lossless: [`decode`] returns the samples that [`encode`] was
+//! given, and [`decode_frame`] the header and the channels that [`encode_frame`] was given.
 //!
-//! `subframe_decoder` (`specs/Subframe.antt`) is the one definition of the format here. [`read_subframe`] returns what it
-//! says for every stream. [`write_subframe`] writes bits from which it reads the samples; which kind of subframe it
-//! chooses is left open, so a better choice needs no new contract.
+//! The definitions of `specs/` are the format: `subframe_decoder` (`Subframe.antt`), `header_decoder` (`Header.antt`),
+//! `crc8` and `crc16` (`Checksum.antt`), `channels_decoder` (`Channels.antt`) and `frame_at` (`Frame.antt`). What is read is
+//! what they say, for every stream. What is written are bits from which they read the value; which codes and which kind of
+//! subframe are chosen is left open, so a better choice needs no new contract.
 #![tactic(auto)]
 
 mod channel_writing;
