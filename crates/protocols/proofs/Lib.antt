@@ -11,9 +11,13 @@ pub mod J1939FrameLemmas
 pub mod MacFrameControlLemmas
 pub mod ModbusHeaderLemmas
 pub mod Mp3HeaderLemmas
+pub mod MqttHeaderLemmas
 pub mod NtpPacketLemmas
 pub mod NtpTimestampLemmas
 pub mod PngStartLemmas
+pub mod QuicLongHeaderLemmas
+pub mod ReportBlockLemmas
+pub mod RtcpSenderReportLemmas
 pub mod TcpHeaderLemmas
 pub mod TsHeaderLemmas
 pub mod UdpHeaderLemmas
@@ -31,9 +35,13 @@ mod J1939FrameRows
 mod MacFrameControlRows
 mod ModbusHeaderRows
 mod Mp3HeaderRows
+mod MqttHeaderRows
 mod NtpPacketRows
 mod NtpTimestampRows
 mod PngStartRows
+mod QuicLongHeaderRows
+mod ReportBlockRows
+mod RtcpSenderReportRows
 mod TcpHeaderRows
 mod TsHeaderRows
 mod UdpHeaderRows

@@ -12,9 +12,14 @@ pub mod J1939Frame
 pub mod MacFrameControl
 pub mod ModbusHeader
 pub mod Mp3Header
+pub mod MqttHeader
 pub mod NtpPacket
 pub mod NtpTimestamp
 pub mod PngStart
+pub mod QuicLongHeader
+pub mod QuicLongHeaderFields
+pub mod ReportBlock
+pub mod RtcpSenderReport
 pub mod TcpHeader
 pub mod TsHeader
 pub mod UdpHeader

@@ -1,8 +1,10 @@
 //! Headers of protocols and of files in use, which `./format` printed from the descriptions in `formats/`. Each
 //! description names the standard and its section, and its examples are from captures or the standard.
 //!
+//! - [`adsb_message`]: the fixed part of an ADS-B message
 //! - [`arp_packet`]: a packet of ARP for IPv4 over Ethernet
 //! - [`can_frame`]: the header of a CAN frame in a capture
+//! - [`coap_header`]: the header of a CoAP message and its token
 //! - [`dns_header`]: the header of a DNS message
 //! - [`ethernet_header`]: the header of an Ethernet frame, with [`vlan_tag`]: the tag of a virtual network
 //! - [`icmp_echo`]: the header of an echo message of ICMP
@@ -12,7 +14,11 @@
 //! - [`mac_frame_control`]: the frame control field of IEEE 802.15.4
 //! - [`modbus_header`]: the header of a Modbus/TCP message
 //! - [`mp3_header`]: the header of a frame of MPEG audio
+//! - [`mqtt_header`]: the fixed header of an MQTT packet
+//! - [`ntp_packet`]: the header of an NTP packet, with [`ntp_timestamp`]: its timestamps
 //! - [`png_start`]: the start of a PNG file, with its first chunk
+//! - [`quic_long_header`]: the start of a long header of QUIC
+//! - [`rtcp_sender_report`]: a sender report of RTCP, with [`report_block`]: a block of one
 //! - [`tcp_header`]: the header of a TCP segment without options
 //! - [`ts_header`]: the header of a packet of an MPEG transport stream
 //! - [`udp_header`]: the header of a UDP datagram
@@ -31,9 +37,13 @@ pub mod j1939_frame;
 pub mod mac_frame_control;
 pub mod modbus_header;
 pub mod mp3_header;
+pub mod mqtt_header;
 pub mod ntp_packet;
 pub mod ntp_timestamp;
 pub mod png_start;
+pub mod quic_long_header;
+pub mod report_block;
+pub mod rtcp_sender_report;
 pub mod tcp_header;
 pub mod ts_header;
 pub mod udp_header;

@@ -1,0 +1,9 @@
+-- Made by `./format` from formats/rtcp_sender_report.fields: edit that file and make this one anew.
+use Rattle.protocols.proofs.RtcpSenderReportLemmas.{rtcp_sender_report_goes, rtcp_sender_report_packs}
+use Rattle.protocols.proofs.rtcp_sender_report.rtcp_sender_report_round_trip.Goals as goal
+
+pub returns-clause-back : goal.returns-clause-back
+returns-clause-back c = λ o value at from more fits. (rtcp_sender_report_goes o value fits).back at from more
+
+pub returns-clause-size : goal.returns-clause-size
+returns-clause-size c = λ o value at fits. (rtcp_sender_report_packs o value fits).size at
