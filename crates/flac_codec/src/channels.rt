@@ -16,7 +16,7 @@ use std::alloc::{AllocFailed, Global};
 ///
 /// # Errors
 ///
-/// Those of [`read_subframe`].
+/// Returns the errors of [`read_subframe`].
 pub fn read_channels<R: BitRead>(
     reader: &mut R,
     alloc: Global,

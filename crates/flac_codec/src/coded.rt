@@ -79,7 +79,7 @@ fn read_rest<R: BitRead>(
 ///
 /// # Errors
 ///
-/// Those of the writer.
+/// Returns the errors of the writer.
 pub(crate) fn write_coded<W: BitWrite>(writer: &mut W, number: u64) -> Result<(), Error>
     requires { number < 2 ^ 36 }
     ensures { WritesAll W.sink (coded_writes W.sink.order number) writer.old result writer.new }

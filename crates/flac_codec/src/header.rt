@@ -8,7 +8,7 @@ use crate::coded::read_coded;
 use crate::error::FlacError;
 use bitstream_io::{BitRead, BitReadExt, Bits};
 
-/// How the channels of a frame are coded.
+/// The coding of the channels of a frame.
 #[derive(Clone, Copy, Debug, PartialEq, Eq)]
 pub enum Channels {
     /// Each by itself: one to eight of them.

@@ -12,7 +12,7 @@ use bitstream_io::{BitWrite, BitWriteExt, Bits, Error};
 ///
 /// # Errors
 ///
-/// Those of the writer.
+/// Returns the errors of the writer.
 pub fn write_header<W: BitWrite>(writer: &mut W, header: &FrameHeader) -> Result<(), Error>
     requires { IsHeader header.now }
     ensures { WritesValue W.sink (header_decoder W.sink.order) header.now writer.old result writer.new }

@@ -38,7 +38,7 @@ use bitstream_io::{
 /// ```
 #[derive(Clone, Copy, Debug, PartialEq)]
 pub struct ArpPacket {
-    /// Whether an address is asked for or told.
+    /// The operation: a request for an address, or a reply.
     pub operation: Operation,
     /// The Ethernet address of the sender.
     pub sender_hardware: [u8; 6],
@@ -78,7 +78,7 @@ impl From<Error> for ArpError {
     }
 }
 
-/// Whether an address is asked for or told.
+/// The operation: a request for an address, or a reply.
 #[derive(Clone, Copy, Debug, PartialEq)]
 pub enum Operation {
     /// 1.

@@ -38,7 +38,7 @@ pub struct CoapHeader {
     pub detail: u8,
     /// The number that an acknowledgement shares with its message.
     pub id: u16,
-    /// What a response shares with its request. Fewer than 2^4.
+    /// The bytes that a response shares with its request. Fewer than 2^4.
     pub token: Vec<u8>,
 }
 

@@ -29,7 +29,7 @@ use bitstream_io::{
 /// ```
 #[derive(Clone, Copy, Debug, PartialEq)]
 pub struct IcmpEcho {
-    /// Whether it asks for a reply or is one.
+    /// The kind of the message: a request or a reply.
     pub kind: EchoKind,
     /// The checksum of the message.
     pub checksum: u16,
@@ -61,7 +61,7 @@ impl From<Error> for IcmpEchoError {
     }
 }
 
-/// Whether it asks for a reply or is one.
+/// The kind of the message: a request or a reply.
 #[derive(Clone, Copy, Debug, PartialEq)]
 pub enum EchoKind {
     /// 8.

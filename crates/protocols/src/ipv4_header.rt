@@ -38,7 +38,7 @@ pub struct Ipv4Header {
     pub words: u8,
     /// The differentiated services code point (RFC 2474). Below 2^6.
     pub dscp: u8,
-    /// Whether the path is congested (RFC 3168).
+    /// The congestion mark of the path (RFC 3168).
     pub ecn: Ecn,
     /// The bytes of the packet, with this header.
     pub size: u16,
@@ -84,7 +84,7 @@ impl From<Error> for Ipv4Error {
     }
 }
 
-/// Whether the path is congested (RFC 3168).
+/// The congestion mark of the path (RFC 3168).
 #[derive(Clone, Copy, Debug, PartialEq)]
 pub enum Ecn {
     /// 0.

@@ -34,7 +34,7 @@ use bitstream_io::{
 pub struct Ipv6Header {
     /// The differentiated services code point (RFC 2474). Below 2^6.
     pub dscp: u8,
-    /// Whether the path is congested (RFC 3168).
+    /// The congestion mark of the path (RFC 3168).
     pub ecn: Ecn,
     /// The flow that the packet belongs to. Below 2^20.
     pub flow: u32,
@@ -69,7 +69,7 @@ impl From<Error> for Ipv6Error {
     }
 }
 
-/// Whether the path is congested (RFC 3168).
+/// The congestion mark of the path (RFC 3168).
 #[derive(Clone, Copy, Debug, PartialEq)]
 pub enum Ecn {
     /// 0.

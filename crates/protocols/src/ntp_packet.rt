@@ -45,7 +45,7 @@ pub struct NtpPacket {
     pub version: u8,
     /// The role of the sender.
     pub mode: Mode,
-    /// How far the sender is from a clock, or 0 if that is not known.
+    /// The distance of the sender from a clock, or 0 if it is not known.
     pub stratum: u8,
     /// The logarithm of the seconds between messages, to the base 2.
     pub poll: i8,

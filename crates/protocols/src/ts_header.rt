@@ -35,9 +35,9 @@ pub struct TsHeader {
     pub priority: bool,
     /// The stream that the packet belongs to. Below 2^13.
     pub pid: u16,
-    /// Whether the payload is scrambled, and how. Below 2^2.
+    /// The scrambling of the payload, 0 for none. Below 2^2.
     pub scrambling: u8,
-    /// Whether an adaptation field or a payload follows, or both.
+    /// The parts that follow: an adaptation field, a payload or both.
     pub adaptation: Adaptation,
     /// The number of the packet among those with a payload. Below 2^4.
     pub continuity: u8,
@@ -65,7 +65,7 @@ impl From<Error> for TsError {
     }
 }
 
-/// Whether an adaptation field or a payload follows, or both.
+/// The parts that follow: an adaptation field, a payload or both.
 #[derive(Clone, Copy, Debug, PartialEq)]
 pub enum Adaptation {
     /// 1.
