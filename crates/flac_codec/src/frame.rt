@@ -42,8 +42,9 @@ struct ChannelsAt {
 ///
 /// # Errors
 ///
-/// Those of [`read_header`], `HeaderChecksum`, those of [`read_channels`], and `FrameChecksum`: the first of them in this
-/// order. `Reader(EndOfInput)` if the bytes end before. Memory was refused.
+/// Returns the first error in this order: an error of [`read_header`], `HeaderChecksum`, an error of [`read_channels`],
+/// `FrameChecksum`. If the bytes end before, it returns `Reader(EndOfInput)`, and if an allocation fails,
+/// `Reader(OutOfMemory)`.
 pub fn decode_frame(alloc: Global, sample_size: u8, bytes: &[u8]) -> Result<Frame, FlacError>
     ensures { IsUnlessRefused (frame_at sample_size bytes.now)
         (result_map (λ frame. ((frame.header, map (λ channel. channel.items) frame.channels.items), frame.size)) result) }

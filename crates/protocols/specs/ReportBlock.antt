@@ -1,4 +1,4 @@
--- What a receiver reports of one source of RTP (RFC 3550, section 6.4.1).
+-- A receiver's report on one source of RTP (RFC 3550, section 6.4.1).
 use Rattle.protocols.specs.declared.report_block.ReportBlock.{ReportBlock}
 use Rattle.std.specs.Prelude.{◌^◌, ◌<◌, ◌++◌, ◌∷◌, [], ℕ, Bool, List, take, drop}
 use Rattle.bitstream_io.specs.Callers.{◌>>=◌, Decoder, Encoder, pure, Order, High, number, signed_number, FitsSignedBits, unsigned_decoder, signed_decoder, unsigned, signed, align, write_sequence}

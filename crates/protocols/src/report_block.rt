@@ -1,4 +1,4 @@
-//! What a receiver reports of one source of RTP (RFC 3550, section 6.4.1).
+//! A receiver's report on one source of RTP (RFC 3550, section 6.4.1).
 //!
 //! Made by `./format` from formats/report_block.fields: edit that file and make this one anew.
 ghost use Rattle.protocols.specs.ReportBlock.{report_block_decoder, report_block_writes, report_block_bits, report_block_at, Fits};
@@ -13,7 +13,7 @@ use bitstream_io::{
     SliceMut, ToBitStream, pack_into,
 };
 
-/// What a receiver reports of one source of RTP (RFC 3550, section 6.4.1).
+/// A receiver's report on one source of RTP (RFC 3550, section 6.4.1).
 ///
 /// ```text
 ///  0                   1                   2                   3
@@ -42,7 +42,7 @@ pub struct ReportBlock {
     pub lost: i32,
     /// The highest sequence number that was received, after the number of its cycles.
     pub highest: u32,
-    /// How much the time between packets varies, in units of the RTP timestamp.
+    /// The variation of the time between packets, in units of the RTP timestamp.
     pub jitter: u32,
     /// The middle bits of the NTP timestamp of the source's last report.
     pub last_report: u32,
