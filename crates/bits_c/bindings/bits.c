@@ -17,12 +17,21 @@ struct bits_signed proved_bits_read_signed(struct bits_reader *reader, uint32_t 
 int32_t proved_bits_skip(struct bits_reader *reader, uint64_t count);
 void proved_bits_align(struct bits_reader *reader);
 uint64_t proved_bits_left(const struct bits_reader *reader);
+int32_t proved_bits_write_unsigned(struct bits_writer *writer, uint32_t width, uint64_t value);
+int32_t proved_bits_write_unsigned_le(struct bits_writer *writer, uint32_t width, uint64_t value);
+int32_t proved_bits_write_align(struct bits_writer *writer);
+int32_t proved_bits_write_align_le(struct bits_writer *writer);
+uint64_t proved_bits_room(const struct bits_writer *writer);
 
-/* The layout that the proved functions have: with another one this type has a negative size. */
+/* The layouts that the proved functions have: with another one a type has a negative size. */
 typedef char bits_layout[sizeof(struct bits_reader) == 24 && offsetof(struct bits_reader, at) == 16 ? 1 : -1];
+typedef char bits_writer_layout[sizeof(struct bits_writer) == 24 && offsetof(struct bits_writer, at) == 16 ? 1 : -1];
 
 /* What a reader of no bytes points to: the proved functions expect no null pointer in a struct. */
 static const uint8_t none[1];
+
+/* The same for a writer. No call writes to it. */
+static uint8_t no_room[1];
 
 static int is_null(const struct bits_reader *reader)
 {
@@ -79,6 +88,50 @@ uint64_t bits_left(const struct bits_reader *reader)
     return is_null(reader) ? 0 : proved_bits_left(reader);
 }
 
+static int is_null_writer(const struct bits_writer *writer)
+{
+    return !writer || !writer->bytes;
+}
+
+enum bits_status bits_writer_open(struct bits_writer *writer, uint8_t *bytes, size_t length)
+{
+    if (!writer || (!bytes && length))
+        return BITS_NULL;
+    writer->bytes = bytes ? bytes : no_room;
+    writer->length = length;
+    writer->at = 0;
+    return BITS_OK;
+}
+
+enum bits_status bits_write_unsigned(struct bits_writer *writer, uint32_t width, uint64_t value)
+{
+    if (is_null_writer(writer))
+        return BITS_NULL;
+    return (enum bits_status)proved_bits_write_unsigned(writer, width, value);
+}
+
+enum bits_status bits_write_unsigned_le(struct bits_writer *writer, uint32_t width, uint64_t value)
+{
+    if (is_null_writer(writer))
+        return BITS_NULL;
+    return (enum bits_status)proved_bits_write_unsigned_le(writer, width, value);
+}
+
+enum bits_status bits_write_align(struct bits_writer *writer)
+{
+    return is_null_writer(writer) ? BITS_NULL : (enum bits_status)proved_bits_write_align(writer);
+}
+
+enum bits_status bits_write_align_le(struct bits_writer *writer)
+{
+    return is_null_writer(writer) ? BITS_NULL : (enum bits_status)proved_bits_write_align_le(writer);
+}
+
+uint64_t bits_room(const struct bits_writer *writer)
+{
+    return is_null_writer(writer) ? 0 : proved_bits_room(writer);
+}
+
 const char *bits_status_text(enum bits_status status)
 {
     switch (status) {
@@ -90,6 +143,10 @@ const char *bits_status_text(enum bits_status status)
         return "more than 64 bits, or a signed number of no bits";
     case BITS_NULL:
         return "a pointer is null";
+    case BITS_NO_ROOM:
+        return "the buffer has fewer bits left";
+    case BITS_DOES_NOT_FIT:
+        return "the number has more bits";
     }
     return "no status";
 }

@@ -1,4 +1,4 @@
-use Rattle.std.proofs.Common.{◌≡◌, ◌+◌, ◌≤◌, length, refl}
+use Rattle.std.proofs.Common.{refl}
 use Rattle.bitstream_io.proofs.CallerLemmas.{fields_there, fields_short, slice_ends}
 use Rattle.bitstream_io.specs.Callers.{High, bits}
 use Rattle.bits_c.proofs.ReaderLemmas.{number-found}
