@@ -206,7 +206,7 @@ HOLDS = {
     "test_streams": "streams of the tests",
     "bitstream_bench": "tests",
     "bitstream_vectors": "test vectors",
-    "bits_c": "a reader of bits for C",
+    "bits_c": "bits for C, read and written",
     "ccsds_c": "a printed format for C, Rust and Python",
     "bench_port": "functions of the benchmark",
     "bench_parsers": "functions of the benchmark",
