@@ -96,7 +96,7 @@ class Line:
         match self.kind:
             case m.Array() | m.List():
                 return not isinstance(self.kind.item, m.Octet)
-        return isinstance(self.kind, m.Golomb | m.Part | m.Optional | m.If | m.Choose | m.Sized)
+        return isinstance(self.kind, m.Golomb | m.Part | m.Optional | m.If | m.Choose | m.Sized | m.Fill)
 
     def least(self, at: int = 0) -> int:
         """Returns the number of bytes that have all its bits."""
@@ -146,7 +146,7 @@ def lines_of(description: m.Description) -> tuple[Line, ...]:
     found: list[Line] = []
     shared, seen = shared_cases(description), set[int]()
     for index, kind in enumerate(description.kinds):
-        if isinstance(kind, m.Fill | m.Rest | m.Until):
+        if isinstance(kind, m.Rest | m.Until):
             raise Refused(UNPRINTED, kind.at)
         check_printed(description, kind)
         enum, error, width = m.held_item(kind), m.error(kind), m.bits(kind)
@@ -198,6 +198,8 @@ def check_printed(description: m.Description, kind: m.Printed) -> None:
             raise Refused(UNPRINTED, kind.at)
         case m.Sized(item=m.Octet()):
             raise Refused(UNPRINTED, kind.at)
+        case m.Fill(use=use) if sum(m.bits(it) or 0 for it in use.description.kinds) < 8:
+            raise Refused("an item that fills a size has at least 8 bits of constant width", kind.at)
         case m.Choose() if m.any_octets(kind) and not kind.sized:
             raise Refused(f"{UNPRINTED}: a case holds bytes in code if a `size` line says how many", kind.at)
         case m.Choose() if any(it.number is not None and isinstance(it.held, m.Octet) for it in kind.arms):
@@ -288,7 +290,10 @@ class Format:
         """Returns true if errors of a part become errors of the format."""
         for use in m.uses(kind):
             return bool(
-                use.description.error or isinstance(kind, m.Part | m.Sized) and m.allocating(use) and self.error
+                use.description.error
+                or isinstance(kind, m.Part | m.Sized | m.Fill)
+                and m.allocating(use)
+                and self.error
             )
         return False
 

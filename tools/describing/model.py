@@ -380,9 +380,9 @@ Kind: TypeAlias = Described | Hidden
 # The kinds of which code is printed.
 Printed: TypeAlias = (
     Bool | Number | NonZero | MaybeNonZero | Enum | Array | Unary | Groups | Golomb | Part | Optional | If | List
-    | Const | Skip | Flag | Count | Tag | Choose | Size | Sized
+    | Const | Skip | Flag | Count | Tag | Choose | Size | Sized | Fill
 )  # fmt: skip
-Measured: TypeAlias = Sized | Choose
+Measured: TypeAlias = Sized | Choose | Fill
 
 
 def is_field(kind: Kind) -> TypeGuard[Described]:
@@ -541,7 +541,7 @@ def has_list(use: Use) -> bool:
 
 def is_measured(kind: Kind) -> TypeGuard[Measured]:
     """Returns true if an earlier line has the size of this line, which is printed in code."""
-    return isinstance(kind, Sized) or isinstance(kind, Choose) and kind.sized
+    return isinstance(kind, Sized | Fill) or isinstance(kind, Choose) and kind.sized
 
 
 def ordered(description: Description) -> bool:

@@ -37,7 +37,7 @@ Rattle.bitstream_io.specs.Callers: ← Decoder Encoder Done pure list_item Error
     bytes_decoder vec_decoder bytes_of skip_decoder vbr_decoder any_vbr_decoder signed_vbr_decoder any_signed_vbr_decoder items_decoder
     option_decoder plain bit unsigned signed unary_word buffer zeros align vbr signed_vbr non_zero write_sequence words
     Reads ReadsOwn OwnAnswer WritesAll AllAccepted sequence_length sure_answer GrowsOwn MayAllocate OutOfMemory Stream result_map
-    same_error plain_reads part_then parts_decoder all_ok if_any number_or_zero optional own_optional optional_writes
+    same_error memory_source plain_reads part_then parts_decoder all_ok if_any number_or_zero optional own_optional optional_writes
     optional_size
     non_zero_u8 non_zero_u16 non_zero_u32 non_zero_u64 non_zero_u128
     non_zero_u8_decoder non_zero_u16_decoder non_zero_u32_decoder non_zero_u64_decoder non_zero_u128_decoder

@@ -26,7 +26,6 @@ flags, counts, tags and sizes are not printed: `--pack` computes them.
     choose body Body by kind: 1 Ack of ack, 2 Raw bytes  a choice with a case that holds bytes
     size body 16 plus 20 by 4                          the size of `body` in bytes, plus (or less) 20, in units of 4 bytes
     sized body bytes                                   bytes of that size
-    fill items Item of item WrongSize                  parts up to the end of the size of `items`
     rest items u16 16                                  items of a list up to the end of the bytes, or of the size around
     until name u8 8 0                                  numbers up to the first 0, which is no item
 

@@ -1,3 +1,4 @@
 mod DhcpLemmas
 mod Rows
 pub mod WithinLemmas
+pub mod FilledLemmas

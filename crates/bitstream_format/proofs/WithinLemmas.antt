@@ -135,7 +135,7 @@ module _ {R A E : Type 0} {K : BitSource R} (err : E) (own : Error → E) (ended
 
 -- ---- the bytes of a part, and then the part
 
-fine_by : {R : Type 0} {K : BitSource R} (o : Order) (n : ℕ) {xs : List ℕ} {s t : R} → ReadsGrowing K (bytes_decoder o n) s (Ok xs) t
+pub fine_by : {R : Type 0} {K : BitSource R} (o : Order) (n : ℕ) {xs : List ℕ} {s t : R} → ReadsGrowing K (bytes_decoder o n) s (Ok xs) t
     → (K.state t).failed ≡ false
 unfolding bytes_decoder
 fine_by o n (r_had_failed h) = let p = h.answer in cc
@@ -144,7 +144,7 @@ fine_by o n (r_was_refused h) = let p = h.answer in cc
 fine_by o n (r_memory_refused g h) = let p = h.answer in cc
 
 module _ {R A E : Type 0} {K : BitSource R} {own : Error → E} {r : Result A E} where
-  stored-by : {known : Result A E} {s : R} → (K.state s).failed ≡ false → UnlessMemory own known r
+  pub stored-by : {known : Result A E} {s : R} → (K.state s).failed ≡ false → UnlessMemory own known r
       → GrowsOwn K (λ error y. y ≡ own error) (stores known) s r s
   stored-by {known = known} {s = s} fine (inl is) = record {
     plain = Ok known;

@@ -5,5 +5,6 @@ pub mod Lists
 pub mod Choices
 pub mod Sizes
 pub mod Within
+pub mod Filled
 pub mod Places
 pub mod Examples

@@ -14,7 +14,8 @@
 //! - `Choices`: `choose` one of several cases by a tag
 //! - `Sizes`: `sized`, a part that fills a stated number of bytes, and `fill`, a list that does. The size
 //!   limits the reader: the part is read over these bytes alone.
-//! - `Within`: parts of a stated size in code, which `./format` prints; [`within`] has their functions
+//! - `Within`, `Filled`: parts of a stated size, and lists that fill one, as `./format` prints them; [`within`] has
+//!   their functions
 //! - `Places`: formats of a fixed width, each of whose fields has its place among the bits
 //!
 //! The [`examples`] are eight formats by hand.

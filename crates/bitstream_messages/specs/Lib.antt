@@ -3,8 +3,14 @@ pub mod Event
 pub mod Extension
 pub mod ExtensionBytes
 pub mod ExtensionFields
+pub mod Extensions
+pub mod ExtensionsFields
 pub mod Frame
 pub mod FrameFields
+pub mod Hello
+pub mod HelloFields
+pub mod Log
+pub mod LogFields
 pub mod Mark
 pub mod Message
 pub mod MessageFields

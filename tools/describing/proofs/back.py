@@ -76,7 +76,7 @@ def back(f: Format, line: Line, behind: str) -> str:
             width, size = kind.width, measured_size(line.measures, "High")
             shown = f"({measured_writes(line.measures, 'High')}) _ _ ({size}) _"
             return f"size-back o {width} {shown} {size_facts(line)} ({behind})"
-        case m.Sized():
+        case m.Sized() | m.Fill():
             read = f"{kind.name}_sized o ({measured_size(kind, 'High')} / 8)"
             return f"part-back ({read}) _ ({word(line)}) _ (Ok {term}) _ {kind.name} ({behind})"
         case m.Choose():
@@ -148,6 +148,11 @@ def size_facts(line: Line) -> str:
 
 def measured_packs(kind: m.Measured, order: str) -> str:
     """Returns the term that the writes of a part are accepted, in an order of bits."""
+    if isinstance(kind, m.Fill):
+        writes, size = f"{kind.use.module}_writes {order}", f"{kind.use.module}_size {order}"
+        one = f"λ x. Packs ({writes} x) ({size} x)"
+        packs = f"(All-weaker {kind.use.name}Fits ({one}) ({kind.use.module}_packs {order}) value.{kind.name} fits.{kind.name})"
+        return f"packs-parts ({writes}) ({size}) value.{kind.name} {packs}"
     return f"{measured_module(kind)}_packs {order} value.{kind.name} fits.{kind.name}"
 
 
@@ -264,6 +269,22 @@ def sized_back(f: Format, line: Line, kind: m.Measured, read: str, back: str) ->
     return f"sized-read {shape} ({measured_size(kind, 'High')} / 8) ({word(line)}) {value(line)} {packs} {back}"
 
 
+def filled_back(f: Format, line: Line, kind: m.Fill) -> str:
+    """Returns the term that items are read back over the bytes of their size."""
+    use, read = kind.use, inside(f, line, "o").replace("plain_reads (", f"plain_reads {{E = {f.error}}} (")
+    inner = is_read(f, line, use, "x", "is")
+    if not f.mapped(kind):
+        inner = f"mapped-read (λ v. Ok v) ({use.module}_writes o x) ({use.module}_decoder o) x {inner}"
+    back = each_is(line, use, f"IsReadAs ({use.module}_writes o x) ({read}) (Ok x)", f"λ x is. {inner}")
+    word_of = f"write_sequence ({use.module}_writes o x) at"
+    long = f"let long : length ({word_of}) ≡ {use.module}_size o x = ({use.module}_packs o x is).size at in omega (arith, long)"
+    some = each_is(line, use, f"(at : ℕ) → 8 ≤ length ({word_of})", f"λ x is at. {long}")
+    shape = f"(λ o. {read}) {kind.error} (λ error. Reader error) {kind.name}_ended o"
+    packs = f"(packs-is ({measured_packs(kind, 'o')}) (fits.{kind.name}_whole o))"
+    size = f"({measured_size(kind, 'High')} / 8)"
+    return f"filled-read {shape} {size} ({use.module}_writes o) {value(line)} {packs} {back} {some}"
+
+
 def lets(f: Format, line: Line) -> list[str]:
     """Returns the bindings before the term of the law."""
     kind = line.kind
@@ -283,4 +304,6 @@ def lets(f: Format, line: Line) -> list[str]:
                 writes, read = f"({word(line)})", f"({use.module}_decoder o)"
                 inner = f"(mapped-read (λ v. Ok v) {writes} {read} {value(line)} {inner})"
             return [f"let {kind.name} = {sized_back(f, line, kind, inside(f, line, 'o'), inner)} in"]
+        case m.Fill():
+            return [f"let {kind.name} = {filled_back(f, line, kind)} in"]
     return []

@@ -72,7 +72,7 @@ def read_call(f: Format, line: Line) -> tuple[str, str, str]:
             return own_read(f, part_contract(use), becomes(use.description.error, use.module)), "", ""
         case m.Optional() | m.If():
             return own_read(f, OWN if line.error else PLAIN, f.becomes_name), "", ""
-        case m.Sized():
+        case m.Sized() | m.Fill():
             return "growing part", "", ""
         case m.Choose():
             return own_read(f, contract(line.error, m.allocates(kind)), f.becomes_name), "", ""
@@ -140,7 +140,7 @@ class Writes:
     def call(self, line: Line) -> Call:
         """Returns the call that writes a line."""
         form, name, fact, wide = self.form(line.kind)
-        known = self.known(line.kind)
+        known = self.known(line)
         return Call(form, fact, self.labels.next(name), "", wide=wide, known=known)
 
     def form(self, kind: m.Printed) -> tuple[str, str, str, str]:
@@ -169,6 +169,8 @@ class Writes:
                 return "list", "write", "", ""
             case m.Size():
                 return "value", "write_size", "", ""
+            case m.Fill():
+                return "list", f"write_{kind.name}", "", ""
             case m.Optional() | m.If():
                 return "list", f"write_{snake(kind.use.name)}_if", "", ""
             case m.Array() | m.List():
@@ -177,19 +179,24 @@ class Writes:
                 return "list", f"write_{kind.name}", "", ""
         return "value", "write", "writes", ""
 
-    def known(self, kind: m.Printed) -> tuple[str, ...]:
+    def known(self, line: Line) -> tuple[str, ...]:
         """Returns the equations of the arguments of a call."""
+        kind = line.kind
         match kind:
             case m.Flag():
                 return (f"c.{self.steps.next('is_some')}.ensures",)
             case m.Enum() | m.Tag():
                 return (f"c.{self.steps.next('number')}.ensures",)
+            case m.Size(target=name) if isinstance(line.measures, m.Fill):
+                slice = f"c.{self.steps.next('deref')}.ensures.value"
+                counted = f"(rw {slice} at c.{self.steps.next(f'count_{name}')}.ensures)"
+                return (f"size-wrote _ _ _ _ _ _ _ _ {counted}",)
             case m.Size():
                 return (f"size-wrote _ _ _ _ _ _ _ _ c.{self.steps.next('bits')}.ensures.counts",)
             case m.Count():
                 length = f"{self.fields}.{kind.target}.ok.0"
                 return (f"(c.{self.steps.next('len')}.ensures ∙ {length})",)
-            case m.List():
+            case m.List() | m.Fill():
                 return (f"c.{self.steps.next('deref')}.ensures.value",)
         return ()
 

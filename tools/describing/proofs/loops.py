@@ -20,7 +20,12 @@ def wrote(item: m.Item, arm: str) -> str:
     return known
 
 
-def write_invariants(f: Format, kind: m.List | m.Array) -> Answers:
+def item_of(kind: m.List | m.Array | m.Fill) -> m.Item:
+    """Returns the item of a line that has many."""
+    return kind.use if isinstance(kind, m.Fill) else kind.item
+
+
+def write_invariants(f: Format, kind: m.List | m.Array | m.Fill) -> Answers:
     """Returns the invariant of the loop."""
     write = f"write_{kind.name}"
     return {
@@ -30,24 +35,26 @@ def write_invariants(f: Format, kind: m.List | m.Array) -> Answers:
             "abbrev pub invariant-loop-item : goal.invariant-loop-item",
             "invariant-loop-item g l =",
             "    let K = g.W.BitWrite.sink in",
-            f"    ItemsWritten K ({placed(item_writes(kind.item), 'K.order')}) l.items l.item-index"
+            f"    ItemsWritten K ({placed(item_writes(item_of(kind)), 'K.order')}) l.items l.item-index"
             " l.initial.writer l.writer",
         ]
     }
 
 
-def write_answers(f: Format, kind: m.List | m.Array) -> Answers:
+def write_answers(f: Format, kind: m.List | m.Array | m.Fill) -> Answers:
     """Returns the answers of the function."""
-    sink = "g.W.BitWrite.sink"
-    calls = f"({placed(item_writes(kind.item), 'K.order')})"
-    after = "c.loop-item-test.true refl c.loop-item.invariant"
+    sink, item = "g.W.BitWrite.sink", item_of(kind)
+    calls = f"({placed(item_writes(item), 'K.order')})"
+    # contracts see an item that has a list by its model
+    same = "c.item-item.is" if isinstance(item, m.Use) and m.allocating(item) else "refl"
+    after = f"c.loop-item-test.true {same} c.loop-item.invariant"
     lines = [f"use {f.goals}.write_{kind.name}.Goals as goal", ""]
     lines += ["pub loop-item-init : goal.loop-item-init", f"loop-item-init g c = let K = {sink} in"]
     lines += [f"    written-begin K {calls} c.args.items.now _", ""]
     lines += ["pub returns-in_err-write : goal.returns-in_err-write", "returns-in_err-write g c ="]
     lines += [f"    let K = {sink} in", f"    written-stop K {calls} c.args.items.now _ _ _ _ _ _ _ _"]
-    lines += [f"    {after} {wrote(kind.item, 'err')} c.from_residual.ensures.1"]
+    lines += [f"    {after} {wrote(item, 'err')} c.from_residual.ensures.1"]
     lines += ["", "pub loop-item-preserved : goal.loop-item-preserved", "loop-item-preserved g c ="]
     lines += [f"    let K = {sink} in", f"    written-more K {calls} c.args.items.now _ _ _ _ _ _"]
-    lines += [f"    {after} {wrote(kind.item, 'ok')}"]
+    lines += [f"    {after} {wrote(item, 'ok')}"]
     return {f"write_{kind.name}": lines}

@@ -60,7 +60,7 @@ def line_invariants(f: Format, line: Line) -> Answers:
         return enums.array_invariants(f, line, line.enum, kind)
     if isinstance(kind, m.List) and not isinstance(kind.item, m.Octet):
         return lists.invariants(f, line, kind)
-    return {}
+    return sizes.invariants(f, line, kind) if isinstance(kind, m.Fill) else {}
 
 
 def line_answers(f: Format, line: Line) -> Answers:

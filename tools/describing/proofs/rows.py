@@ -24,6 +24,8 @@ def term(line: Line, value: Value, within: str = "") -> str:
             return "None" if value is None else f"Some (non_zero_{kind.integer.base} {number(value) - 1})"
         case m.Array() | m.List():
             return list_term(line, kind.item, value, within)
+        case m.Fill():
+            return list_term(line, kind.use, value, within)
         case m.Enum():
             return case_term(line, value, within)
         case m.Part() | m.Sized():

@@ -3,6 +3,7 @@ from __future__ import annotations
 
 from describing import model as m
 from describing.layout import Format, Line
+from describing.proofs.loops import write_answers, write_invariants
 from describing.specs.sizes import overrun
 from describing.specs.terms import inside
 
@@ -11,7 +12,59 @@ Answers = dict[str, list[str]]
 
 def answers(f: Format, line: Line, kind: m.Measured) -> Answers:
     """Returns the answers of the functions of a part of a stated size, except those that a search finds."""
-    return {f"{kind.name}_in": in_answers(f, line, kind), f"read_{kind.name}": read_answers(f, line, kind)}
+    inner = in_answers(f, line, kind) if not isinstance(kind, m.Fill) else items_answers(f, line, kind)
+    found = {f"{kind.name}_in": inner, f"read_{kind.name}": read_answers(f, line, kind)}
+    if not isinstance(kind, m.Fill):
+        return found
+    return found | {f"count_{kind.name}": count_answers(f, kind)} | write_answers(f, kind)
+
+
+def invariants(f: Format, line: Line, kind: m.Fill) -> Answers:
+    """Returns the invariants of the loops over items, by the function."""
+    read, shape = inside(f, line, f.o), f"{kind.error} (λ error. Reader error) {kind.name}_ended"
+    lines = [
+        f"use {f.goals}.{kind.name}_in.Given as goal",
+        "-- the items so far were read",
+        "abbrev pub invariant-loop : goal.invariant-loop",
+        "invariant-loop l =",
+        f"    ItemsSoFar (memory_source {f.o}) ({read}) {shape} (bits {f.o} l.bytes) l.size l.counter l.found.items l.inside",
+    ]
+    return {f"{kind.name}_in": lines} | write_invariants(f, kind)
+
+
+def items_answers(f: Format, line: Line, kind: m.Fill) -> list[str]:
+    """Returns the answers of the function that reads items over their bytes."""
+    read, shape = inside(f, line, f.o), f"{kind.error} (λ error. Reader error) {kind.name}_ended"
+    so_far = f"({read}) {shape} (bits {f.o} c.args.bytes.now) c.args.size"
+    here = f"{so_far} c.loop.counter c.loop.invariant"
+    more = f"{here} c.loop-test.true c.if-is_at_end.ensures.left"
+    ok, err = grown(f, line, kind, "in-Ok", True), grown(f, line, kind, "in-Err", False)
+    out = [f"use {f.goals}.{kind.name}_in.Goals as goal"]
+    put(
+        out,
+        "loop-init",
+        "c",
+        f"so_far-begin {so_far} 0 c.over-inside.ensures.state refl c.new-found.ensures.items refl",
+    )
+    put(out, "returns-then-is_at_end", "c", f"inl (so_far-end {here} c.if-is_at_end.ensures.left)")
+    put(out, "loop-preserved", "c", f"so_far-push {more} _ _ _ c.in_ok-push-in-Ok.ensures.items {ok}")
+    known = f"(c.{kind.name}_ended.ensures, c.from.ensures)"
+    put(out, "returns-in-Err", "c", f"rw {known} (so_far-stop {more} _ _ slice_ends refl refl {err})")
+    put(out, "returns-then-is_at_end-2", "c", f"inl (so_far-end {here} c.if-is_at_end-2.ensures.left)")
+    all_read = "(omega (arith, c.loop-test.false))"
+    put(out, "returns", "c", f"inl (so_far-more {here} {all_read} c.if-is_at_end-2.ensures.left)")
+    return out
+
+
+def count_answers(f: Format, kind: m.Fill) -> list[str]:
+    """Returns the answers of the function that counts the bits of items."""
+    out = [f"use {f.goals}.count_{kind.name}.Goals as goal"]
+    shape = "_ 18446744073709551615 (λ x. x) _ _ _ _ _ refl (λ _. refl) (λ _ x. x) c.new-counter.ensures"
+    wrote = f"(plainly_written _ _ _ _ _ c.in_{{}}-write_{kind.name}.ensures)"
+    stop = f"count_stopped {shape} _ _ c.from_residual.ensures.1 {wrote.format('err')}"
+    put(out, f"returns-in_err-write_{kind.name}", "c", stop)
+    put(out, "returns", "c", f"count_done {shape} _ c.into_written.ensures {wrote.format('ok')}")
+    return out
 
 
 def put(out: list[str], goal: str, given: str, term: str) -> None:
@@ -56,7 +109,12 @@ def read_answers(f: Format, line: Line, kind: m.Measured) -> list[str]:
     shape = f"{{own = λ error. Reader error}} {read} {overrun(kind)} {kind.name}_ended c.args.size c.requires"
     told = f"(rw c.deref.ensures.value at c.{kind.name}_in.ensures)"
     out = [f"use {f.goals}.read_{kind.name}.Goals as goal"]
-    stop = "stop_grown _ (vec-grown _ _ c.in_err-bytes.ensures.reads) c.from_residual.ensures.1"
+    read_bytes = "(vec-grown _ _ c.in_err-bytes.ensures.reads)"
+    stop = f"stop_grown _ {read_bytes} c.from_residual.ensures.1"
+    if isinstance(kind, m.Fill):
+        seen = "own_map_err _ c.from_residual.result c.from_residual.ensures.1"
+        stop = f"rw ({seen}) (stop_grown _ {read_bytes} refl)"
     put(out, "returns-in_err-bytes", "g c", stop)
-    put(out, "returns", "g c", f"sized-grown {shape} c.in_ok-bytes.ensures.reads {told}")
+    lemma = "filled-grown" if isinstance(kind, m.Fill) else "sized-grown"
+    put(out, "returns", "g c", f"{lemma} {shape} c.in_ok-bytes.ensures.reads {told}")
     return out

@@ -40,7 +40,7 @@ def unfolds(line: Line) -> list[str]:
             return of_items(line, kind)
         case m.Part() | m.Optional() | m.If():
             return [*of_lines(line.inner)]
-        case m.Choose() | m.Sized():
+        case m.Choose() | m.Sized() | m.Fill():
             within = ["bytes_decoder", "bytes_of"] * bool(line.measured)
             return [*within, *(it for part in line.parts for it in of_lines(part.inner))]
     assert_never(kind)

@@ -72,7 +72,7 @@ def written(line: Line) -> str:
             assert line.measures
             shown = f"({measured_writes(line.measures, 'High')}) ({measured_size(line.measures, 'High')})"
             return f"size-written o {kind.width} {shown} {size_facts(line)}"
-        case m.Choose() | m.Sized():
+        case m.Choose() | m.Sized() | m.Fill():
             return measured_packs(kind, "o")
         case m.List():
             return list_written(line, kind)

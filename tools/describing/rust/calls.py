@@ -66,7 +66,7 @@ def imports(line: Line) -> list[str]:
     for use in m.uses(kind):
         error = use.description.error
         found.append(f"crate::{use.module}::{f'{{{use.name}, {error}}}' if error else use.name}")
-    if isinstance(kind, m.List) and line.error:
+    if isinstance(kind, m.List | m.Fill) and line.error:
         found.append("std::alloc::AllocFailed")
     if line.measured:
         found.append("bitstream_format::within::{is_end, write_size}")
@@ -100,7 +100,7 @@ def refusal(line: Line) -> str:
 def error_cases(line: Line) -> dict[str, list[str]]:
     """Returns the cases of the error for a line, each with its text."""
     kind = line.kind
-    if isinstance(kind, m.Sized):
+    if isinstance(kind, m.Sized | m.Fill):
         inner = {it: error_case(line) for it, held in m.refusals(kind) if held}
         return overrun_case(kind.name, kind.error) | inner
     if not isinstance(kind, m.Choose):
@@ -167,7 +167,7 @@ def read(f: Format, kind: m.Printed) -> str:
             return f"reader.read::<Bits<{kind.width}>, {value_type(kind)}>()"
         case m.Size():
             return f"reader.read::<Bits<{kind.width}>, u64>()"
-        case m.Sized():
+        case m.Sized() | m.Fill():
             return f"read_{kind.name}(reader, alloc, {kind.name}_bytes)"
         case m.Choose():
             if kind.sized:
@@ -260,7 +260,12 @@ def write(line: Line) -> str:
         case m.Tag():
             return f"writer.write::<Bits<{kind.width}>, {value_type(kind)}>(self.{target}.number())"
         case m.Size():
-            return f"write_size(writer, {kind.width}, self.{kind.target}.bits::<u64>())"
+            bits = f"self.{kind.target}.bits::<u64>()"
+            if isinstance(line.measures, m.Fill):
+                bits = f"count_{kind.target}(&self.{kind.target})"
+            return f"write_size(writer, {kind.width}, {bits})"
+        case m.Fill():
+            return f"write_{kind.name}(writer, &self.{kind.name})"
         case m.Choose() | m.Part() | m.Sized():
             return f"self.{kind.name}.write(writer)"
         case m.Optional() | m.If():

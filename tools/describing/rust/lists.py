@@ -14,7 +14,7 @@ def list_code(f: Format, line: Line, kind: m.List) -> list[str]:
 
 def refused_memory(f: Format, line: Line) -> list[str]:
     """Returns the conversion of a failed allocation, with the first list whose function has the errors of the format."""
-    lists = [it for it in f.lines if isinstance(it.kind, m.List) and it.error]
+    lists = [it for it in f.lines if isinstance(it.kind, m.List | m.Fill) and it.error]
     if lists[:1] != [line]:
         return []
     return [
@@ -52,10 +52,11 @@ def read_code(f: Format, line: Line, kind: m.List) -> list[str]:
     ]
 
 
-def write_code(kind: m.List | m.Array) -> list[str]:
+def write_code(kind: m.List | m.Array | m.Fill) -> list[str]:
     """Returns the function that writes items."""
-    writes = placed(item_writes(kind.item), "W.sink.order")
-    items = f"&[{m.item_type(kind.item)}]"
+    item = kind.use if isinstance(kind, m.Fill) else kind.item
+    writes = placed(item_writes(item), "W.sink.order")
+    items = f"&[{m.item_type(item)}]"
     return [
         f"/// Writes the items of `{kind.name}`.",
         f"fn write_{kind.name}<W: BitWrite>(writer: &mut W, items: {items}) -> Result<(), Error>",
@@ -63,7 +64,7 @@ def write_code(kind: m.List | m.Array) -> list[str]:
         "        writer.old result writer.new }",
         "{",
         "    for item in items {",
-        f"        {write_item(kind.item)}?;",
+        f"        {write_item(item)}?;",
         "    }",
         "    Ok(())",
         "}",

@@ -14,17 +14,17 @@ from describing.rust.calls import error_cases, field_comment, imports, number_ty
 from describing.rust.choices import choice_code
 from describing.rust.clauses import clauses
 from describing.rust.enums import enum_code
-from describing.rust.lists import list_code, write_code as write_items
+from describing.rust.lists import list_code, refused_memory, write_code as write_items
 from describing.rust.parts import error_code as part_error, optional_code
 from describing.rust.reads import parse_code, read_code
-from describing.rust.sizes import sized_code
+from describing.rust.sizes import count_code, sized_code
 from describing.rust.traits import from_code, law_code, to_code, to_impl
 from describing.rust.writes import pack_code, write_code
 from describing.specs.terms import seen, value
 from describing.text import article
 
 LIBRARY = """BE LE BitRead BitReadExt BitReader BitWrite BitWriteExt BitWriter Bits Error FromBitStream
-    FromBitStreamUsing SliceMut SliceReader ToBitStream pack_into"""
+    FromBitStreamUsing BitsWritten SliceMut SliceReader ToBitStream pack_into"""
 
 
 def files(f: Format) -> dict[str, str]:
@@ -42,6 +42,8 @@ def declares(f: Format, line: Line) -> list[str]:
     if isinstance(kind, m.Choose):
         out += choice_code(f, line, kind, number_type(f, kind))
         out += to_impl(kind.type, f"{snake(kind.type)}_writes") if kind.sized else []
+    if isinstance(kind, m.Fill):
+        out += [*refused_memory(f, line), *write_items(kind), *count_code(kind)]
     if line.measured:
         number = number_type(f, line.measured) if isinstance(line.measured, m.Choose) else ""
         out += sized_code(f, line, line.measured, number)

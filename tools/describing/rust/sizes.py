@@ -9,7 +9,8 @@ from describing.specs.terms import inside
 
 def sized_code(f: Format, line: Line, kind: m.Measured, number: str) -> list[str]:
     """Returns the functions of a part of a stated size; `number` is the type of the number that selects a case."""
-    return [*ended_code(f, kind), *in_code(f, line, kind, number), *read_code(f, line, kind, number)]
+    inside_code = items_code(f, line, kind) if isinstance(kind, m.Fill) else in_code(f, line, kind, number)
+    return [*ended_code(f, kind), *inside_code, *read_code(f, line, kind, number)]
 
 
 def ended_code(f: Format, kind: m.Measured) -> list[str]:
@@ -52,7 +53,7 @@ def unnamed(kind: m.Measured) -> bool:
 
 def inner_allocates(kind: m.Measured) -> bool:
     """Returns true if the read of the part asks for memory of its own."""
-    return isinstance(kind, m.Choose) or any(m.allocating(it) for it in m.uses(kind))
+    return isinstance(kind, m.Choose | m.Fill) or any(m.allocating(it) for it in m.uses(kind))
 
 
 def in_code(f: Format, line: Line, kind: m.Measured, number: str) -> list[str]:
@@ -86,18 +87,75 @@ def in_code(f: Format, line: Line, kind: m.Measured, number: str) -> list[str]:
     ]
 
 
+def items_code(f: Format, line: Line, kind: m.Fill) -> list[str]:
+    """Returns the function that reads items over their bytes."""
+    shape = f"{kind.error} (λ error. Reader error) {kind.name}_ended"
+    return [
+        f"/// Returns the items of `{kind.name}` that fill these bytes, at most `size`.",
+        "///",
+        "/// # Errors",
+        "///",
+        f"/// `{kind.error}` if they do not fill them. Else the error of an item.",
+        f"fn {kind.name}_in(bytes: &[u8], alloc: Global, size: u64) -> Result<{m.rust_type(kind)}, {f.error}>",
+        "    ensures { UnlessMemory (λ error. Reader error)",
+        f"        (items_from ({inside(f, line, f.o)}) {shape} 0 (bits {f.o} bytes.now) size)",
+        "        (result_map (λ found. found.items) result) }",
+        "{",
+        f"    let mut inside = SliceReader::<{f.order}>::over(bytes);",
+        "    let mut found = Vec::new(alloc);",
+        "    for _ in 0..size {",
+        "        if inside.is_at_end() {",
+        "            return Ok(found);",
+        "        }",
+        f"        match {kind.use.name}::read(&mut inside{', alloc' * m.allocating(kind.use)}) {{",
+        "            Ok(item) => found.push(item)?,",
+        f"            Err(error) => return Err({kind.name}_ended({f.error}::from(error))),",
+        "        }",
+        "    }",
+        "    if inside.is_at_end() {",
+        "        return Ok(found);",
+        "    }",
+        f"    Err({f.error}::{kind.error})",
+        "}",
+        "",
+    ]
+
+
+def count_code(kind: m.Fill) -> list[str]:
+    """Returns the function that counts the bits of items."""
+    counts = f"CountsBits (λ bits. bits) 18446744073709551615 same_error (flat_map ({kind.use.module}_writes High) items.now)"
+    return [
+        f"/// Returns the number of bits of the items of `{kind.name}`.",
+        "///",
+        "/// # Errors",
+        "///",
+        "/// `Checked` for a field that does not fit its bits.",
+        f"fn count_{kind.name}(items: &[{kind.use.name}]) -> Result<u64, Error>",
+        f"    ensures {{ {counts}",
+        "        (Ok tt) result }",
+        "{",
+        "    let mut counter = BitsWritten::<u64>::new();",
+        f"    write_{kind.name}(&mut counter, items)?;",
+        "    Ok(counter.into_written())",
+        "}",
+        "",
+    ]
+
+
 def read_code(f: Format, line: Line, kind: m.Measured, number: str) -> list[str]:
     """Returns the function that reads the bytes of the size, and then the part."""
     chosen = " number" * isinstance(kind, m.Choose)
     selects = f", number: {number}" * isinstance(kind, m.Choose)
-    passed = ", alloc" * inner_allocates(kind) + ", number" * isinstance(kind, m.Choose) + ", size" * unnamed(kind)
+    passed = ", alloc" * inner_allocates(kind) + ", number" * isinstance(kind, m.Choose)
+    passed += ", size" * (unnamed(kind) or isinstance(kind, m.Fill))
+    found = "(result_map (λ found. found.items) result)" if isinstance(kind, m.Fill) else "result"
     return [
         f"/// Reads `{kind.name}`, which has so many bytes. No bit after them is read.",
         f"fn read_{kind.name}<R: BitRead>(reader: &mut R, alloc: Global{selects}, size: u64)"
         f" -> Result<{m.rust_type(kind)}, {f.error}>",
         f"    requires {{ R.source.order ≡ {f.o} }}",
         f"    ensures {{ GrowsOwn R.source {f.becomes_name} ({kind.name}_sized R.source.order{chosen} size)",
-        "        reader.old result reader.new }",
+        f"        reader.old {found} reader.new }}",
         "{",
         "    let bytes = reader.read_to_vec(alloc, size as usize)?;",
         f"    {kind.name}_in(&bytes{passed})",

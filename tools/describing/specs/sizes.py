@@ -42,6 +42,7 @@ def sized_specs(f: Format, line: Line, kind: m.Measured) -> list[str]:
         f"abbrev pub {kind.name}_sized : Order → {'ℕ → ' * chosen}ℕ → Decoder (Result {measured_name(kind)} {f.error})"
     )
     inner = inside(f, line, "o").replace(" size", " n")
-    read = f"sized_decoder (λ o. {inner}) {overrun(kind)} (λ error. Reader error) {kind.name}_ended o n"
+    decoder = "filled_decoder" if isinstance(kind, m.Fill) else "sized_decoder"
+    read = f"{decoder} (λ o. {inner}) {overrun(kind)} (λ error. Reader error) {kind.name}_ended o n"
     said = f"{kind.name}_sized o{' number' * chosen} n = {read}"
     return [f"-- the reads of `{kind.name}`, of n bytes, over these bytes alone", head, said, ""]

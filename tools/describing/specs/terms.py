@@ -41,6 +41,8 @@ def spec_type(kind: m.Printed) -> str:
             return kind.type
         case m.Sized():
             return item_type(kind.item)
+        case m.Fill():
+            return f"List {kind.use.name}"
         case m.Unary() | m.Count() | m.Tag() | m.Size() | m.Const() | m.Skip():
             return "ℕ"
     assert_never(kind)
@@ -65,7 +67,7 @@ def item_type(item: m.Item) -> str:
 
 def seen(kind: m.Printed) -> str:
     """Returns the suffix after a value of code for what contracts see of it."""
-    return ".items" if isinstance(kind, m.List) else ""
+    return ".items" if isinstance(kind, m.List | m.Fill) else ""
 
 
 def placed(text: str, order: str) -> str:
@@ -146,21 +148,28 @@ def measured_module(kind: m.Measured) -> str:
     """Returns the first word of the definitions of what a line writes."""
     if isinstance(kind, m.Choose):
         return snake(kind.type)
-    return kind.item.module if isinstance(kind.item, m.Use) else ""
+    use = m.held_item(kind)
+    return use.module if isinstance(use, m.Use) else ""
 
 
 def measured_name(kind: m.Measured) -> str:
     """Returns the type of the value."""
-    return kind.type if isinstance(kind, m.Choose) else item_type(kind.item)
+    if isinstance(kind, m.Choose):
+        return kind.type
+    return f"(List {kind.use.name})" if isinstance(kind, m.Fill) else item_type(kind.item)
 
 
 def measured_writes(kind: m.Measured, order: str) -> str:
     """Returns what a line writes, in an order of bits."""
+    if isinstance(kind, m.Fill):
+        return f"flat_map ({kind.use.module}_writes {order}) value.{kind.name}"
     return f"{measured_module(kind)}_writes {order} value.{kind.name}"
 
 
 def measured_size(kind: m.Measured, order: str) -> str:
     """Returns the number of bits, in an order of bits."""
+    if isinstance(kind, m.Fill):
+        return f"parts_size ({kind.use.module}_size {order}) value.{kind.name}"
     return f"{measured_module(kind)}_size {order} value.{kind.name}"
 
 
@@ -250,7 +259,7 @@ def entry(f: Format, line: Line) -> str:
             return f"unsigned_decoder {tag_shape(kind)}"
         case m.Size():
             return f"unsigned_decoder o 64 {kind.width}"
-        case m.Sized():
+        case m.Sized() | m.Fill():
             return f"{kind.name}_sized o {kind.name}_bytes"
         case m.Choose():
             read = f"{kind.name}_sized" if kind.sized else f"{snake(kind.type)}_read"
@@ -405,7 +414,7 @@ def word(line: Line) -> str:
         case m.Size():
             assert line.measures
             return f"size_encoder o {kind.width} ({measured_writes(line.measures, 'High')})"
-        case m.Choose() | m.Sized():
+        case m.Choose() | m.Sized() | m.Fill():
             return measured_writes(kind, "o")
         case m.Array() | m.List():
             if isinstance(kind.item, m.Octet):
@@ -446,7 +455,7 @@ def size(line: Line) -> str:
             return f"{short(kind)}_size {term}"
         case m.Part():
             return f"{kind.use.module}_size o {term}"
-        case m.Choose() | m.Sized():
+        case m.Choose() | m.Sized() | m.Fill():
             return measured_size(kind, "o")
         case m.Optional() | m.If():
             return f"optional_size ({kind.use.module}_size o) {term}"
@@ -482,6 +491,8 @@ def fits(f: Format, line: Line) -> list[tuple[str, str]]:
             return [(line.name, f"{measured_size(line.measures, 'High')} / 8 < 2 ^ {kind.width}")]
         case m.Sized():
             return [(kind.name, f"{measured_name(kind)}Fits {term}"), whole_fits(kind)]
+        case m.Fill():
+            return [(kind.name, f"All {kind.use.name}Fits {term}"), whole_fits(kind)]
         case m.Choose():
             return choice_fits(f, kind) + [whole_fits(kind)] * kind.sized
         case m.Number():
