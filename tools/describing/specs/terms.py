@@ -4,6 +4,7 @@ In the terms `o` is the order of bits, and `value` the record that is written.
 """
 from __future__ import annotations
 
+import re
 from typing import assert_never
 
 from describing import model as m
@@ -72,7 +73,7 @@ def seen(kind: m.Printed) -> str:
 
 def placed(text: str, order: str) -> str:
     """Returns a term for an order that is not the variable `o`."""
-    return " ".join(order if it == "o" else it for it in text.split(" "))
+    return re.sub(r"(?<![\w'.-])o(?![\w'-])", order, text)
 
 
 def bit(stop: int) -> str:
