@@ -26,7 +26,7 @@ use bitstream_io::{
 pub struct Ack {
     /// The number of the packet.
     pub sequence: u16,
-    /// Whether it is urgent.
+    /// True if it is urgent.
     pub urgent: bool,
 }
 

@@ -28,9 +28,9 @@ use bitstream_io::{
 /// ```
 #[derive(Clone, Copy, Debug, PartialEq)]
 pub struct Event {
-    /// What it is.
+    /// The kind of the event.
     pub kind: Kind,
-    /// What happened.
+    /// The content of the event.
     pub what: What,
 }
 
@@ -59,7 +59,7 @@ impl From<Error> for EventError {
     }
 }
 
-/// What it is.
+/// The kind of the event.
 #[derive(Clone, Copy, Debug, PartialEq)]
 pub enum Kind {
     /// 0.
@@ -118,7 +118,7 @@ impl From<MarkError> for EventError {
     }
 }
 
-/// What happened.
+/// The content of the event.
 #[derive(Clone, Copy, Debug, PartialEq)]
 pub enum What {
     /// 0.

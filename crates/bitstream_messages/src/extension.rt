@@ -33,7 +33,7 @@ use std::marker::Model;
 /// ```
 #[derive(Debug, Drop)]
 pub struct Extension {
-    /// What it says.
+    /// The content.
     pub body: Body,
 }
 
@@ -110,7 +110,7 @@ impl OtherBody {
     }
 }
 
-/// What it says.
+/// The content.
 #[derive(Debug, Drop)]
 pub enum Body {
     /// 23.

@@ -39,7 +39,7 @@ pub struct Message {
     pub version: u8,
     /// The body.
     pub body: Body,
-    /// Whether it was checked.
+    /// True if it was checked.
     pub checked: bool,
 }
 

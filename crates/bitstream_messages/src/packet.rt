@@ -45,7 +45,7 @@ pub struct Packet {
     pub notes: Notes,
     /// The acknowledgement.
     pub ack: Ack,
-    /// What ends it.
+    /// The end of the packet.
     pub end: u8,
 }
 

@@ -56,7 +56,7 @@ impl Command {
     }
 }
 
-/// What the arguments ask for.
+/// The command, the file and the options that the arguments name.
 #[derive(Clone, Copy, Debug)]
 struct Call<'a> {
     command: Command,
