@@ -20,7 +20,7 @@ pub enum Av1Error {
     /// The first bit of an OBU is not 0.
     #[error("the forbidden bit is set")]
     Forbidden,
-    /// An OBU has no size.
+    /// An OBU of a stream without frames has no size.
     #[error("an OBU has no size field")]
     NoSize,
     /// The size is 2^32 or more, or has more than eight bytes.
@@ -47,17 +47,28 @@ impl From<Error> for Av1Error {
 /// The elements of an OBU that are read.
 type Obu<'r, 'a, 'b> = Syntax<'r, 'a, 'b, BE>;
 
-/// The OBUs of a stream in the low-overhead format.
+/// The OBUs of a stream in the low-overhead format, or of a frame of a container.
 #[derive(Drop)]
 pub struct Obus<'a> {
     reader: SliceReader<'a, BE>,
+    // True if an OBU without a size ends with the bytes.
+    is_frame: bool,
 }
 
 impl<'a> Obus<'a> {
-    /// Returns the OBUs of these bytes.
+    /// Returns the OBUs of these bytes, each of which has its size.
     pub fn over(bytes: &'a [u8]) -> Obus<'a> {
         Obus {
             reader: SliceReader::over(bytes),
+            is_frame: false,
+        }
+    }
+
+    /// Returns the OBUs of a frame, of which the last one may have no size: it ends with the frame.
+    pub fn of_frame(bytes: &'a [u8]) -> Obus<'a> {
+        Obus {
+            reader: SliceReader::over(bytes),
+            is_frame: true,
         }
     }
 
@@ -92,12 +103,9 @@ impl<'a> Obus<'a> {
             }),
         };
         let start = self.reader.bits_read();
-        let mut part = match self.reader.part(size) {
+        let mut part = match self.contents(size) {
             Ok(part) => part,
-            Err(error) => return Err(At {
-                bit: start,
-                error: Av1Error::Reader(error),
-            }),
+            Err(error) => return Err(At { bit: start, error }),
         };
         if kind != 1 {
             return Ok(true);
@@ -115,6 +123,16 @@ impl<'a> Obus<'a> {
                 error,
             }),
         }
+    }
+
+    /// Returns a reader of the contents of an OBU: of its size, or of all that is left of a frame.
+    fn contents(&mut self, size: Option<u32>) -> Result<SliceReader<'a, BE>, Av1Error> {
+        let size = match size {
+            Some(size) => size as usize,
+            None if self.is_frame => self.reader.rest().len(),
+            None => return Err(Av1Error::NoSize),
+        };
+        Ok(self.reader.part(size)?)
     }
 }
 
@@ -138,8 +156,8 @@ fn read_whole_sequence(syntax: &mut Obu<'_, '_, '_>) -> Result<(), Av1Error> {
     Ok(())
 }
 
-/// Reads the header of an OBU. Returns its type and the number of bytes after it.
-fn read_header(syntax: &mut Obu<'_, '_, '_>) -> Result<(u32, usize), Av1Error> {
+/// Reads the header of an OBU. Returns its type, and the number of bytes after it if it has one.
+fn read_header(syntax: &mut Obu<'_, '_, '_>) -> Result<(u32, Option<u32>), Av1Error> {
     if syntax.flag("obu_forbidden_bit")? {
         return Err(Av1Error::Forbidden);
     }
@@ -153,10 +171,10 @@ fn read_header(syntax: &mut Obu<'_, '_, '_>) -> Result<(u32, usize), Av1Error> {
         syntax.number("extension_header_reserved_3bits", 3)?;
     }
     if !has_size {
-        return Err(Av1Error::NoSize);
+        return Ok((kind, None));
     }
     let place = syntax.place();
     let size = read_leb128(syntax.reader)?;
     syntax.note(place, "obu_size", size as i64)?;
-    Ok((kind, size as usize))
+    Ok((kind, Some(size)))
 }

@@ -1,25 +1,30 @@
 //! H.264 (ITU-T H.264, ISO/IEC 14496-10): the units of a byte stream, and the elements of its
-//! sequence and picture parameter sets. [`Stream`] reads a whole stream, and continues after a unit
-//! that it refuses.
+//! sequence and picture parameter sets and of the headers of slices. [`Stream`] reads a whole
+//! stream, and continues after a unit that it refuses.
 
 ghost use Rattle.std.specs.Prelude.{◌≡◌, IsErr};
 
 use crate::at::At;
 use crate::element::{Element, Syntax};
-use crate::nal::{UnitError, check_delimiter, last_one, read_trailing_bits};
+use crate::nal::{UnitError, last_one, read_trailing_bits};
 use bitstream_io::{BE, BitRead, Error, SliceReader};
 use std::alloc::Global;
 
 mod pps;
 mod scaling;
+mod sei;
 mod sets;
+mod slice;
 mod sps;
 mod stream;
 mod vui;
+mod weights;
 
 pub use crate::nal::{Units, emulation_round_trip, remove_emulation};
 use pps::read_pps;
-pub use sets::{ParameterSets, PictureSet, SequenceSet};
+use sei::read_messages;
+pub use sets::{ParameterSets, PictureOrder, PictureSet, SequenceSet};
+use slice::{SliceUnit, read_slice};
 use sps::read_sps;
 pub use stream::Stream;
 
@@ -38,6 +43,27 @@ pub enum H264Error {
     /// A picture parameter set names a sequence parameter set that was not read.
     #[error("sequence parameter set {0} is missing")]
     MissingSequence(u32),
+    /// A slice names a picture parameter set that was not read.
+    #[error("picture parameter set {0} is missing")]
+    MissingPicture(u32),
+    /// The type of a slice is above 9.
+    #[error("the type of the slice is {0}, and the greatest is 9")]
+    SliceType(u32),
+    /// The number of a frame or its order has more than 16 bits.
+    #[error("the number of a frame or its order has more than 16 bits")]
+    TooManyBits,
+    /// A list of references has more than 32 pictures.
+    #[error("more than 32 references")]
+    TooManyReferences,
+    /// A command on references is reserved.
+    #[error("the command {0} on references is reserved")]
+    Command(u32),
+    /// A slice has more than 66 commands on a list of references.
+    #[error("more than 66 commands on references")]
+    TooManyCommands,
+    /// A bit `cabac_alignment_one_bit` before the data of a slice is 0.
+    #[error("cabac_alignment_one_bit is not 1")]
+    AlignmentBit,
     /// A buffer has more than 32 schedules.
     #[error("more than 32 schedules of a buffer")]
     TooManySchedules,
@@ -68,18 +94,26 @@ pub enum Unit {
     Sequence,
     /// A picture parameter set.
     Picture,
+    /// A slice, of which the header is read.
+    Slice,
+    /// Supplemental enhancement information: the types and the sizes of its messages are read.
+    Supplement,
+    /// An access unit delimiter.
+    Delimiter,
     /// Another kind of unit. Only its header is read.
     Other,
 }
 
-/// Reads a unit without its start code, and appends the elements of its header and of a parameter set. Their
-/// places are counted in bits of the unit without its bytes against emulation, as the standard counts them.
+/// Reads a unit without its start code, and appends the elements of its header and of what [`Unit`]
+/// names. Their places are counted in bits of the unit without its bytes against emulation, as the
+/// standard counts them.
 ///
 /// A parameter set that was read whole is kept in `sets`, and replaces the one of its number. A
-/// picture parameter set is read with the sequence parameter set of `sets` that it names.
+/// picture parameter set and a slice are read with the sets of `sets` that they name. The header of a
+/// slice is read in units of type 1 and 5. Slices of other layers and auxiliary ones count as other units.
 ///
-/// The end of a unit is checked: the stop bit is 1 and the bits after it are 0. What the other units hold is
-/// not read, so their last 1 counts as the stop bit. It must come after the header.
+/// The end of a unit is checked: the stop bit is 1 and the bits after it are 0. The data of slices and what the
+/// other units hold are not read, so their last 1 counts as the stop bit. It must come after the header.
 ///
 /// # Errors
 ///
@@ -117,7 +151,7 @@ pub fn read_unit(
     }
 }
 
-/// Reads the header of a unit, and a parameter set after it. The last 1 of the unit is at `last`.
+/// Reads the header of a unit, and what is read after it. The last 1 of the unit is at `last`.
 fn read_set(
     syntax: &mut Syntax<'_, '_, '_, BE>,
     sets: &mut ParameterSets,
@@ -131,7 +165,7 @@ fn read_set(
     if syntax.flag("forbidden_zero_bit")? {
         return Err(H264Error::Unit(UnitError::Forbidden));
     }
-    syntax.number("nal_ref_idc", 2)?;
+    let reference = syntax.number("nal_ref_idc", 2)?;
     match syntax.number("nal_unit_type", 5)? {
         7 => {
             let (number, set) = read_sps(syntax)?;
@@ -145,20 +179,38 @@ fn read_set(
             sets.keep_picture(number, set);
             Ok(Unit::Picture)
         }
-        kind => {
-            check_end(syntax, kind, last)?;
-            Ok(Unit::Other)
-        }
+        kind => read_other(syntax, sets, kind, reference, last),
     }
 }
 
-/// Checks the end of a unit of a type with only its header read. If its contents end in trailing
-/// bits, a 1 follows the header: the last 1 of the unit, at `last`, is the stop bit, and zeros
-/// follow it.
-fn check_end(syntax: &mut Syntax<'_, '_, '_, BE>, kind: u32, last: u64) -> Result<(), UnitError> {
+/// Reads what is read of a unit with no parameter set. If its contents end in trailing bits, a 1
+/// follows the header: the last 1 of the unit, at `last`, is the stop bit, and zeros follow it.
+fn read_other(
+    syntax: &mut Syntax<'_, '_, '_, BE>,
+    sets: &ParameterSets,
+    kind: u32,
+    reference: u32,
+    last: u64,
+) -> Result<Unit, H264Error> {
     match kind {
-        9 => check_delimiter(syntax, last),
-        1..=6 | 12 | 13 | 15 | 19..=21 if last < 8 => Err(UnitError::NoStopBit),
-        _ => Ok(()),
+        1..=6 | 12 | 13 | 15 | 19..=21 if last < 8 => Err(H264Error::Unit(UnitError::NoStopBit)),
+        1 | 5 => {
+            let unit = SliceUnit {
+                is_idr: kind == 5,
+                is_reference: reference > 0,
+            };
+            read_slice(syntax, sets, unit, last)?;
+            Ok(Unit::Slice)
+        }
+        6 => {
+            read_messages(syntax, last)?;
+            Ok(Unit::Supplement)
+        }
+        9 => {
+            syntax.number("primary_pic_type", 3)?;
+            read_trailing_bits(syntax, last)?;
+            Ok(Unit::Delimiter)
+        }
+        _ => Ok(Unit::Other),
     }
 }

@@ -19,13 +19,14 @@
 //! - [`nal`]: NAL units and bytes against emulation, for H.264 and H.265
 //! - [`ogg`]: Ogg: pages and packets, and the first byte of a packet of Opus
 //! - [`stream_info`]: the properties of all frames of a FLAC file, printed by `./format`
-//! - [`ts`]: MPEG transport streams: packets, and the headers of PES packets
+//! - [`ts`]: MPEG transport streams: packets, the tables of programs, and the headers of PES packets
 #![tactic(auto)]
 
 pub mod adts;
 pub mod adts_header;
 pub mod at;
 pub mod av1;
+mod crc;
 pub mod deflate;
 pub mod element;
 pub mod flac;

@@ -2,6 +2,7 @@
 //! (RFC 6716, section 3.1).
 
 use crate::at::At;
+use crate::crc::crc_byte;
 use crate::element::{Element, Syntax};
 use bitstream_io::{BE, BitRead, BitReadExt, Bits, Error, LE, SliceReader};
 
@@ -26,19 +27,6 @@ impl From<Error> for OggError {
     fn from(error: Error) -> OggError {
         OggError::Reader(error)
     }
-}
-
-/// Goes on with a checksum by a byte, by the polynomial 0x04c11db7, from the highest bit on.
-fn crc_byte(crc: u32, byte: u8) -> u32 {
-    let mut crc = crc ^ ((byte as u32) << 24);
-    for _ in 0..8 {
-        let top = crc & 0x8000_0000 != 0;
-        crc = (crc & 0x7fff_ffff) << 1;
-        if top {
-            crc ^= 0x04c1_1db7;
-        }
-    }
-    crc
 }
 
 /// Returns the checksum of a page, whose own four bytes, 22 to 25, count as zeros.

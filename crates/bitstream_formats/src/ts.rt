@@ -1,9 +1,16 @@
-//! MPEG transport streams (ISO/IEC 13818-1): packets with their adaptation fields, and the headers of the
-//! PES packets that begin in them.
+//! MPEG transport streams (ISO/IEC 13818-1): packets with their adaptation fields, the headers of the
+//! PES packets that begin in them, and the tables of programs.
 
 use crate::at::At;
 use crate::element::{Element, Syntax};
 use bitstream_io::{BE, Error, SliceReader};
+use std::alloc::Global;
+
+mod programs;
+mod section;
+mod tables;
+
+pub use tables::Tables;
 
 /// The bytes of a packet.
 pub const PACKET: usize = 188;
@@ -11,12 +18,27 @@ pub const PACKET: usize = 188;
 /// The reasons that a packet is not read.
 #[derive(Debug, Drop, thiserror::Error)]
 pub enum TsError {
-    /// The bits were not read: the contents of the packet do not fit in it.
+    /// The bits were not read: the contents of the packet or of a section do not fit in it.
     #[error("{0}")]
     Reader(Error),
     /// The packet does not begin with 0x47.
     #[error("no sync byte of a transport packet")]
     NoSync,
+    /// A section of a table of programs has more bytes after its length than are allowed.
+    #[error("the section has {0} bytes, and at most 1021 are allowed")]
+    SectionTooLong(u32),
+    /// The checksum of a section differs from its bytes.
+    #[error("the checksum of the section is wrong")]
+    SectionChecksum,
+    /// A descriptor goes on after the end of its list.
+    #[error("a descriptor goes on after the end of its list")]
+    DescriptorTooLong,
+    /// A packet before this one is missing, so a section is not whole.
+    #[error("a packet is missing, and a section is not whole")]
+    MissingPacket,
+    /// A section begins before the one before it ends.
+    #[error("a section begins before the last one ends")]
+    SectionCut,
 }
 
 impl From<Error> for TsError {
@@ -29,13 +51,15 @@ impl From<Error> for TsError {
 #[derive(Drop)]
 pub struct Packets<'a> {
     reader: SliceReader<'a, BE>,
+    tables: Tables,
 }
 
 impl<'a> Packets<'a> {
     /// Returns the packets of these bytes.
-    pub fn over(bytes: &'a [u8]) -> Packets<'a> {
+    pub fn over(alloc: Global, bytes: &'a [u8]) -> Packets<'a> {
         Packets {
             reader: SliceReader::over(bytes),
+            tables: Tables::new(alloc),
         }
     }
 
@@ -44,35 +68,29 @@ impl<'a> Packets<'a> {
         self.reader.rest()
     }
 
-    /// Reads a packet, and appends the elements of its header, of its adaptation field, and of the
-    /// header of a PES packet that begins in it. Returns true if there was a packet.
+    /// Reads a packet, and appends its elements, as [`Tables::read_packet`] does. Returns true if
+    /// there was a packet.
     ///
     /// # Errors
     ///
     /// The errors of [`TsError`]. The elements that were read before are appended.
-    pub fn next_packet(&mut self, elements: &mut Vec<Element>) -> Result<bool, At<TsError>> {
+    pub fn next_packet(
+        &mut self,
+        alloc: Global,
+        elements: &mut Vec<Element>,
+    ) -> Result<bool, At<TsError>> {
         if self.reader.is_at_end() {
             return Ok(false);
         }
-        let start = self.reader.bits_read();
-        let mut packet = match self.reader.part(PACKET) {
-            Ok(packet) => packet,
-            Err(error) => return Err(At {
-                bit: start,
-                error: TsError::Reader(error),
-            }),
-        };
-        let mut syntax = Syntax {
-            reader: &mut packet,
-            elements,
-            index: None,
-            start,
-        };
-        match read_packet(&mut syntax) {
-            Ok(()) => Ok(true),
+        let place = self.reader.bits_read();
+        match self.reader.take_bytes(PACKET) {
+            Ok(packet) => {
+                self.tables.read_packet(alloc, packet, place, elements)?;
+                Ok(true)
+            }
             Err(error) => Err(At {
-                bit: start.saturating_add(packet.bits_read()),
-                error,
+                bit: place,
+                error: TsError::Reader(error),
             }),
         }
     }
@@ -80,8 +98,19 @@ impl<'a> Packets<'a> {
 
 type Packet<'r, 'a, 'b> = Syntax<'r, 'a, 'b, BE>;
 
-/// Reads a packet.
-fn read_packet(syntax: &mut Packet<'_, '_, '_>) -> Result<(), TsError> {
+/// The facts of a packet's header on which the reading of its payload depends.
+#[derive(Clone, Copy)]
+struct Header {
+    id: u32,
+    // True if a PES packet or a section begins in the packet.
+    starts: bool,
+    counter: u32,
+    // True if the packet has a payload, which is not scrambled.
+    is_clear: bool,
+}
+
+/// Reads the header of a packet, and its adaptation field.
+fn read_header(syntax: &mut Packet<'_, '_, '_>) -> Result<Header, TsError> {
     if syntax.number("sync_byte", 8)? != 0x47 {
         return Err(TsError::NoSync);
     }
@@ -91,15 +120,16 @@ fn read_packet(syntax: &mut Packet<'_, '_, '_>) -> Result<(), TsError> {
     let id = syntax.number("PID", 13)?;
     let scrambled = syntax.number("transport_scrambling_control", 2)?;
     let control = syntax.number("adaptation_field_control", 2)?;
-    syntax.number("continuity_counter", 4)?;
+    let counter = syntax.number("continuity_counter", 4)?;
     if control >= 2 {
         read_adaptation(syntax)?;
     }
-    let has_payload = control % 2 == 1;
-    if starts && has_payload && scrambled == 0 && (0x20..0x1fff).contains(&id) {
-        read_pes(syntax)?;
-    }
-    Ok(())
+    Ok(Header {
+        id,
+        starts,
+        counter,
+        is_clear: control % 2 == 1 && scrambled == 0,
+    })
 }
 
 /// Reads an adaptation field.

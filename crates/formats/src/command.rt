@@ -112,11 +112,14 @@ pub fn play<W: Write, P: Write>(
             show(alloc, name, &mut units, printer, out, report)
         }
         Command::Ts => {
-            let mut units = TsUnits::over(file);
+            let mut units = TsUnits::over(alloc, file);
             show(alloc, name, &mut units, printer, out, report)
         }
     }
 }
+
+/// The error of a file without units.
+const NOTHING: &str = "nothing of this format";
 
 /// The outcome of the units of a file.
 #[derive(Clone, Copy, Debug)]
@@ -128,12 +131,12 @@ struct Tally {
 
 impl Tally {
     /// Returns what came of a file, which is refused if it has no unit.
-    fn end<P: Write>(self, name: &str, report: &mut Report<P>) -> Status {
+    fn end(self) -> Status {
         if self.count > 0 {
-            return self.status;
+            self.status
+        } else {
+            Status::Refused
         }
-        report.say(name, "nothing of this format");
-        Status::Refused
     }
 
     /// Adds a unit.
@@ -179,7 +182,13 @@ pub fn show<U: ReadUnits, W: Write, P: Write>(
         }
         report.done(units.bytes_done());
     }
-    Ok(tally.end(name, report))
+    if tally.count == 0 {
+        match printer.style() {
+            Style::Errors => writeln!(out, "{name}: {NOTHING}")?,
+            _ => report.say(name, NOTHING),
+        }
+    }
+    Ok(tally.end())
 }
 
 /// Writes the contents of the units of a file, and reports the units that are refused.
@@ -210,5 +219,8 @@ pub fn decode<U: ReadUnits, W: Write, P: Write>(
         }
         report.done(units.bytes_done());
     }
-    Ok(tally.end(name, report))
+    if tally.count == 0 {
+        report.say(name, NOTHING);
+    }
+    Ok(tally.end())
 }

@@ -10,12 +10,12 @@ usage: formats COMMAND [OPTION..] FILE..     FILE is - for standard input
        formats COMMAND --help                prints what a command reads
        formats --version
 
-  h264           NAL units of H.264, with parameter sets (profile, size, reference frames)
+  h264           NAL units of H.264, with parameter sets (profile, size, reference frames) and headers of slices
   h265           NAL units of H.265, with parameter sets (profile, level, size)
   av1            OBUs of AV1 with sequence headers, bare or in IVF
   adts           frames of AAC in ADTS, also after ID3v2
   ogg            pages and packets of Ogg; the codecs are named
-  ts             packets of MPEG-TS, of 188 bytes or of 192 (M2TS)
+  ts             packets of MPEG-TS, of 188 bytes or of 192 (M2TS), with tables of programs
   flac-headers   metadata and frame headers of FLAC
   gzip-headers   headers and trailers of the members of gzip
   flac           writes the samples of FLAC, as whole bytes with a sign, the lowest byte first
@@ -24,7 +24,7 @@ usage: formats COMMAND [OPTION..] FILE..     FILE is - for standard input
   --json         prints a JSON object for each unit, on a line of its own
   --table        prints a heading for each unit, and its elements in columns
   --only NAME    prints the elements of this name alone; several names are allowed
-  --errors       prints errors alone
+  --errors       prints errors alone; a FILE may be a directory, whose files are read in the order of their names
   --             ends the options
 
 With no option a line has an element: its place in bits, its name and its value. A unit that is refused is reported
@@ -43,8 +43,9 @@ pub fn help_of(command: Command) -> &'static str {
 usage: formats h264 [--json | --table | --errors] [--only NAME].. FILE..
 
 Reads an H.264 byte stream (annex B). A unit is a NAL unit: the header of each, and all elements of sequence and
-picture parameter sets, with the names and places of the standard. Places count in the unit, without its start code
-and its bytes against emulation. A sequence parameter set also has its profile, width, height and reference_frames.
+picture parameter sets and of the headers of slices, with the names and places of the standard. Places count in the
+unit, without its start code and its bytes against emulation. A sequence parameter set also has its profile, width,
+height and reference_frames, and each SEI message its payloadType, its payloadSize in bytes and its name.
 e.g.   formats h264 --json FILE | jq -c 'select(.type == \"SPS\") | .about'
 ",
         Command::H265 => "\
@@ -79,8 +80,9 @@ e.g.   formats ogg --json FILE | jq -r .about.codec | sort | uniq -c
 usage: formats ts [--json | --table | --errors] [--only NAME].. FILE..
 
 Reads an MPEG transport stream, of packets of 188 bytes, or of 192 as in M2TS. A unit is a packet: its header, its
-adaptation field, and the header of a PES packet that begins in it.
-e.g.   formats ts --only PTS FILE
+adaptation field, and the header of a PES packet that begins in it, or the sections of the program association table
+and of program maps that end in it, with the names of the types of streams. Checksums of sections are checked.
+e.g.   formats ts --json FILE | jq -c 'select(.type == \"PMT\") | .about'
 ",
         Command::FlacHeaders => "\
 usage: formats flac-headers [--json | --table | --errors] [--only NAME].. FILE..

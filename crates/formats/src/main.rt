@@ -12,6 +12,7 @@ mod rows;
 mod run;
 mod status;
 mod unit;
+mod walk;
 
 use run::run;
 use std::io;

@@ -4,4 +4,5 @@ pub mod audio;
 pub mod compressed;
 pub mod containers;
 pub mod h265;
+pub mod messages;
 pub mod video;

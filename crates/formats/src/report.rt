@@ -4,37 +4,56 @@ use crate::unit::{Fault, Unit};
 use std::io;
 use std::io::{Read, Write};
 
+/// The extent of what is read, for the progress.
+#[derive(Clone, Copy, Debug)]
+pub struct Extent {
+    /// The number of files of a directory that were read before.
+    pub files: u64,
+    /// The bytes of the file, or 0 if their number is not known.
+    pub bytes: u64,
+}
+
+impl Extent {
+    /// Returns the extent of a reader of which nothing is known.
+    pub fn unknown() -> Extent {
+        Extent { files: 0, bytes: 0 }
+    }
+}
+
 /// Reports progress, a hundredth at a time, in one line that it overwrites, and the refused units.
 #[derive(Drop)]
 pub struct Report<P: Write> {
     out: P,
     // True if progress is shown.
     shown: bool,
-    total: u64,
+    extent: Extent,
     // The hundredths that were shown.
     told: u64,
 }
 
 impl<P: Write> Report<P> {
-    /// Returns a report over `total` bytes. It shows no progress if it is not `shown`.
-    pub fn new(out: P, shown: bool, total: u64) -> Report<P> {
+    /// Returns a report over a file. It shows no progress if it is not `shown`.
+    pub fn new(out: P, shown: bool, extent: Extent) -> Report<P> {
         Report {
             out,
-            shown: shown && total > 0,
-            total,
+            shown: shown && extent.bytes > 0,
+            extent,
             told: 0,
         }
     }
 
     /// Shows that `bytes` bytes were read.
     pub fn done(&mut self, bytes: u64) {
-        if !self.shown || self.total == 0 {
+        if !self.shown || self.extent.bytes == 0 {
             return;
         }
-        let hundredths = (100 * bytes as u128 / self.total as u128).min(100) as u64;
+        let hundredths = (100 * bytes as u128 / self.extent.bytes as u128).min(100) as u64;
         if hundredths > self.told {
             self.told = hundredths;
-            let _ = write!(self.out, "\r{hundredths} %");
+            let _ = match self.extent.files {
+                0 => write!(self.out, "\r{hundredths} %"),
+                files => write!(self.out, "\r{files} files, {hundredths} %"),
+            };
         }
     }
 
@@ -42,7 +61,7 @@ impl<P: Write> Report<P> {
     pub fn clear(&mut self) {
         if self.shown {
             self.told = 0;
-            let _ = write!(self.out, "\r     \r");
+            let _ = write!(self.out, "\r{:33}\r", "");
         }
     }
 

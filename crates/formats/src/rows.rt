@@ -4,7 +4,8 @@ use crate::command::{Command, play};
 use crate::damaged::play_damaged;
 use crate::options::{Options, Style};
 use crate::print::Printer;
-use crate::report::Report;
+use crate::report::{Extent, Report};
+use crate::run::read_directory;
 use crate::status::Status;
 use anyhow::{Error, anyhow, bail};
 use std::alloc::{AllocError, Global};
@@ -44,7 +45,7 @@ pub fn outcome_of(
     file: &[u8],
 ) -> Result<Written, Error> {
     let mut out = Vec::new(alloc);
-    let mut report = Report::new(Vec::new(alloc), false, 0);
+    let mut report = Report::new(Vec::new(alloc), false, Extent::unknown());
     let mut printer = Printer::new(alloc, Options::of(alloc, style));
     let status = play(
         alloc,
@@ -115,7 +116,8 @@ struct Case {
 
 /// Compares the results of reading each file of a list: a line has a command, a file, and a file of
 /// rows or of bytes. After the word `json` the units are printed as JSON. After the word `refused`
-/// the file has an error, which is printed. After the word `damaged` there are a command and a file
+/// the file has an error, which is printed. After the word `errors` there are a command, a directory
+/// and a file of the errors of its files. After the word `damaged` there are a command and a file
 /// whose damaged copies are counted.
 pub fn play_rows(rt: &HostRuntime, list: &str) -> Result<(), Error> {
     let text = fs::read_to_string(rt, list)?;
@@ -137,10 +139,10 @@ pub fn play_rows(rt: &HostRuntime, list: &str) -> Result<(), Error> {
         let (Some(path), Some(other)) = (words.next(), words.next()) else {
             bail!("{list}: {line}");
         };
-        if word == "damaged" {
-            play_damaged(rt, command_of(path)?, other)?;
-        } else {
-            compare(rt, command_of(word)?, path, other, case)?;
+        match (word, words.next()) {
+            ("damaged", _) => play_damaged(rt, command_of(path)?, other)?,
+            ("errors", Some(rows)) => compare_errors(rt, command_of(path)?, other, rows)?,
+            _ => compare(rt, command_of(word)?, path, other, case)?,
         }
     }
     Ok(())
@@ -188,5 +190,26 @@ fn compare(
     if case.refused {
         println!(rt; "{path}: {}", written.first_error())?;
     }
+    Ok(())
+}
+
+/// Compares the errors of the files of a directory with those of a file.
+fn compare_errors(
+    rt: &HostRuntime,
+    command: Command,
+    directory: &str,
+    other: &str,
+) -> Result<(), Error> {
+    let wanted = fs::read(rt, other)?;
+    let mut out = Vec::new(rt.alloc());
+    let mut printer = Printer::new(rt.alloc(), Options::of(rt.alloc(), Style::Errors));
+    let status = read_directory(rt, command, directory, &mut printer, &mut out)?;
+    if status != Status::Refused {
+        bail!("{directory}: {status:?}");
+    }
+    if out.as_slice() != wanted.as_slice() {
+        bail!("{directory}: the errors are not those of {other}");
+    }
+    println!(rt; "{directory}: {} bytes of errors, the same", out.len())?;
     Ok(())
 }

@@ -3,16 +3,17 @@
 use crate::command::{Command, decode, play, show};
 use crate::damaged::play_damaged;
 use crate::help::{HELP, VERSION, help_of};
-use crate::options::{Call, Options, Usage, parse};
+use crate::options::{Call, Options, Style, Usage, parse};
 use crate::print::Printer;
 use crate::readers::compressed::GzipUnits;
-use crate::report::{Report, Watched};
+use crate::report::{Extent, Report, Watched};
 use crate::rows::play_rows;
 use crate::status::{Status, USAGE};
-use anyhow::Error;
+use crate::walk::{Unread, Walk};
+use anyhow::{Error, anyhow};
 use std::fs::File;
 use std::io::{BufWriter, ErrorKind, IsTerminal, Read, Write};
-use std::{env, io};
+use std::{env, fs, io};
 
 /// The bytes that are written at once.
 const OUT: usize = 65536;
@@ -88,7 +89,7 @@ fn read_files(
     let mut out = BufWriter::with_capacity(rt.alloc(), OUT, io::writer(rt))?;
     let mut status = Status::Read;
     for file in files {
-        match read_file(rt, command, file.as_str(), &mut printer, &mut out) {
+        match read_path(rt, command, file.as_str(), &mut printer, &mut out) {
             Ok(read) => status = status.max(read),
             Err(error) => {
                 status = Status::Failed;
@@ -106,8 +107,8 @@ fn read_files(
     }
 }
 
-/// Plays a command over a file, or over standard input.
-fn read_file<W: Write + Drop>(
+/// Plays a command over a file, over standard input, or over the files of a directory.
+fn read_path<W: Write + Drop>(
     rt: &HostRuntime,
     command: Command,
     name: &str,
@@ -115,27 +116,91 @@ fn read_file<W: Write + Drop>(
     out: &mut W,
 ) -> Result<Status, Error> {
     if name == "-" {
-        return read_from(rt, command, name, rt.stdin(), 0, printer, out);
+        return read_from(
+            rt,
+            command,
+            name,
+            rt.stdin(),
+            Extent::unknown(),
+            printer,
+            out,
+        );
     }
-    let file = File::open(rt, name)?;
-    let length = file.metadata()?.len();
-    read_from(rt, command, name, file, length, printer, out)
+    if !fs::metadata(rt, name)?.is_dir() {
+        return read_file(rt, command, name, 0, printer, out);
+    }
+    if printer.style() != Style::Errors {
+        return Err(anyhow!("a directory, which --errors alone reads"));
+    }
+    read_directory(rt, command, name, printer, out)
 }
 
-/// Runs a command on a reader of `length` bytes, or 0 if the number is not known.
+/// Prints the errors of the files of a directory, and returns the status of the worst.
+pub fn read_directory<W: Write + Drop>(
+    rt: &HostRuntime,
+    command: Command,
+    name: &str,
+    printer: &mut Printer,
+    out: &mut W,
+) -> Result<Status, Error> {
+    let mut walk = Walk::over(rt.alloc(), name)?;
+    let mut status = Status::Read;
+    for number in 0..u64::MAX {
+        match walk.next_file(rt)? {
+            None if number == 0 => return Err(anyhow!("no file in the directory")),
+            None => break,
+            Some(Ok(path)) => match read_file(rt, command, path.as_str(), number, printer, out) {
+                Ok(read) => status = status.max(read),
+                Err(error) => {
+                    status = Status::Failed;
+                    eprintln!(rt; "formats: {}: {error}", path.as_str())?;
+                }
+            },
+            Some(Err(Unread { path, text })) => {
+                status = Status::Failed;
+                eprintln!(rt; "formats: {}: {}", path.as_str(), text.as_str())?;
+            }
+        }
+    }
+    Ok(status)
+}
+
+/// Plays a command over a file, after some files of a directory.
+fn read_file<W: Write + Drop>(
+    rt: &HostRuntime,
+    command: Command,
+    name: &str,
+    files: u64,
+    printer: &mut Printer,
+    out: &mut W,
+) -> Result<Status, Error> {
+    let file = File::open(rt, name)?;
+    let bytes = file.metadata()?.len();
+    read_from(
+        rt,
+        command,
+        name,
+        file,
+        Extent { files, bytes },
+        printer,
+        out,
+    )
+}
+
+/// Runs a command on a reader.
 fn read_from<R: Read + Drop, W: Write>(
     rt: &HostRuntime,
     command: Command,
     name: &str,
     reader: R,
-    length: u64,
+    extent: Extent,
     printer: &mut Printer,
     out: &mut W,
 ) -> Result<Status, Error> {
     let alloc = rt.alloc();
     let shown = rt.stderr().is_terminal() && !rt.stdout().is_terminal();
-    let mut report = Report::new(rt.stderr(), shown, length);
-    let mut reader = Watched::new(reader, Report::new(rt.stderr(), shown, length));
+    let mut report = Report::new(rt.stderr(), shown, extent);
+    let mut reader = Watched::new(reader, Report::new(rt.stderr(), shown, extent));
     let done = match command {
         Command::Gunzip => {
             let mut units = GzipUnits::over(alloc, reader)?;

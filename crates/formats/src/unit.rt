@@ -82,9 +82,19 @@ impl Unit {
 
     /// Notes a number.
     pub fn note(&mut self, name: &'static str, value: i64) -> Result<(), AllocError> {
+        self.note_at(name, None, value)
+    }
+
+    /// Notes a number, with its index among numbers of the same name.
+    pub fn note_at(
+        &mut self,
+        name: &'static str,
+        index: Option<u32>,
+        value: i64,
+    ) -> Result<(), AllocError> {
         self.notes.push(Note {
             name,
-            index: None,
+            index,
             value: NoteValue::Number(value),
         })?;
         Ok(())

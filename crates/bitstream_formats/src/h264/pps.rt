@@ -24,38 +24,44 @@ pub(super) fn read_pps(
     let Some(sequence) = sets.sequence(named) else {
         return Err(H264Error::MissingSequence(named));
     };
-    read_common(syntax)?;
-    let mut large_transform = false;
+    let mut set = read_common(syntax, named)?;
     if syntax.place() < last {
-        large_transform = read_more(syntax, &sequence)?;
+        set.large_transform = read_more(syntax, &sequence)?;
     }
-    Ok((
-        number,
-        PictureSet {
-            sequence: named,
-            large_transform,
-        },
-    ))
+    Ok((number, set))
 }
 
-/// Reads the elements that each set has after its numbers.
-fn read_common(syntax: &mut Syntax<'_, '_, '_, BE>) -> Result<(), H264Error> {
-    syntax.flag("entropy_coding_mode_flag")?;
-    syntax.flag("bottom_field_pic_order_in_frame_present_flag")?;
+/// Reads the elements that each set has after its numbers, of which `sequence` is the second.
+fn read_common(
+    syntax: &mut Syntax<'_, '_, '_, BE>,
+    sequence: u32,
+) -> Result<PictureSet, H264Error> {
+    let arithmetic = syntax.flag("entropy_coding_mode_flag")?;
+    let bottom_order = syntax.flag("bottom_field_pic_order_in_frame_present_flag")?;
     if read_ue(syntax, "num_slice_groups_minus1")? > 0 {
         return Err(H264Error::SliceGroups);
     }
-    read_ue(syntax, "num_ref_idx_l0_default_active_minus1")?;
-    read_ue(syntax, "num_ref_idx_l1_default_active_minus1")?;
-    syntax.flag("weighted_pred_flag")?;
-    syntax.number("weighted_bipred_idc", 2)?;
+    let first = read_ue(syntax, "num_ref_idx_l0_default_active_minus1")?;
+    let second = read_ue(syntax, "num_ref_idx_l1_default_active_minus1")?;
+    let weighted_one = syntax.flag("weighted_pred_flag")?;
+    let weighted_both = syntax.number("weighted_bipred_idc", 2)?;
     read_se(syntax, "pic_init_qp_minus26")?;
     read_se(syntax, "pic_init_qs_minus26")?;
     read_se(syntax, "chroma_qp_index_offset")?;
-    syntax.flag("deblocking_filter_control_present_flag")?;
+    let deblocking = syntax.flag("deblocking_filter_control_present_flag")?;
     syntax.flag("constrained_intra_pred_flag")?;
-    syntax.flag("redundant_pic_cnt_present_flag")?;
-    Ok(())
+    let redundant_count = syntax.flag("redundant_pic_cnt_present_flag")?;
+    Ok(PictureSet {
+        sequence,
+        large_transform: false,
+        arithmetic,
+        bottom_order,
+        last_references: [first, second],
+        weighted_one,
+        weighted_both,
+        deblocking,
+        redundant_count,
+    })
 }
 
 /// Returns the number of scaling lists that a picture parameter set may have.

@@ -8,6 +8,32 @@ pub struct SequenceSet {
     /// The sampling of chroma, `chroma_format_idc`: 0 for none, 1 for 4:2:0, 2 for 4:2:2, 3 for 4:4:4. It is 1
     /// in the profiles whose sets have no such element.
     pub chroma_format: u32,
+    /// True if each plane of color is coded as a picture of its own, `separate_colour_plane_flag`.
+    pub separate_planes: bool,
+    /// The bits of the number of a frame, `frame_num`: 4 to 16.
+    pub frame_bits: u32,
+    /// How the order of pictures is coded.
+    pub order: PictureOrder,
+    /// True if no picture is a field, `frame_mbs_only_flag`.
+    pub frames_only: bool,
+}
+
+impl SequenceSet {
+    /// Returns true if the slices of luma have chroma with them.
+    pub fn has_chroma(&self) -> bool {
+        self.chroma_format != 0 && !self.separate_planes
+    }
+}
+
+/// How the order of pictures is coded in slices, `pic_order_cnt_type`.
+#[derive(Clone, Copy, Debug, PartialEq, Eq)]
+pub enum PictureOrder {
+    /// By its low bits, of this number: 4 to 16.
+    Low(u32),
+    /// By differences from the order of a cycle.
+    Cycle,
+    /// It is not coded: it is the order of a cycle, or that of decoding.
+    Decoding,
 }
 
 /// The facts of a picture parameter set that the reading of other units needs.
@@ -17,10 +43,25 @@ pub struct PictureSet {
     pub sequence: u32,
     /// True if the transform of 8x8 samples is used, `transform_8x8_mode_flag`.
     pub large_transform: bool,
+    /// True if the data of slices is coded by CABAC, `entropy_coding_mode_flag`.
+    pub arithmetic: bool,
+    /// True if slices of frames have the order of the bottom field,
+    /// `bottom_field_pic_order_in_frame_present_flag`.
+    pub bottom_order: bool,
+    /// The numbers of the last pictures of both lists, if a slice says nothing else.
+    pub last_references: [u32; 2],
+    /// True if slices that one list predicts have weights, `weighted_pred_flag`.
+    pub weighted_one: bool,
+    /// How slices that both lists predict are weighted, `weighted_bipred_idc`: they have weights if it is 1.
+    pub weighted_both: u32,
+    /// True if slices have elements on the deblocking filter.
+    pub deblocking: bool,
+    /// True if slices say if they are redundant.
+    pub redundant_count: bool,
 }
 
 /// The parameter sets that were read, by their numbers: at most 32 sequence and 256 picture parameter sets.
-/// A set replaces the one of its number. It takes no memory but its own 4 KB.
+/// A set replaces the one of its number. It takes no memory but its own 12 KB.
 #[derive(Debug, Drop)]
 pub struct ParameterSets {
     sequences: [Option<SequenceSet>; 32],

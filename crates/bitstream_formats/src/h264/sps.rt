@@ -2,7 +2,7 @@
 
 use super::H264Error;
 use super::scaling::read_scaling_lists;
-use super::sets::SequenceSet;
+use super::sets::{PictureOrder, SequenceSet};
 use super::vui::read_vui;
 use crate::element::{Index, Syntax};
 use crate::nal::{read_se, read_ue};
@@ -27,16 +27,16 @@ pub(super) fn read_sps(
     if number > 31 {
         return Err(H264Error::SequenceNumber(number));
     }
-    let chroma_format = if has_chroma(profile) {
+    let (chroma_format, separate_planes) = if has_chroma(profile) {
         read_chroma(syntax)?
     } else {
-        1
+        (1, false)
     };
-    read_ue(syntax, "log2_max_frame_num_minus4")?;
-    read_order(syntax)?;
+    let frame_bits = read_bits(syntax, "log2_max_frame_num_minus4")?;
+    let order = read_order(syntax)?;
     read_ue(syntax, "max_num_ref_frames")?;
     syntax.flag("gaps_in_frame_num_allowed_flag")?;
-    read_picture(syntax)?;
+    let frames_only = read_picture(syntax)?;
     if syntax.flag("vui_parameters_present_flag")? {
         read_vui(syntax)?;
     }
@@ -45,6 +45,10 @@ pub(super) fn read_sps(
         SequenceSet {
             profile,
             chroma_format,
+            separate_planes,
+            frame_bits,
+            order,
+            frames_only,
         },
     ))
 }
@@ -61,12 +65,10 @@ fn read_constraints(syntax: &mut Syntax<'_, '_, '_, BE>) -> Result<(), Error> {
     Ok(())
 }
 
-/// Reads the format of chroma and the scaling lists, and returns the format.
-fn read_chroma(syntax: &mut Syntax<'_, '_, '_, BE>) -> Result<u32, Error> {
+/// Reads the format of chroma and the scaling lists. Returns the format, and true if the planes are separate.
+fn read_chroma(syntax: &mut Syntax<'_, '_, '_, BE>) -> Result<(u32, bool), Error> {
     let chroma = read_ue(syntax, "chroma_format_idc")?;
-    if chroma == 3 {
-        syntax.flag("separate_colour_plane_flag")?;
-    }
+    let separate = chroma == 3 && syntax.flag("separate_colour_plane_flag")?;
     read_ue(syntax, "bit_depth_luma_minus8")?;
     read_ue(syntax, "bit_depth_chroma_minus8")?;
     syntax.flag("qpprime_y_zero_transform_bypass_flag")?;
@@ -74,24 +76,30 @@ fn read_chroma(syntax: &mut Syntax<'_, '_, '_, BE>) -> Result<u32, Error> {
         let count = if chroma == 3 { 12 } else { 8 };
         read_scaling_lists(syntax, "seq_scaling_list_present_flag", count)?;
     }
-    Ok(chroma)
+    Ok((chroma, separate))
+}
+
+/// Reads a number of bits without the first four. Returns the number of bits, at most 16.
+fn read_bits(syntax: &mut Syntax<'_, '_, '_, BE>, name: &'static str) -> Result<u32, H264Error> {
+    let more = read_ue(syntax, name)?;
+    if more > 12 {
+        return Err(H264Error::TooManyBits);
+    }
+    Ok(more + 4)
 }
 
 /// Reads how the order of pictures is coded.
-fn read_order(syntax: &mut Syntax<'_, '_, '_, BE>) -> Result<(), H264Error> {
+fn read_order(syntax: &mut Syntax<'_, '_, '_, BE>) -> Result<PictureOrder, H264Error> {
     match read_ue(syntax, "pic_order_cnt_type")? {
-        0 => {
-            read_ue(syntax, "log2_max_pic_order_cnt_lsb_minus4")?;
-        }
-        1 => read_cycle(syntax)?,
-        _ => {}
+        0 => Ok(PictureOrder::Low(read_bits(syntax, "log2_max_pic_order_cnt_lsb_minus4")?)),
+        1 => read_cycle(syntax),
+        _ => Ok(PictureOrder::Decoding),
     }
-    Ok(())
 }
 
-/// Reads a cycle of offsets.
-fn read_cycle(syntax: &mut Syntax<'_, '_, '_, BE>) -> Result<(), H264Error> {
-    syntax.flag("delta_pic_order_always_zero_flag")?;
+/// Reads a cycle of offsets, and returns how slices differ from it.
+fn read_cycle(syntax: &mut Syntax<'_, '_, '_, BE>) -> Result<PictureOrder, H264Error> {
+    let same = syntax.flag("delta_pic_order_always_zero_flag")?;
     read_se(syntax, "offset_for_non_ref_pic")?;
     read_se(syntax, "offset_for_top_to_bottom_field")?;
     let count = read_ue(syntax, "num_ref_frames_in_pic_order_cnt_cycle")?;
@@ -103,14 +111,19 @@ fn read_cycle(syntax: &mut Syntax<'_, '_, '_, BE>) -> Result<(), H264Error> {
         read_se(syntax, "offset_for_ref_frame")?;
     }
     syntax.index = None;
-    Ok(())
+    if same {
+        Ok(PictureOrder::Decoding)
+    } else {
+        Ok(PictureOrder::Cycle)
+    }
 }
 
-/// Reads the size of a picture.
-fn read_picture(syntax: &mut Syntax<'_, '_, '_, BE>) -> Result<(), Error> {
+/// Reads the size of a picture. Returns true if no picture is a field.
+fn read_picture(syntax: &mut Syntax<'_, '_, '_, BE>) -> Result<bool, Error> {
     read_ue(syntax, "pic_width_in_mbs_minus1")?;
     read_ue(syntax, "pic_height_in_map_units_minus1")?;
-    if !syntax.flag("frame_mbs_only_flag")? {
+    let frames_only = syntax.flag("frame_mbs_only_flag")?;
+    if !frames_only {
         syntax.flag("mb_adaptive_frame_field_flag")?;
     }
     syntax.flag("direct_8x8_inference_flag")?;
@@ -120,5 +133,5 @@ fn read_picture(syntax: &mut Syntax<'_, '_, '_, BE>) -> Result<(), Error> {
         read_ue(syntax, "frame_crop_top_offset")?;
         read_ue(syntax, "frame_crop_bottom_offset")?;
     }
-    Ok(())
+    Ok(frames_only)
 }

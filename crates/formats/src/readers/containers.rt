@@ -2,6 +2,7 @@
 
 use crate::unit::{Fault, ReadUnits, Step, Unit};
 use anyhow::Error;
+use bitstream_formats::element::Index;
 use bitstream_formats::{ogg, ts};
 use std::alloc::{AllocError, Global};
 use std::io::Write;
@@ -142,6 +143,7 @@ pub struct TsUnits<'a> {
     at: usize,
     // The bytes before each packet: 4 or none.
     stamp: usize,
+    tables: ts::Tables,
 }
 
 /// The first byte of a packet.
@@ -149,7 +151,7 @@ const SYNC: u8 = 0x47;
 
 impl<'a> TsUnits<'a> {
     /// Returns the packets of a file.
-    pub fn over(file: &'a [u8]) -> TsUnits<'a> {
+    pub fn over(alloc: Global, file: &'a [u8]) -> TsUnits<'a> {
         let is_sync = |at: usize| file.get(at) == Some(&SYNC);
         let plain = is_sync(0) && (file.len() <= ts::PACKET || is_sync(ts::PACKET));
         let stamped = is_sync(4) && (file.len() <= ts::PACKET + 4 || is_sync(ts::PACKET + 8));
@@ -157,6 +159,7 @@ impl<'a> TsUnits<'a> {
             file,
             at: 0,
             stamp: if stamped && !plain { 4 } else { 0 },
+            tables: ts::Tables::new(alloc),
         }
     }
 
@@ -194,23 +197,14 @@ impl ReadUnits for TsUnits<'_> {
             self.at = self.file.len();
             return Ok(Step::Refused(Fault::of(alloc, 0, "end of input")?));
         }
-        let read = ts::Packets::over(one).next_packet(&mut unit.elements);
         let first = start.saturating_add(self.stamp) as u64;
-        unit.move_places(first);
-        if let [a, b, c, d, ..] = bytes
-            && self.stamp == 4
-        {
-            let stamp = u32::from_be_bytes([*a, *b, *c, *d]);
-            unit.push(
-                (start as u64).saturating_mul(8),
-                "copy_permission_indicator",
-                (stamp >> 30) as i64,
-            )?;
-            unit.push(
-                (start as u64).saturating_mul(8).saturating_add(2),
-                "arrival_time_stamp",
-                (stamp & 0x3fff_ffff) as i64,
-            )?;
+        let place = first.saturating_mul(8);
+        let read = self
+            .tables
+            .read_packet(alloc, one, place, &mut unit.elements);
+        note_table(alloc, unit)?;
+        if self.stamp == 4 {
+            push_stamp(unit, start as u64, bytes)?;
         }
         let end = (first as usize)
             .saturating_add(ts::PACKET)
@@ -220,11 +214,84 @@ impl ReadUnits for TsUnits<'_> {
         } else {
             self.find_packet(start.saturating_add(1))
         };
-        let step = Step::of(alloc, read, 0)?;
-        Ok(step)
+        Ok(Step::of(alloc, read, place)?)
     }
 
     fn bytes_done(&self) -> u64 {
         self.at as u64
+    }
+}
+
+/// Appends the elements of the time stamp before a packet of M2TS, at a byte of the file.
+fn push_stamp(unit: &mut Unit, byte: u64, bytes: &[u8]) -> Result<(), AllocError> {
+    let [a, b, c, d, ..] = bytes else {
+        return Ok(());
+    };
+    let stamp = u32::from_be_bytes([*a, *b, *c, *d]);
+    let place = byte.saturating_mul(8);
+    unit.push(place, "copy_permission_indicator", (stamp >> 30) as i64)?;
+    unit.push(
+        place.saturating_add(2),
+        "arrival_time_stamp",
+        (stamp & 0x3fff_ffff) as i64,
+    )
+}
+
+/// Names the table of programs of which a section ends in a packet, and the types of a program's streams.
+fn note_table(alloc: Global, unit: &mut Unit) -> Result<(), AllocError> {
+    if unit.value_of("transport_stream_id").is_some() {
+        unit.kind = "PAT";
+    } else if unit.value_of("PCR_PID").is_some() {
+        unit.kind = "PMT";
+    }
+    let mut types = Vec::new(alloc);
+    for element in unit.elements.as_slice() {
+        if let ("stream_type", Some(Index::One(at))) = (element.name, element.index) {
+            types.push((at, element.value))?;
+        }
+    }
+    for (at, kind) in types.as_slice() {
+        let name = String::from_str(alloc, stream_type(*kind))?;
+        unit.note_text("stream_type_name", Some(*at), name)?;
+    }
+    Ok(())
+}
+
+/// Returns the name of a type of streams (table 2-34 of ISO/IEC 13818-1, and three of ATSC and SCTE).
+fn stream_type(kind: i64) -> &'static str {
+    match kind {
+        0x01 => "MPEG-1 video",
+        0x02 => "MPEG-2 video",
+        0x03 => "MPEG-1 audio",
+        0x04 => "MPEG-2 audio",
+        0x05 => "private sections",
+        0x06 => "private data in PES packets",
+        0x07 => "MHEG",
+        0x08 | 0x0a..=0x0d => "DSM-CC",
+        0x0e => "auxiliary data",
+        0x0f => "AAC in ADTS",
+        0x10 => "MPEG-4 video",
+        0x11 => "AAC in LATM",
+        0x12 => "MPEG-4 systems in PES packets",
+        0x13 => "MPEG-4 systems in sections",
+        0x14 => "synchronized download",
+        0x15 => "metadata in PES packets",
+        0x16 => "metadata in sections",
+        0x17..=0x19 => "metadata in a carousel or download",
+        0x1a => "IPMP",
+        0x1b => "H.264 video",
+        0x1c => "MPEG-4 audio",
+        0x1d => "MPEG-4 text",
+        0x1e => "auxiliary video",
+        0x1f => "SVC video",
+        0x20 => "MVC video",
+        0x21 => "JPEG 2000 video",
+        0x22 => "MPEG-2 stereo video",
+        0x23 => "H.264 stereo video",
+        0x24 => "H.265 video",
+        0x81 => "AC-3 audio",
+        0x86 => "SCTE-35 splices",
+        0x87 => "E-AC-3 audio",
+        _ => "unknown",
     }
 }

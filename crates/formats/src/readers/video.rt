@@ -1,5 +1,6 @@
 //! The units of H.264 and AV1.
 
+use crate::readers::messages::note_messages;
 use crate::unit::{Fault, ReadUnits, Step, Unit};
 use anyhow::Error;
 use bitstream_formats::{av1, h264};
@@ -39,6 +40,10 @@ impl ReadUnits for H264Units<'_> {
         let read = stream.next_unit(alloc, &mut unit.elements);
         unit.kind = nal_unit(unit.value_of("nal_unit_type"));
         note_picture(alloc, unit)?;
+        note_slice(alloc, unit)?;
+        if unit.kind == "SEI" {
+            note_messages(alloc, unit)?;
+        }
         match read {
             Ok(Some(_)) => Ok(Step::Read),
             Ok(None) => Ok(Step::End),
@@ -71,6 +76,19 @@ fn nal_unit(kind: Option<i64>) -> &'static str {
         Some(20) => "slice_extension",
         _ => "NAL_unit",
     }
+}
+
+/// Notes the kind of a slice.
+fn note_slice(alloc: Global, unit: &mut Unit) -> Result<(), AllocError> {
+    let name = match unit.value_of("slice_type") {
+        Some(0 | 5) => "P",
+        Some(1 | 6) => "B",
+        Some(2 | 7) => "I",
+        Some(3 | 8) => "SP",
+        Some(4 | 9) => "SI",
+        _ => return Ok(()),
+    };
+    unit.note_text("slice", None, String::from_str(alloc, name)?)
 }
 
 /// Returns the name of a profile of H.264.
@@ -241,7 +259,7 @@ impl<'a> Av1Units<'a> {
         self.at = self.file.len().saturating_sub(payload.len());
         match payload.get(..size.max(0) as usize) {
             Some(frame) if bytes.len() >= 12 => {
-                self.obus = av1::Obus::over(frame);
+                self.obus = av1::Obus::of_frame(frame);
                 self.length = frame.len();
                 Ok(Step::Read)
             }
