@@ -1,5 +1,5 @@
 -- Channels: the steps of the loops over two of them, and what goes back.
-use Rattle.std.proofs.Common.{arith, ◌≡◌, ◌∙◌, ◌++◌, ◌+◌, ◌<◌, ◌≤◌, ℕ, ℤ, List, [], ◌∷◌, Err, length, take, drop, refl, sym, ap, append-nil, append_assoc, get_or}
+use Rattle.std.proofs.Common.{◌≡◌, ◌∙◌, ◌++◌, ◌+◌, ◌<◌, ◌≤◌, ℕ, ℤ, List, [], ◌∷◌, Err, length, drop, refl, sym, ap, append-nil, append_assoc, get_or}
 use Rattle.std.proofs.lemmas.List.{drop_all, drop_more}
 use Rattle.bitstream_io.specs.Codec.{and_then}
 use Rattle.bitstream_io.specs.Callers.{Failed, Order}

@@ -1,5 +1,5 @@
 -- A remainder by bytes, and by a table.
-use Rattle.std.proofs.Common.{◌++◌, ◌==◌, ◌&&◌, ◌⊎◌, Bool, true, false, get_or, arith, inl, inr, ◌≡◌, ◌∙◌, ◌+◌, ◌-◌, ◌*◌, ◌/◌, ◌%◌, ◌^◌, ◌<◌, ◌≤◌, ℕ, zero, suc, List, [], ◌∷◌, refl, sym, ap, subst, length, take, drop}
+use Rattle.std.proofs.Common.{◌++◌, ◌==◌, ◌&&◌, ◌⊎◌, Bool, true, get_or, arith, inl, inr, ◌≡◌, ◌∙◌, ◌+◌, ◌-◌, ◌*◌, ◌/◌, ◌%◌, ◌^◌, ◌<◌, ◌≤◌, ℕ, zero, suc, List, [], ◌∷◌, refl, sym, ap, length, take}
 use native.Mathlib.Nat.{mod-lt, pow-suc}
 use Rattle.std.proofs.lemmas.Nat.{and_mask, xor_block, xor_lt}
 use Rattle.std.proofs.lemmas.Bool.{and_parts, eqb-true, le-ltb, lt-ltb, cases_lt}

@@ -1,13 +1,12 @@
 -- What a reader of bytes in memory finds at their start, and in how many of them.
-use Rattle.std.proofs.Common.{arith, inl, inr, ◌⊎◌, ◌≡◌, ◌∙◌, ◌++◌, ◌+◌, ◌-◌, ◌*◌, ◌/◌, ◌%◌, ◌<◌, ◌≤◌, ◌^◌, ℕ, ℤ, suc, Bool, true, false, List, [], ◌∷◌, Some, Result, Ok, Err, length, take, drop, refl, sym, ap, subst, add-zero, add_assoc, append_assoc, get_or, length-append, zero-add}
-use Rattle.std.specs.Result.{IsErrAnd}
+use Rattle.std.proofs.Common.{arith, inl, inr, ◌⊎◌, ◌≡◌, ◌∙◌, ◌++◌, ◌+◌, ◌-◌, ◌*◌, ◌/◌, ◌%◌, ◌<◌, ◌≤◌, ◌^◌, ℕ, ℤ, suc, true, false, List, [], ◌∷◌, Some, Result, Ok, Err, length, take, drop, refl, sym, ap, subst, add-zero, add_assoc, append_assoc, get_or, length-append, zero-add}
 use Rattle.std.specs.Prelude.{MatchResult, bit_and, nat_lt, replicate}
 use Rattle.std.proofs.lemmas.Nat.{and_mask}
 use Rattle.std.proofs.lemmas.Bool.{cases_lt, eq-eqb, le-ltb, lt-ltb}
 use Rattle.std.proofs.Math.Seq.{drop-append_seam, take-append_seam}
 use Rattle.std.proofs.lemmas.List.{length-drop, length-replicate, take_all}
 use Rattle.bitstream_io.specs.Alignment.{to_boundary}
-use Rattle.bitstream_io.specs.Callers.{align, bits, sure_answer, write_sequence, BitSource, Decoder, Encoder, Error, EndOfInput, GrowsOwn, High, MayAllocate, OutOfMemory, OwnAnswer, ReadsOwn}
+use Rattle.bitstream_io.specs.Callers.{align, bits, sure_answer, write_sequence, BitSource, Decoder, Encoder, Error, EndOfInput, GrowsOwn, High, OutOfMemory, OwnAnswer, ReadsOwn}
 use Rattle.bitstream_io.specs.Codec.{Prefix, Incomplete, Done}
 use Rattle.bitstream_io.specs.Grows.{GrowingOutcome, by_reads, in_a_read, between_reads}
 use Rattle.bitstream_io.specs.Reads.{ReadDone, ReaderState, had_failed, was_done, was_refused, memory_refused}

@@ -1,5 +1,5 @@
 -- Frames from outside: those of the examples of RFC 9639 (appendix D), frames that `flac` wrote, and what is refused.
-use Rattle.std.proofs.Common.{◌≡◌, [], ◌∷◌, List, ℕ, false, Ok, Err, pos, negsuc, refl}
+use Rattle.std.proofs.Common.{◌≡◌, [], ◌∷◌, ℕ, false, Ok, Err, pos, negsuc, refl}
 use Rattle.bitstream_io.specs.Array.{items_decoder}
 use Rattle.bitstream_io.specs.Callers.{EndOfInput}
 use Rattle.bitstream_io.specs.Codec.{and_then}

@@ -1,16 +1,13 @@
 -- A header goes back, with each of its codes.
-use Rattle.std.proofs.Common.{arith, inl, inr, ◌≡◌, ◌∙◌, ◌⊎◌, ◌++◌, ◌+◌, ◌-◌, ◌*◌, ◌/◌, ◌%◌, ◌^◌, ◌<◌, ◌≤◌, ◌==◌, ℕ, zero, suc, false, List, [], ◌∷◌, Result, Ok, Err, refl, sym, ap, subst, append-nil, get_or}
+use Rattle.std.proofs.Common.{arith, inl, inr, ◌≡◌, ◌∙◌, ◌++◌, ◌+◌, ◌-◌, ◌*◌, ◌/◌, ◌%◌, ◌^◌, ◌<◌, ◌≤◌, ℕ, zero, suc, false, List, [], Result, Ok, refl, sym, ap, subst, append-nil, get_or}
 use native.Mathlib.Nat.{mod-lt}
-use Rattle.std.specs.Prelude.{if◌then◌else◌}
-use Rattle.std.proofs.lemmas.Bool.{eq-eqb, ne_eqb, le-leb, le-ltb, lt-ltb, cases_lt}
-use Rattle.bitstream_io.specs.Callers.{Order, Decoder, Encoder, and_then, pure, part_then, unsigned}
-use Rattle.bitstream_io.specs.Unary.{unary}
-use Rattle.bitstream_io.proofs.CallerLemmas.{RoundTrip, bit-back, computed-back, else-back, if-back, part-back, pure-back, unsigned-back}
+use Rattle.std.proofs.lemmas.Bool.{ne_eqb, le-leb, le-ltb, lt-ltb, cases_lt}
+use Rattle.bitstream_io.specs.Callers.{Order, Decoder, Encoder, and_then, pure, part_then}
+use Rattle.bitstream_io.proofs.CallerLemmas.{RoundTrip, bit-back, computed-back, part-back, pure-back, unsigned-back}
 use Rattle.bitstream_io.proofs.PackLemmas.{Packs, bit-written, const-written, packs-more, packs-none, packs-part, unary-written, unsigned-written}
-use Rattle.flac_codec.specs.Coded.{bytes_needed, bytes_writes, coded_decoder, coded_writes, rest_writes}
-use Rattle.flac_codec.specs.Header.{block_size_decoder, block_size_writes, block_sizes, channels_of, codes_decoder, codes_writes, coded_header_decoder, header_decoder, header_writes, numbers_decoder, sample_rate_decoder, sample_rate_writes, sample_rates, sample_size_of, AreCodes, IsBlockSizeCode, IsHeader, IsSampleRateCode}
+use Rattle.flac_codec.specs.Coded.{bytes_needed, coded_decoder, coded_writes, rest_writes}
+use Rattle.flac_codec.specs.Header.{block_size_decoder, block_size_writes, block_sizes, codes_decoder, codes_writes, header_decoder, header_writes, numbers_decoder, sample_rate_decoder, sample_rate_writes, AreCodes, IsBlockSizeCode, IsHeader, IsSampleRateCode}
 use Rattle.flac_codec.specs.declared.error.FlacError.{FlacError}
-use Rattle.flac_codec.specs.declared.header.Channels.{Channels}
 use Rattle.flac_codec.specs.declared.header.Codes.{Codes}
 use Rattle.flac_codec.specs.declared.header.FrameHeader.{FrameHeader}
 use Rattle.flac_codec.proofs.CodedLemmas.{bytes_needed-range, coded-back, number-fits}

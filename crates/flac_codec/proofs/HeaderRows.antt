@@ -1,5 +1,5 @@
 -- Headers of frames from outside: those of the examples of RFC 9639 (appendix D), and codes that are refused.
-use Rattle.std.proofs.Common.{◌≡◌, [], ◌∷◌, List, ℕ, Bool, true, false, Ok, Err, refl}
+use Rattle.std.proofs.Common.{◌≡◌, [], ◌∷◌, ℕ, Bool, true, false, Ok, Err, refl}
 use Rattle.bitstream_io.specs.Callers.{High, bits}
 use Rattle.bitstream_io.specs.Codec.{Done, and_then}
 use Rattle.bitstream_io.specs.ReadTable.{const_decoder, unary_decoder, unsigned_decoder}

@@ -1,13 +1,13 @@
 -- Values that are written one after another, and bytes that hold them.
-use Rattle.std.proofs.Common.{arith, inl, inr, ◌⊎◌, ◌≡◌, ◌∙◌, ◌++◌, ◌+◌, ◌<◌, ◌≤◌, ℕ, ℤ, zero, suc, false, List, [], ◌∷◌, None, Result, Ok, Err, length, take, refl, sym, ap, subst, append-nil, get_or, add-one, w64, SFits}
-use Rattle.std.specs.Prelude.{MatchResult, map}
+use Rattle.std.proofs.Common.{arith, inl, inr, ◌⊎◌, ◌≡◌, ◌∙◌, ◌++◌, ◌+◌, ◌<◌, ◌≤◌, ℕ, ℤ, suc, false, List, [], ◌∷◌, None, Result, Ok, Err, length, take, refl, sym, ap, subst, append-nil, get_or, add-one, w64, SFits}
+use Rattle.std.specs.Prelude.{map}
 use Rattle.std.specs.List.{All}
 use Rattle.std.specs.Result.{IsErrAnd}
 use Rattle.std.proofs.lemmas.List.{map-append, take_more}
 use Rattle.std.proofs.lemmas.List.Elements.{All-get_or, All-weaker}
 use Rattle.bitstream_io.specs.Codec.{and_then}
 use Rattle.bitstream_io.specs.Sequence.{accepted_bits}
-use Rattle.bitstream_io.specs.Callers.{align, bits, part_then, stores, write_sequence, AllAccepted, Decoder, Encoder, Error, FitsSignedBits, High, Order, OutOfMemory, Sink, WritesAll}
+use Rattle.bitstream_io.specs.Callers.{align, part_then, stores, AllAccepted, Decoder, Encoder, Error, FitsSignedBits, OutOfMemory, Sink}
 use Rattle.bitstream_io.specs.Fault.{refusal_of}
 use Rattle.bitstream_io.specs.Grows.{parts_decoder}
 use Rattle.bitstream_io.specs.ReadBack.{IsReadAs}

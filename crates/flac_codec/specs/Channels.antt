@@ -1,8 +1,7 @@
 -- The channels of a frame (RFC 9639, sections 4.2 and 9.1.3): each by itself, or one of two and their difference.
-use Rattle.std.specs.Prelude.{◌≡◌, ⊤, ℕ, ◌+◌, ◌-◌, ◌≤◌, List, [], ◌∷◌, ◌++◌, length, Result, Ok, Err, ℤ}
+use Rattle.std.specs.Prelude.{ℕ, ◌+◌, List, [], ◌∷◌, Result, Ok, ℤ}
 use Rattle.std.specs.Int.{int_shr, int_wrapping_add, int_wrapping_sub, w64}
-use Rattle.std.specs.List.{All}
-use Rattle.bitstream_io.specs.Callers.{Decoder, ◌>>=◌, FitsSignedBits, Order, parts_decoder, part_then, stores}
+use Rattle.bitstream_io.specs.Callers.{Decoder, ◌>>=◌, Order, parts_decoder, part_then, stores}
 use Rattle.flac_codec.specs.Subframe.{subframe_decoder}
 use Rattle.flac_codec.specs.declared.error.FlacError.{FlacError}
 use Rattle.flac_codec.specs.declared.header.Channels.{Channels}

@@ -1,6 +1,6 @@
 -- The two checksums of a frame (RFC 9639, sections 9.1.8 and 9.3): the remainder of the bytes, as a polynomial over the
 -- two numbers 0 and 1 with the highest bit first, times x^8 or x^16, by a polynomial of that degree.
-use Rattle.std.specs.Prelude.{ℕ, zero, suc, ◌+◌, ◌-◌, ◌*◌, ◌/◌, ◌%◌, ◌^◌, nat_lt, if◌then◌else◌, List, [], ◌∷◌, bit_xor}
+use Rattle.std.specs.Prelude.{ℕ, zero, suc, ◌-◌, ◌*◌, ◌%◌, ◌^◌, nat_lt, if◌then◌else◌, List, [], ◌∷◌, bit_xor}
 
 -- a remainder times x: its bits go up by one place, and if x^n comes out, the polynomial takes it away
 abbrev pub times_x : ℕ → ℕ → ℕ → ℕ

@@ -1,6 +1,6 @@
 -- A frame in bytes (RFC 9639, section 9): a header and its checksum, the channels up to a whole byte, and the checksum of
 -- all its bytes before.
-use Rattle.std.specs.Prelude.{◌≡◌, ◌⊎◌, ℕ, ◌+◌, ◌*◌, ◌/◌, ◌<◌, ◌==◌, nat_lt, if◌then◌else◌, List, ◌++◌, length, take, drop, get_or, ℤ, Result, Ok, Err}
+use Rattle.std.specs.Prelude.{◌≡◌, ◌⊎◌, ℕ, ◌+◌, ◌*◌, ◌/◌, ◌==◌, nat_lt, if◌then◌else◌, List, ◌++◌, length, take, drop, get_or, ℤ, Result, Ok, Err}
 use Rattle.bitstream_io.specs.Codec.{Prefix, Incomplete, Done}
 use Rattle.bitstream_io.specs.Callers.{bits, Decoder, EndOfInput, High, OutOfMemory}
 use Rattle.flac_codec.specs.Channels.{channels_decoder}

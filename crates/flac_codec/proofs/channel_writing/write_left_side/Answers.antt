@@ -1,6 +1,6 @@
-use Rattle.std.proofs.Common.{◌≡◌, ◌+◌, ◌∷◌, [], ap, arith, inr, length, refl, subst}
+use Rattle.std.proofs.Common.{◌≡◌, ◌∷◌, [], ap, arith, inr, length, refl, subst}
 use Rattle.bitstream_io.specs.Callers.{OutOfMemory}
-use Rattle.flac_codec.specs.Channels.{joined, less, more, pair_decoder}
+use Rattle.flac_codec.specs.Channels.{joined, less, pair_decoder}
 use Rattle.flac_codec.specs.Written.{WritesPart}
 use Rattle.flac_codec.specs.declared.header.Channels.TheVariants.{LeftSide}
 use Rattle.flac_codec.proofs.StereoLemmas.{combined-length, right-back, sides-fit}

@@ -1,4 +1,4 @@
-use Rattle.std.proofs.Common.{◌≡◌, ◌∙◌, ◌+◌, ◌∷◌, [], ap, arith, inr, length, refl, subst, sym}
+use Rattle.std.proofs.Common.{◌≡◌, ◌∙◌, ◌∷◌, [], ap, inr, length, refl, sym}
 use Rattle.bitstream_io.specs.Callers.{OutOfMemory}
 use Rattle.flac_codec.specs.Channels.{less, more, pair_decoder}
 use Rattle.flac_codec.specs.declared.header.Channels.TheVariants.{MidSide}

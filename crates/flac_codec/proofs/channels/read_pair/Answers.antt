@@ -1,7 +1,6 @@
-use Rattle.std.proofs.Common.{refl}
 use Rattle.std.specs.Prelude.{map}
 use Rattle.bitstream_io.proofs.CallerLemmas.{part_go, part_stop}
-use Rattle.flac_codec.specs.Channels.{joined, first_width, second_width}
+use Rattle.flac_codec.specs.Channels.{joined, first_width}
 use Rattle.flac_codec.proofs.ChannelLemmas.{subframe-on_failed}
 use Rattle.flac_codec.proofs.ResultLemmas.{fine_after_part, fine_still_part, seen_is, stored}
 use Rattle.flac_codec.proofs.channels.read_pair.Goals as goal

@@ -1,5 +1,5 @@
 use Rattle.std.proofs.Common.{arith}
-use Rattle.std.specs.Prelude.{◌<◌, ◌-◌}
+use Rattle.std.specs.Prelude.{◌-◌}
 use Rattle.bitstream_io.proofs.WriteParts.{all_none}
 use Rattle.bitstream_io.proofs.WriteSteps.{next_call, next_write, stop_call, stop_write}
 use Rattle.flac_codec.proofs.CodedLemmas.{rest_writes-more, six_bits}

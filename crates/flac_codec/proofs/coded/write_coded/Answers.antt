@@ -1,7 +1,6 @@
-use Rattle.std.proofs.Common.{◌≤◌, arith}
 use Rattle.std.proofs.lemmas.Bool.{le-ltb, lt-ltb}
 use Rattle.bitstream_io.proofs.WriteSteps.{next_call, next_write, stop_call, stop_write}
-use Rattle.flac_codec.proofs.CodedLemmas.{bytes_needed-range, number_below}
+use Rattle.flac_codec.proofs.CodedLemmas.{number_below}
 use Rattle.flac_codec.proofs.coded.write_coded.Goals as goal
 
 pub returns-in_err-write_unary : goal.returns-in_err-write_unary

@@ -1,4 +1,4 @@
-use Rattle.std.proofs.Common.{arith, inl, inr, refl}
+use Rattle.std.proofs.Common.{inl, inr, refl}
 use Rattle.flac_codec.proofs.heading.block_size_code.Goals as goal
 
 pub returns-then-code-size : goal.returns-then-code-size

@@ -1,4 +1,4 @@
-use Rattle.std.proofs.Common.{◌≡◌, ◌<◌, ◌%◌, arith, inl, inr, refl}
+use Rattle.std.proofs.Common.{arith, inl, inr, refl}
 use Rattle.flac_codec.proofs.heading.sample_rate_code.Goals as goal
 
 pub returns-then-code-rate : goal.returns-then-code-rate
