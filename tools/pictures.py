@@ -205,7 +205,6 @@ HOLDS = {
     "packet_headers": "a printed program, over a printed format",
     "test_streams": "streams of the tests",
     "bitstream_bench": "tests",
-    "test_formats": "tests with formats in use",
     "bitstream_vectors": "test vectors",
     "bits_c": "bits for C, read and written",
     "ccsds_c": "a printed format for C, Rust and Python",

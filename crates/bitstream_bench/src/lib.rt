@@ -1,5 +1,5 @@
-//! The tests of the library's crates, with the examples of the doc comments, of its callers, and of
-//! `bitfields_core`. With them come a user's own prefix code, readers and a writer that keep the
+//! All tests: of the library's crates, with the examples of the doc comments, of its callers, and
+//! of `bitfields_core`. With them come a user's own prefix code, readers and a writer that keep the
 //! traits' own bodies, and functions over bytes in memory whose contracts fix all their results.
 //! The crate has nothing else, so that nothing is proved twice.
 #![tactic(auto)]
@@ -20,6 +20,8 @@ mod errors;
 mod examples;
 #[cfg(test)]
 mod faults;
+#[cfg(test)]
+mod flac_example;
 #[cfg(test)]
 mod inherited;
 #[cfg(test)]

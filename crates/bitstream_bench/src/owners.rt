@@ -8,6 +8,7 @@ use bitstream_callers::parameter_set::{OperatingPoint, ParameterSet};
 use bitstream_callers::picture::{Picture, PictureSize};
 use bitstream_callers::rtp_header::{RtpError, RtpHeader};
 use bitstream_callers::vorbis_comment::{CommentError, Text, VorbisComment};
+use bitstream_formats::stream_info::StreamInfo;
 use bitstream_io::{
     BE, BitRead, BitReadExt, BitReader, BitWriteExt, BitWriter, ByteRead, ByteReadExt, ByteReader,
     Error, ToBitStream,
@@ -48,7 +49,7 @@ fn is_of_the_file(answer: Result<VorbisComment, CommentError>) -> bool {
 fn goes_to_the_comment<R: BitRead>(reader: &mut R) -> bool {
     reader.skip(32).is_ok()
         & reader.parse::<BlockHeader>().is_ok()
-        & reader.skip(272).is_ok()
+        & reader.parse::<StreamInfo>().is_ok()
         & reader.parse::<BlockHeader>().is_ok()
 }
 

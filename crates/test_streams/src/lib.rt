@@ -1,8 +1,7 @@
 //! Streams for tests: one with short reads and writes, one that refuses, one that counts and one
-//! that never ends; memory that refuses; and assertions as functions.
+//! that never ends; and memory that refuses.
 #![tactic(auto)]
 
-pub mod asserts;
 mod count;
 mod endless;
 mod memory;

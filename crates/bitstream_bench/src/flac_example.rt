@@ -1,5 +1,6 @@
 //! The Rust crate's own example that reads the metadata of a FLAC file, but for the allocator, which is the
 //! context of the comment.
+use crate::asserts::{gives, holds, same};
 use bitstream_callers::block_header::BlockHeader;
 use bitstream_callers::flac_comment::VorbisComment;
 use bitstream_callers::vorbis_comment::CommentError;
@@ -7,7 +8,6 @@ use bitstream_formats::stream_info::StreamInfo;
 use bitstream_io::{BE, BitRead, BitReadExt, BitReader, Error};
 use std::alloc::Global;
 use std::num::NonZero;
-use test_streams::asserts::{gives, holds, same};
 
 /// The bytes of the example's file.
 const FLAC: &[u8] =
