@@ -12,7 +12,7 @@ pub struct SequenceSet {
     pub separate_planes: bool,
     /// The bits of the number of a frame, `frame_num`: 4 to 16.
     pub frame_bits: u32,
-    /// How the order of pictures is coded.
+    /// The coding of the order of pictures.
     pub order: PictureOrder,
     /// True if no picture is a field, `frame_mbs_only_flag`.
     pub frames_only: bool,
@@ -25,7 +25,7 @@ impl SequenceSet {
     }
 }
 
-/// How the order of pictures is coded in slices, `pic_order_cnt_type`.
+/// The coding of the order of pictures in slices, `pic_order_cnt_type`.
 #[derive(Clone, Copy, Debug, PartialEq, Eq)]
 pub enum PictureOrder {
     /// By its low bits, of this number: 4 to 16.
@@ -52,7 +52,7 @@ pub struct PictureSet {
     pub last_references: [u32; 2],
     /// True if slices that one list predicts have weights, `weighted_pred_flag`.
     pub weighted_one: bool,
-    /// How slices that both lists predict are weighted, `weighted_bipred_idc`: they have weights if it is 1.
+    /// The weighting of slices that both lists predict, `weighted_bipred_idc`: they have weights if it is 1.
     pub weighted_both: u32,
     /// True if slices have elements on the deblocking filter.
     pub deblocking: bool,

@@ -6,7 +6,7 @@ use std::alloc::{AllocError, Global};
 /// The bytes of a section up to its length, with it.
 const HEAD: usize = 3;
 
-/// How a packet follows the one before it of the same PID.
+/// The relation of a packet to the one before it of the same PID.
 #[derive(Clone, Copy, Debug, PartialEq, Eq)]
 pub(super) enum Follows {
     /// It is the next one, or the first one.
