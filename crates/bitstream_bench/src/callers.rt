@@ -16,12 +16,12 @@ use bitstream_callers::samples::parse_samples;
 use bitstream_callers::sensor::state_code;
 use bitstream_callers::tcp_options::{TcpOptions, parse_options};
 use bitstream_callers::telemetry::heartbeat;
-use bitstream_formats::stream_info::StreamInfo;
 use bitstream_io::{
     BE, BitRead, BitReadExt, BitReader, BitWrite, BitWriteExt, BitWriter, BitsWritten, ByteRead,
     ByteReadExt, ByteReader, ByteWrite, ByteWriteExt, ByteWriter, Error, LE, Slice, SliceMut,
     ToBitStream, ToBitStreamWith, ToByteStream, ToByteStreamUsing, ToByteStreamWith,
 };
+use flac_codec::stream_info::StreamInfo;
 use std::alloc::Global;
 use std::io::ErrorKind;
 use std::process::Abort;

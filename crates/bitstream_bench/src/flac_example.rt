@@ -4,8 +4,8 @@ use crate::asserts::{gives, holds, same};
 use bitstream_callers::block_header::BlockHeader;
 use bitstream_callers::flac_comment::VorbisComment;
 use bitstream_callers::vorbis_comment::CommentError;
-use bitstream_formats::stream_info::StreamInfo;
 use bitstream_io::{BE, BitRead, BitReadExt, BitReader, Error};
+use flac_codec::stream_info::StreamInfo;
 use std::alloc::Global;
 use std::num::NonZero;
 

@@ -8,11 +8,11 @@ use bitstream_callers::parameter_set::{OperatingPoint, ParameterSet};
 use bitstream_callers::picture::{Picture, PictureSize};
 use bitstream_callers::rtp_header::{RtpError, RtpHeader};
 use bitstream_callers::vorbis_comment::{CommentError, Text, VorbisComment};
-use bitstream_formats::stream_info::StreamInfo;
 use bitstream_io::{
     BE, BitRead, BitReadExt, BitReader, BitWriteExt, BitWriter, ByteRead, ByteReadExt, ByteReader,
     Error, ToBitStream,
 };
+use flac_codec::stream_info::StreamInfo;
 use std::alloc::Global;
 
 /// A file that `flac` 1.4.2 wrote with `-T TITLE=Prélude -T 'ARTIST=J. S. Bach' -T DATE=1717`, up to its frame.

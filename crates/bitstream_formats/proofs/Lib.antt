@@ -1,8 +1,6 @@
 mod AdtsHeaderRows
 mod Rows
-mod StreamInfoRows
 pub mod AdtsHeaderLemmas
-pub mod StreamInfoLemmas
 pub mod CodedLemmas
 pub mod EmulationLemmas
 pub mod Leb128Lemmas

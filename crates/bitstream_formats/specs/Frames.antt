@@ -4,7 +4,7 @@ use Rattle.std.specs.Int.NonZero.{non_zero_u8_get}
 use Rattle.bitstream_formats.specs.declared.flac.frame.Frame.{Frame}
 use Rattle.bitstream_formats.specs.declared.flac.header.Channels.{Channels}
 use Rattle.bitstream_formats.specs.declared.flac.header.Channels.TheVariants.{Independent, LeftSide, SideRight, MidSide}
-use Rattle.bitstream_formats.specs.declared.stream_info.StreamInfo.{StreamInfo}
+use Rattle.flac_codec.specs.declared.stream_info.StreamInfo.{StreamInfo}
 
 -- the number of channels of a frame
 abbrev pub channel_count : Channels → ℕ

@@ -1,6 +1,5 @@
 pub mod AdtsFrame
 pub mod AdtsHeader
-pub mod StreamInfo
 pub mod Coded
 pub mod Emulation
 pub mod Frames

@@ -18,7 +18,6 @@
 //! - [`h265`]: H.265: the units of a byte stream, and its parameter sets
 //! - [`nal`]: NAL units and bytes against emulation, for H.264 and H.265
 //! - [`ogg`]: Ogg: pages and packets, and the first byte of a packet of Opus
-//! - [`stream_info`]: the properties of all frames of a FLAC file, printed by `./format`
 //! - [`ts`]: MPEG transport streams: packets, the tables of programs, and the headers of PES packets
 #![tactic(auto)]
 
@@ -34,5 +33,4 @@ pub mod h264;
 pub mod h265;
 pub mod nal;
 pub mod ogg;
-pub mod stream_info;
 pub mod ts;

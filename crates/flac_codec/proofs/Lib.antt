@@ -2,6 +2,7 @@ mod ChecksumRows
 mod FrameRows
 mod HeaderRows
 mod Rows
+mod StreamInfoRows
 pub mod ChannelLemmas
 pub mod ChecksumLemmas
 pub mod CodedLemmas
@@ -12,5 +13,6 @@ pub mod PredictLemmas
 pub mod ResultLemmas
 pub mod RiceLemmas
 pub mod StereoLemmas
+pub mod StreamInfoLemmas
 pub mod SubframeLemmas
 pub mod WrittenLemmas

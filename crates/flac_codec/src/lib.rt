@@ -23,6 +23,7 @@ mod predict;
 mod reading;
 mod residual;
 mod rice;
+pub mod stream_info;
 mod writing;
 
 pub use channels::read_channels;

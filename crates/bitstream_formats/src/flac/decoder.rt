@@ -9,8 +9,8 @@ use super::frame::{Frame, read_frame};
 use super::metadata::Blocks;
 use super::sum::SampleSum;
 use crate::at::At;
-use crate::stream_info::StreamInfo;
 use bitstream_io::{BE, SliceReader};
+use flac_codec::stream_info::StreamInfo;
 use std::alloc::Global;
 use std::marker::Model;
 
@@ -31,7 +31,7 @@ pub struct Decoder<'a> {
 
 // Contracts see a decoder as the STREAMINFO of its file.
 impl<'a> Model for Decoder<'a> {
-    ghost use Rattle.bitstream_formats.specs.declared.stream_info.StreamInfo.{StreamInfo};
+    ghost use Rattle.flac_codec.specs.declared.stream_info.StreamInfo.{StreamInfo};
 
     ghost Value = { StreamInfo };
 

@@ -8,8 +8,8 @@ use super::error::FlacError;
 use super::header::{FrameHeader, read_header};
 use super::predict::join_stereo;
 use super::subframe::read_subframe;
-use crate::stream_info::StreamInfo;
 use bitstream_io::{BE, BitRead, BitReadExt, Bits, SliceReader};
+use flac_codec::stream_info::StreamInfo;
 use std::alloc::{AllocError, Global};
 
 /// A frame that was decoded.

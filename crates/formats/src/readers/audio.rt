@@ -4,7 +4,7 @@ use crate::unit::{Fault, ReadUnits, Step, Unit};
 use anyhow::Error;
 use bitstream_formats::adts;
 use bitstream_formats::flac::{Block, Blocks, Channels, Decoder, Frame};
-use bitstream_formats::stream_info::StreamInfo;
+use flac_codec::stream_info::StreamInfo;
 use std::alloc::{AllocError, Global};
 use std::io::Write;
 

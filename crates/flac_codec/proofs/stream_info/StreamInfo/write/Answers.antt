@@ -1,7 +1,7 @@
 -- Made by `./format` from formats/stream_info.fields: edit that file and make this one anew.
 use Rattle.bitstream_io.proofs.WriteParts.{all_none}
 use Rattle.bitstream_io.proofs.WriteSteps.{next_call, next_write, stop_call, stop_write}
-use Rattle.bitstream_formats.proofs.stream_info.StreamInfo.write.Goals as goal
+use Rattle.flac_codec.proofs.stream_info.StreamInfo.write.Goals as goal
 
 pub returns-in_err-write : goal.returns-in_err-write
 returns-in_err-write g c = stop_write _ _ _ _ _ _ _ c.from_residual.ensures.1 c.in_err-write.ensures.writes

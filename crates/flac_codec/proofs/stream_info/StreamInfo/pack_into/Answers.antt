@@ -1,9 +1,9 @@
 -- Made by `./format` from formats/stream_info.fields: edit that file and make this one anew.
-use Rattle.bitstream_formats.proofs.StreamInfoLemmas.{stream_info_packs, told}
+use Rattle.flac_codec.proofs.StreamInfoLemmas.{stream_info_packs, told}
 use Rattle.std.proofs.Common.{arith}
 use Rattle.bitstream_io.proofs.CallerLemmas.{packed-bits, packed-accepted, packed-room, packed-short}
 use Rattle.bitstream_io.specs.Callers.{High}
-use Rattle.bitstream_formats.proofs.stream_info.StreamInfo.pack_into.Goals as goal
+use Rattle.flac_codec.proofs.stream_info.StreamInfo.pack_into.Goals as goal
 
 pub returns-clause-packed : goal.returns-clause-packed
 returns-clause-packed c = packed-bits c.pack_into.ensures (told c.args.self.now)

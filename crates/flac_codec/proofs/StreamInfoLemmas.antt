@@ -1,7 +1,7 @@
 -- Made by `./format` from formats/stream_info.fields: edit that file and make this one anew.
 -- A written `StreamInfo` is read back, and its number of bits.
-use Rattle.bitstream_formats.specs.StreamInfo.{stream_info_decoder, stream_info_writes, stream_info_size, stream_info_bits, Fits}
-use Rattle.bitstream_formats.specs.declared.stream_info.StreamInfo.{StreamInfo}
+use Rattle.flac_codec.specs.StreamInfo.{stream_info_decoder, stream_info_writes, stream_info_size, stream_info_bits, Fits}
+use Rattle.flac_codec.specs.declared.stream_info.StreamInfo.{StreamInfo}
 use Rattle.std.proofs.Common.{◌≡◌, ◌++◌, ◌∷◌, [], refl}
 use Rattle.bitstream_io.proofs.CallerLemmas.{RoundTrip, Packs, unsigned-back, bytes-back, non_zero-back, pure-back, unsigned-written, bytes-written, non_zero-written, packs-none, packs-more, non_zero_u8-again}
 use Rattle.std.specs.Int.NonZero.{non_zero_u8_get}

@@ -1,6 +1,6 @@
 -- Made by `./format` from formats/stream_info.fields: edit that file and make this one anew.
 use Rattle.bitstream_io.proofs.ReadsLemmas.{Reads-and_then-ok as next, Reads-pure, exit}
-use Rattle.bitstream_formats.proofs.stream_info.StreamInfo.read.Goals as goal
+use Rattle.flac_codec.proofs.stream_info.StreamInfo.read.Goals as goal
 
 pub returns-in_err-minimum_block_size : goal.returns-in_err-minimum_block_size
 returns-in_err-minimum_block_size g c = exit _ _ c.from_residual.ensures.1 c.in_err-minimum_block_size.ensures.reads

@@ -1,5 +1,5 @@
 -- The properties of all frames of a FLAC file (RFC 9639, section 8.2).
-use Rattle.bitstream_formats.specs.declared.stream_info.StreamInfo.{StreamInfo}
+use Rattle.flac_codec.specs.declared.stream_info.StreamInfo.{StreamInfo}
 use Rattle.std.specs.Prelude.{◌≡◌, ◌^◌, ◌<◌, ◌-◌, ◌++◌, ◌∷◌, [], ℕ, Bool, List, length, take, drop}
 use Rattle.std.specs.List.{All}
 use Rattle.std.specs.Int.NonZero.{non_zero_u8_get}

@@ -1,12 +1,12 @@
 -- Made by `./format` from formats/stream_info.fields: edit that file and make this one anew.
 -- Worked rows of a `StreamInfo`.
-use Rattle.bitstream_formats.specs.StreamInfo.{stream_info_decoder, stream_info_writes}
+use Rattle.flac_codec.specs.StreamInfo.{stream_info_decoder, stream_info_writes}
 use Rattle.bitstream_io.specs.Codec.{and_then}
 use Rattle.bitstream_io.specs.Word.{digits, digits_number, bytes_of}
 use Rattle.bitstream_io.specs.WriteTable.{unsigned}
 use Rattle.bitstream_io.specs.ReadTable.{unsigned_decoder, bytes_decoder}
 use Rattle.bitstream_io.specs.NonZero.{non_zero, non_zero_decoder}
-use Rattle.bitstream_formats.specs.declared.stream_info.StreamInfo.{StreamInfo}
+use Rattle.flac_codec.specs.declared.stream_info.StreamInfo.{StreamInfo}
 use Rattle.std.proofs.Common.{◌≡◌, ◌++◌, ◌∷◌, [], ℕ, List, Ok, length, refl}
 use Rattle.bitstream_io.specs.Callers.{Done, High, bits, align, write_sequence, non_zero_u8}
 

@@ -1,11 +1,11 @@
 -- Made by `./format` from formats/stream_info.fields: edit that file and make this one anew.
-use Rattle.bitstream_formats.specs.StreamInfo.{stream_info_decoder, stream_info_at}
-use Rattle.bitstream_formats.proofs.StreamInfoLemmas.{stream_info_packs, told}
+use Rattle.flac_codec.specs.StreamInfo.{stream_info_decoder, stream_info_at}
+use Rattle.flac_codec.proofs.StreamInfoLemmas.{stream_info_packs, told}
 use Rattle.std.proofs.Common.{◌++◌, ◌∙◌, ℕ, List, Ok, refl, ap, sym, arith}
 use Rattle.bitstream_io.proofs.CallerLemmas.{Finds, fields_there, fields_short, prefix_answered, slice_ends, unsigned-finds, bytes-finds, non_zero-finds, pure-finds, packs-whole}
 use Rattle.bitstream_io.proofs.SliceLemmas.{new_answer}
 use Rattle.bitstream_io.specs.Callers.{High, bits, non_zero_u8}
-use Rattle.bitstream_formats.proofs.stream_info.StreamInfo.parse.Goals as goal
+use Rattle.flac_codec.proofs.stream_info.StreamInfo.parse.Goals as goal
 
 found : (packet : List ℕ)
     → Finds (bits High packet) 0 (stream_info_decoder High) 272 (Ok (stream_info_at (bits High packet)))

@@ -1,8 +1,8 @@
 //! The properties of all frames of a FLAC file (RFC 9639, section 8.2).
 //!
 //! Made by `./format` from formats/stream_info.fields: edit that file and make this one anew.
-ghost use Rattle.bitstream_formats.specs.StreamInfo.{stream_info_decoder, stream_info_writes, stream_info_bits, stream_info_at, Fits};
-ghost use Rattle.bitstream_formats.specs.declared.stream_info.StreamInfo.{StreamInfo};
+ghost use Rattle.flac_codec.specs.StreamInfo.{stream_info_decoder, stream_info_writes, stream_info_bits, stream_info_at, Fits};
+ghost use Rattle.flac_codec.specs.declared.stream_info.StreamInfo.{StreamInfo};
 ghost use Rattle.std.specs.Prelude.{◌≡◌, ◌<◌, ◌≤◌, ◌++◌, ℕ, Bool, List, Ok, Err, length, IfOk, IsOk};
 ghost use Rattle.std.specs.declared.io.ErrorKind.TheVariants.{WriteZero};
 ghost use Rattle.bitstream_io.specs.Callers.{Done, Error, EndOfInput, Order, High, bits, write_sequence, Reads, WritesAll, AllAccepted, sequence_length, sure_answer, Stream, same_error, plain_reads};
