@@ -560,7 +560,14 @@ fn example_of_bit_write_ext(rt: HostRuntime) {
 
 #[test]
 fn example_of_readme(rt: HostRuntime) {
-    use bitstream_io::{BE, BitWrite, BitWriter};
+    use bitstream_io::{BE, BitReadExt, BitReader, BitWrite, BitWriter, Bits};
+
+    let bytes = [0xbe, 0xff, 0xff, 0x80];
+    let mut reader = BitReader::<_, BE>::over(&bytes);
+    let kind = reader.read::<Bits<3>, u8>().expect(&rt, "no error");
+    let level = reader.read::<Bits<5>, i8>().expect(&rt, "no error");
+    let size: u32 = reader.read_var(17).expect(&rt, "no error");
+    same(&rt, (kind, level, size), (5, -2, 131071));
 
     let mut buffer = [0u8; 4];
     let mut writer = BitWriter::<_, BE>::over(&mut buffer);
