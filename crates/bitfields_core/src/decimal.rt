@@ -10,7 +10,7 @@ use crate::lines::parts;
 use bitstream_io::script::ByteList;
 use std::alloc::{AllocError, Global};
 
-/// Returns whether a text is `0`, or a digit 1 to 9 followed by digits.
+/// Returns true if a text is `0`, or a digit 1 to 9 followed by digits.
 fn is_decimal(text: &[u8]) -> bool
     ensures { result ≡ spells_decimal text.now }
 {
@@ -27,7 +27,7 @@ fn all_digits(text: &[u8]) -> bool
 ///
 /// # Errors
 ///
-/// `ValueMisspelt` if it is no decimal, else `ValueDoesNotFit` if the number is 2^128 or more.
+/// `ValueMisspelt` if the text is no decimal. `ValueDoesNotFit` if the number is 2^128 or more.
 pub fn decimal(text: &[u8]) -> Result<u128, Reason>
     ensures { result ≡ decimal_below (2 ^ 128) text.now }
 {
@@ -45,7 +45,7 @@ pub fn decimal(text: &[u8]) -> Result<u128, Reason>
     Ok(value)
 }
 
-/// Returns the number from low to high that a text spells, if it spells one.
+/// Returns the number from `low` to `high` that a text spells, if it spells one.
 pub fn decimal_between(low: u32, high: u32, text: &[u8]) -> Option<u32>
     ensures { result ≡ decimal_within low high text.now }
 {
@@ -59,7 +59,8 @@ pub fn decimal_between(low: u32, high: u32, text: &[u8]) -> Option<u32>
 ///
 /// # Errors
 ///
-/// `ValueMisspelt` if the text is no decimal, else `ValueDoesNotFit` if the number needs more bits.
+/// `ValueMisspelt` if the text is no decimal. `ValueDoesNotFit` if the number needs more than
+/// `width` bits.
 #[tactic(auto, using(crate::proofs::DecimalLemmas::wider))]
 pub fn decimal_of_width(width: u32, text: &[u8]) -> Result<u128, Reason>
     requires { width ≤ 128 }
@@ -72,7 +73,7 @@ pub fn decimal_of_width(width: u32, text: &[u8]) -> Result<u128, Reason>
     }
 }
 
-/// Returns the number up to a greatest one that a text spells.
+/// Returns the number that a text spells, if it is at most `greatest`.
 fn decimal_up_to(greatest: u128, text: &[u8]) -> Result<u128, Reason>
     ensures { result ≡ decimal_below (greatest + 1) text.now }
 {
@@ -88,7 +89,8 @@ fn decimal_up_to(greatest: u128, text: &[u8]) -> Result<u128, Reason>
 ///
 /// # Errors
 ///
-/// `ValueMisspelt` if the text is neither, else `ValueDoesNotFit` if the number needs more bits.
+/// `ValueMisspelt` if the text is neither. `ValueDoesNotFit` if the number needs more than `width`
+/// bits.
 pub fn signed_of_width(width: u32, text: &[u8]) -> Result<i128, Reason>
     requires some { 1 ≤ width }
     requires most { width ≤ 128 }
@@ -114,7 +116,7 @@ fn positive(width: u32, text: &[u8]) -> Result<i128, Reason>
     }
 }
 
-/// Returns a number as a signed one.
+/// Returns a number as a signed number.
 fn non_negative(value: u128) -> i128
     requires { value < 2 ^ 127 }
     ensures { result ≡ pos value }
@@ -154,13 +156,13 @@ fn negated(value: u128) -> Result<i128, Reason>
     }
 }
 
-/// Returns the bytes that a text spells: `count` decimals up to 255, with single spaces between. If
-/// it spells none, the reason is `ValueMisspelt` if it is no such list of decimals, else
+/// Returns the bytes that a text spells: `count` decimals up to 255, with single spaces between
+/// them. Otherwise, the reason is `ValueMisspelt` if the text is no list of `count` decimals, and
 /// `ValueDoesNotFit` if one of them is above 255.
 ///
 /// # Errors
 ///
-/// If memory is refused.
+/// `AllocError` if an allocation fails.
 pub fn spaced_bytes(
     alloc: Global,
     count: u32,
@@ -182,7 +184,7 @@ pub fn spaced_bytes(
     Ok(Ok(ByteList::new(bytes)))
 }
 
-/// Returns whether each text is a decimal.
+/// Returns true if each text is a decimal.
 fn are_decimals(texts: &[&[u8]]) -> bool
     ensures { result ≡ list_all spells_decimal (map (λ x. x.now) texts.now) }
 {

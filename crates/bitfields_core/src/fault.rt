@@ -27,22 +27,22 @@ pub enum Reason {
     ValueLeftOver,
     /// The bits end within a field.
     BitsEnded,
-    /// A constant's bits have another value.
+    /// A constant's bits hold another number.
     ConstantDiffers,
     /// A variable-width word or a unary run passes its limit.
     LimitPassed,
     /// Bits of a padding or an alignment are not all 0. Only repacking checks that.
     PaddingNotZero,
-    /// A byte follows the last field. Only packed bytes that are repacked may not have one.
+    /// A byte follows the last field. Only repacking checks that.
     BytesLeftOver,
-    /// A stream refused a request.
+    /// A request to a stream failed.
     StreamFault,
-    /// Memory was refused.
+    /// An allocation failed.
     OutOfMemory,
 }
 
-/// The failure of a call: the program's status, the field (counted from 1, or 0 if none is named),
-/// and the reason.
+/// The failure of a call: the program's exit status, the field (counted from 1, or 0 if none is
+/// named), and the reason.
 #[derive(Clone, Copy, Debug, PartialEq, Eq, Drop)]
 pub struct Fault {
     pub status: u8,
@@ -51,7 +51,7 @@ pub struct Fault {
 }
 
 impl Fault {
-    /// Returns the fault of a field (0 if none is named), with the status of its reason.
+    /// Returns the fault of a field (0 if none is named), with the exit status of its reason.
     pub fn new(field: usize, reason: Reason) -> Fault
         ensures { result ≡ fault field reason }
     {
@@ -63,7 +63,8 @@ impl Fault {
     }
 }
 
-/// A stream's refusal, which names no field: `OutOfMemory` if that is its kind, else `StreamFault`.
+/// Converts a stream's error to a fault that names no field: `OutOfMemory` if that is the error's
+/// kind, and otherwise `StreamFault`.
 impl From<io::Error> for Fault {
     ghost use Rattle.std.specs.IoError.{error_kind};
     ghost use Rattle.bitfields_core.specs.Fault.{refusal_reason};
@@ -78,7 +79,7 @@ impl From<io::Error> for Fault {
     }
 }
 
-/// Refused memory, which names no field: `OutOfMemory`.
+/// Converts a failed allocation to a fault that names no field: `OutOfMemory`.
 impl From<AllocError> for Fault {
     ghost from_gives = { λ _ f. f ≡ fault 0 OutOfMemory };
 
@@ -87,7 +88,7 @@ impl From<AllocError> for Fault {
     }
 }
 
-/// As for an [`AllocError`].
+/// Converts a failed allocation, as for an [`AllocError`].
 impl<T: Drop> From<AllocFailed<T>> for Fault {
     ghost from_gives = { λ _ f. f ≡ fault 0 OutOfMemory };
 
@@ -97,7 +98,7 @@ impl<T: Drop> From<AllocFailed<T>> for Fault {
 }
 
 impl Reason {
-    /// Returns the status that a program ends with for this reason.
+    /// Returns the exit status for this reason.
     pub fn status(self) -> u8
         ensures { result ≡ reason_status self }
     {

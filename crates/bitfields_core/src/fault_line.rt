@@ -6,8 +6,8 @@ ghost use Rattle.bitfields_core.specs.Fault.{fault_line};
 use crate::fault::Fault;
 use std::marker::Model;
 
-/// The line of a fault: `bitfields: field K: REASON`, and LF. It has a buffer of its own. So making
-/// it does not allocate: the fault may be that memory was refused.
+/// The line of a fault: `bitfields: field K: REASON`, and LF. It has its own buffer and does not
+/// allocate, since the fault may be a failed allocation.
 #[derive(Drop)]
 pub struct FaultLine {
     buffer: [u8; 64],

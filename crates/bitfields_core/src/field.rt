@@ -10,20 +10,20 @@ use crate::decimal::decimal_between;
 pub enum Field {
     /// `uN`: an unsigned number of N bits.
     Unsigned(u32),
-    /// `iN`: a signed number of N bits, as a two's complement.
+    /// `iN`: a signed number of N bits, in two's complement.
     Signed(u32),
     /// `n0` and `n1`: a unary number, with this stop bit.
     Unary(bool),
     /// `v4` and `v8`: a number of variable width.
     Variable(GroupSize),
-    /// `l4` and `l8`: the same, but the groups that are read may end in groups of 0.
+    /// `l4` and `l8`: a number of variable width. The groups that are read may end in groups of 0.
     Lenient(GroupSize),
     /// `s4` and `s8`: a signed number of variable width.
     SignedVariable(GroupSize),
     /// `bN`: N bytes.
     Bytes(u32),
-    /// `cN=V`: the unsigned number V in N bits. It has no value. Bits that hold another number are
-    /// an error.
+    /// `cN=V`: the unsigned number V in N bits. It has no value. It is an error if the bits hold
+    /// another number.
     Constant { bits: u32, value: u32 },
     /// `pN`: N zeros. Any N bits are read for it.
     Padding(u32),
@@ -89,7 +89,7 @@ fn sign_at(text: &[u8]) -> Option<usize>
     text.iter().position(|byte| *byte == b'=')
 }
 
-/// Returns the greatest number of this many bits.
+/// Returns the greatest number of `bits` bits.
 fn greatest(bits: u32) -> u32
     requires some { 1 ≤ bits }
     requires most { bits ≤ 32 }

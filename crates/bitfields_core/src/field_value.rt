@@ -46,7 +46,7 @@ impl fmt::Display for FieldValue {
     }
 }
 
-/// Bytes as decimals, with single spaces between.
+/// Bytes, printed as decimals with single spaces between them.
 #[derive(Drop)]
 struct Spaced<'a> {
     bytes: &'a [u8],
@@ -99,13 +99,13 @@ pub fn value_kind(field: Field) -> ValueKind
     }
 }
 
-/// Returns the value of a field, which the first of the lines spells, or `None` if the field has no
-/// value. If there is no value, the reason is `ValueMissing` if there is no line, `ValueMisspelt` if
-/// the line spells no value of this kind, `ValueDoesNotFit` if a number needs more bits.
+/// Returns the value of a field, which the first line spells, or `None` if the field has no value. Otherwise, the
+/// reason is `ValueMissing` if there is no line, `ValueMisspelt` if the line spells no value of this kind, and
+/// `ValueDoesNotFit` if a number needs more bits.
 ///
 /// # Errors
 ///
-/// If memory is refused. Only bytes allocate.
+/// `AllocError` if an allocation fails. Only the bytes of a `bN` allocate.
 pub fn value_in(
     alloc: Global,
     field: Field,
@@ -124,7 +124,7 @@ pub fn value_in(
     }
 }
 
-/// Returns the unsigned number of `width` bits that the first of the lines spells.
+/// Returns the unsigned number of `width` bits that the first line spells.
 fn unsigned_in(width: u32, lines: &[&[u8]]) -> Result<Option<FieldValue>, Reason>
     requires { width ≤ 128 }
     ensures value { result ≡ value_of (ValueKind.Unsigned width) (map (λ x. x.now) lines.now) }
@@ -135,7 +135,7 @@ fn unsigned_in(width: u32, lines: &[&[u8]]) -> Result<Option<FieldValue>, Reason
     Ok(Some(FieldValue::Unsigned(value)))
 }
 
-/// Returns the signed number of `width` bits that the first of the lines spells.
+/// Returns the signed number of `width` bits that the first line spells.
 fn signed_in(width: u32, lines: &[&[u8]]) -> Result<Option<FieldValue>, Reason>
     requires some { 1 ≤ width }
     requires most { width ≤ 128 }
@@ -147,7 +147,7 @@ fn signed_in(width: u32, lines: &[&[u8]]) -> Result<Option<FieldValue>, Reason>
     Ok(Some(FieldValue::Signed(value)))
 }
 
-/// Returns the bytes, `count` of them, that the first of the lines spells.
+/// Returns the `count` bytes that the first line spells.
 fn bytes_in(
     alloc: Global,
     count: u32,
@@ -166,7 +166,7 @@ fn bytes_in(
     }
 }
 
-/// Returns the unsigned number of `width` bits that comes first.
+/// Returns the first value, which is an unsigned number of `width` bits.
 pub fn first_unsigned(width: u32, values: &[FieldValue]) -> u128
     requires { FitsKind (ValueKind.Unsigned width) values.now }
     ensures first { result ≡ first_unsigned_of values.now }
@@ -178,7 +178,7 @@ pub fn first_unsigned(width: u32, values: &[FieldValue]) -> u128
     }
 }
 
-/// Returns the signed number of `width` bits that comes first.
+/// Returns the first value, which is a signed number of `width` bits.
 pub fn first_signed(width: u32, values: &[FieldValue]) -> i128
     requires { FitsKind (ValueKind.Signed width) values.now }
     ensures first { result ≡ first_signed_of values.now }
@@ -190,7 +190,7 @@ pub fn first_signed(width: u32, values: &[FieldValue]) -> i128
     }
 }
 
-/// Returns the bytes, `count` of them, that come first.
+/// Returns the first value, which is `count` bytes.
 pub fn first_bytes(count: u32, values: &[FieldValue]) -> &[u8]
     requires { FitsKind (ValueKind.Bytes count) values.now }
     ensures { result.now ≡ first_bytes_of values.now }
@@ -205,7 +205,7 @@ pub fn first_bytes(count: u32, values: &[FieldValue]) -> &[u8]
 ///
 /// # Errors
 ///
-/// If memory is refused. A part of the line may be written then.
+/// `AllocError` if an allocation fails. A part of the line may be written then.
 pub fn print_value(lines: &mut String, value: FieldValue) -> Result<(), AllocError>
     ensures { OnOk result (string_bytes lines.new ≡ string_bytes lines.old ++ printed_line value) }
 {

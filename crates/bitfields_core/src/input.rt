@@ -11,16 +11,16 @@ use std::io::Read;
 
 /// An input that can be read to its end: any `Read`.
 pub trait Input: Source {
-    // The ways in which it may refuse to be read to its end, and the kinds. std's contract does not
-    // state this for a `Read`.
+    // The ways in which reading the input to its end may fail, and the kinds of the errors. std's
+    // contract does not state this for a `Read`.
     ghost refuses_rest: { Self → ErrorKind → Self → Type 0 };
 
     /// Reads all bytes that are left.
     ///
     /// # Errors
     ///
-    /// The input's own, as [`Read::read_to_end`] has them: of kind `OutOfMemory` too if memory for
-    /// the bytes is refused. The bytes that came before are lost then.
+    /// The errors of [`Read::read_to_end`], also of kind `OutOfMemory` if an allocation for the
+    /// bytes fails. The bytes that were read before the error are lost then.
     fn read_rest(&mut self, alloc: Global) -> io::Result<Vec<u8>>
         ensures bytes { IfOk result (λ bytes. ReadToEnd (Self.stream.remaining self.old) bytes.items
             (Self.stream.remaining self.new)) }

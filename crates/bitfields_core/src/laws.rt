@@ -20,7 +20,7 @@ use crate::fault::Reason;
 use crate::field::Field;
 use crate::field_value::FieldValue;
 
-/// The texts of fields, joined by commas, spell these fields. No other text does.
+/// The texts of fields, joined by commas, spell these fields, and no other text spells them.
 pub fn layouts_are_spelt()
     ensures spelt { (fields : List Field) → IsLayout fields
         → layout_of (layout_text fields) ≡ Ok fields }
@@ -38,7 +38,7 @@ pub fn values_are_spelt()
         → values k fields (lines (printed_lines vs)) ≡ Ok vs }
 {}
 
-/// Values that fit are unpacked from their packed bits, whatever follows these.
+/// Values that fit are unpacked from their packed bits, whatever bits follow.
 pub fn packed_values_are_unpacked()
     ensures { (o : Order) (k : ℕ) (fields : List Field) (vs : List FieldValue) (at : ℕ) (rest : List Bool)
         → All IsField fields → Fit fields vs
@@ -64,8 +64,8 @@ pub fn packing_is_a_write_sequence()
         → All (λ r. r ≡ None) (write_refusals (field_writes o fields vs ++ align ∷ []) at) }
 {}
 
-/// The number of packed bits is the size, and then zeros follow up to a whole byte. Values that fit
-/// have one size in both orders of bits, and at most 2^40 bits.
+/// Packing writes as many bits as the size, and then zeros up to the next byte boundary. Values
+/// that fit have one size in both orders of bits, and at most 2^40 bits.
 pub fn packed_values_have_their_size()
     ensures bits { (o : Order) (fields : List Field) (vs : List FieldValue)
         → packed_bits o fields vs 0
@@ -79,7 +79,7 @@ pub fn packed_values_have_their_size()
         → IsLayout fields → Fit fields vs → size_of o fields vs ≤ 2 ^ 40 }
 {}
 
-/// Unpacking makes the fields' read calls, up to the first whose bits are too few.
+/// Unpacking makes the fields' read calls, up to the first call for which too few bits are left.
 pub fn unpacking_is_a_read_sequence()
     ensures { (o : Order) (k : ℕ) (fields : List Field) (at : ℕ) (bits : List Bool)
         → unpack_bits o k fields at bits
@@ -103,10 +103,11 @@ pub fn packing_goes_by_fields()
     ensures end { (o : Order) (at : ℕ) → packed_bits o [] [] at ≡ replicate (to_boundary at) false }
 {}
 
-/// The value of a field is the value of its word, which its read call finds. If the call finds no
-/// value, its error or its own reason is the fault, and if it has too few bits left, the bits
-/// ended. The number of a field is the number of its word. The bits of an alignment mean nothing.
-/// The bits of a constant must hold its number.
+/// The value of a field is the value of its word, which its read call returns. If the call returns
+/// an error, the fault has the reason for that error. If it returns a reason, the fault has that
+/// reason. If too few bits are left, the reason is `BitsEnded`. The number of a field is the number
+/// of its word. The bits of an alignment may have any value. The bits of a constant must hold its
+/// number.
 pub fn unpacking_goes_by_fields()
     ensures word { (o : Order) (k : ℕ) (f : Field) (fields : List Field) (vs : List FieldValue) (at : ℕ)
         (rest : List Bool) → IsField f → FitsField f vs → (let written = field_word o f vs at in

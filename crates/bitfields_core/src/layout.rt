@@ -8,7 +8,7 @@ use crate::field::{Field, parse_field};
 use std::alloc::{AllocError, Global};
 use std::marker::Model;
 
-/// A list of 1 to 256 fields, the numbers of each in their ranges.
+/// A list of 1 to 256 fields. The numbers of each field are in their ranges.
 #[derive(Drop)]
 pub struct Layout {
     fields: Vec<Field>,
@@ -34,7 +34,7 @@ const MOST_FIELDS: usize = 256;
 /// # Errors
 ///
 /// `TooManyFields` (field 0) if there are more than 256 segments between commas, `BadLayout` at the
-/// first segment that is no field, or `OutOfMemory` (field 0).
+/// first segment that spells no field, or `OutOfMemory` (field 0).
 pub fn parse_layout(alloc: Global, text: &str) -> Result<Layout, Fault>
     ensures { IsUnlessMemory (layout_of text.now) result }
 {

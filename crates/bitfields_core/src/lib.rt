@@ -1,9 +1,9 @@
 //! Layouts of bit fields, and their meaning: packs decimal values into bit fields, counts their
 //! bits, unpacks bit fields into decimal values, and repacks them.
 //!
-//! [`parse_layout`] returns the [`Layout`] that a text spells. [`pack`], [`unpack`], [`size`] and
-//! [`repack`] use a layout, in either order of bits. [`run`] is a whole run of the program, on its
-//! arguments and its streams, and [`report`] prints the reason of a failure, which is a [`Fault`].
+//! [`parse_layout`] parses a text as a [`Layout`]. [`pack`], [`unpack`], [`size`] and [`repack`]
+//! use a layout, in either order of bits. [`run`] runs the whole program on its arguments and
+//! streams. [`report`] prints a [`Fault`], which holds the reason for a failure.
 //!
 //! - [`laws`]: laws of layouts and values, whatever parses or packs them
 #![tactic(auto)]

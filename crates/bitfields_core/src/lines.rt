@@ -6,12 +6,12 @@ ghost use Rattle.bitfields_core.specs.Value.{lines as lines_of};
 
 use std::alloc::{AllocError, Global};
 
-/// Returns the lines of an input: each is ended by LF, which the last may lack. An input of no bytes
-/// has no lines.
+/// Returns the lines of an input. LF ends each line, but may be missing after the last one. An input of no bytes has
+/// no lines.
 ///
 /// # Errors
 ///
-/// If memory is refused.
+/// `AllocError` if an allocation fails.
 pub fn lines(alloc: Global, input: &[u8]) -> Result<Vec<&[u8]>, AllocError>
     ensures { IfOk result (λ v. map (λ x. x.now) v.items ≡ lines_of input.now) }
 {
@@ -28,7 +28,7 @@ pub fn lines(alloc: Global, input: &[u8]) -> Result<Vec<&[u8]>, AllocError>
 ///
 /// # Errors
 ///
-/// If memory is refused.
+/// `AllocError` if an allocation fails.
 pub fn parts(alloc: Global, separator: u8, text: &[u8]) -> Result<Vec<&[u8]>, AllocError>
     ensures { IfOk result (λ v. map (λ x. x.now) v.items
         ≡ slice_split (λ b. b == separator) text.now) }

@@ -1,4 +1,4 @@
-//! Packing: the words of an input's values, and a last alignment.
+//! Packing: writes the words of an input's values, and a last alignment.
 
 ghost use Rattle.std.specs.Prelude.{◌≡◌, false, None, [], ◌∷◌, ◌++◌};
 ghost use Rattle.bitstream_io.specs.Sink.{Writes, WritesAll};
@@ -15,16 +15,17 @@ use crate::values::{behind_value, values};
 use bitstream_io::{BitWrite, BitWriter, Bits, Endianness, Error, Lent, Target};
 use std::alloc::Global;
 
-/// Packs the values that an input spells for a layout: writes the bytes of the fields' words, the
-/// last of them filled with zeros.
+/// Packs the values that an input spells for a layout: writes the bytes of the fields' words, and
+/// fills the last byte with zeros.
 ///
 /// # Errors
 ///
 /// At the first value field with a fault: `ValueMissing` if its line is missing, `ValueMisspelt` if
 /// the line spells no value of the field's kind, `ValueDoesNotFit` if the number needs more bits.
-/// Else `ValueLeftOver` (field 0) if lines remain, or `OutOfMemory` (field 0). The stream is
-/// unchanged then, since all values are read before the first byte is written. Else `StreamFault`
-/// or `OutOfMemory` (field 0), as the stream refuses; the stream is as the refusal left it.
+/// Otherwise, `ValueLeftOver` (field 0) if lines remain, or `OutOfMemory` (field 0). After these
+/// errors the stream is unchanged, since all values are read before the first byte is written.
+/// Otherwise, `StreamFault` or `OutOfMemory` (field 0) if a request to the stream fails; the stream
+/// stays as the failed request left it.
 pub fn pack<E: Endianness, W: Target>(
     alloc: Global,
     layout: &Layout,
@@ -38,13 +39,13 @@ pub fn pack<E: Endianness, W: Target>(
     pack_values::<E, W>(layout, &values, output)
 }
 
-/// Packs values that fit a layout: writes the bytes of the fields' words, the last of them filled
+/// Packs values that fit a layout: writes the bytes of the fields' words, and fills the last byte
 /// with zeros.
 ///
 /// # Errors
 ///
-/// `StreamFault` or `OutOfMemory` (field 0), as the stream refuses; the stream is as the refusal left
-/// it.
+/// `StreamFault` or `OutOfMemory` (field 0) if a request to the stream fails; the stream stays as the failed request
+/// left it.
 pub fn pack_values<E: Endianness, W: Target>(
     layout: &Layout,
     values: &[FieldValue],
@@ -65,7 +66,7 @@ pub fn pack_values<E: Endianness, W: Target>(
 /// # Errors
 ///
 /// The error of the first call that returns one. No call is made after it. A sink without a limit
-/// returns none, unless its stream refuses or it has failed.
+/// returns an error only if a request to its stream fails or it has failed before.
 pub fn pack_to<W: BitWrite>(
     layout: &Layout,
     values: &[FieldValue],
@@ -82,7 +83,7 @@ pub fn pack_to<W: BitWrite>(
     writer.byte_align()
 }
 
-/// Makes the write calls of fields, whose values these are.
+/// Makes the write calls of `fields`, with their values.
 ///
 /// # Errors
 ///
@@ -104,7 +105,7 @@ pub fn append_fields<W: BitWrite>(
     Ok(())
 }
 
-/// Makes the write call of a field, whose value is the first of these.
+/// Makes the write call of a field, with the first of `values`.
 fn append_field<W: BitWrite>(
     field: Field,
     values: &[FieldValue],

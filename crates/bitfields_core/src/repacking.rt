@@ -1,4 +1,4 @@
-//! Repacking: packed bytes, read and packed again.
+//! Repacking: reads packed bytes and packs their values again.
 
 ghost use Rattle.std.specs.Prelude.{◌≡◌, ℕ, List, Some, IfOk};
 ghost use Rattle.bitstream_io.specs.Gather.{result_map};
@@ -17,16 +17,16 @@ use std::alloc::Global;
 use std::io::ErrorKind;
 
 /// Reads packed bytes to their end and packs their values again. If no field is `l4` or `l8`, the
-/// same bytes are written, and they are bytes that [`pack`](crate::pack) writes. Nothing is
-/// written before all checks have passed.
+/// written bytes are the bytes read, and [`pack`](crate::pack) writes the same bytes for some
+/// input. Nothing is written before all checks have passed.
 ///
 /// # Errors
 ///
 /// The errors of [`unpack`](crate::unpack), and `PaddingNotZero` at the first field `pN` or `a`
 /// whose bits are not all 0 (field 0 for the bits after the last field). Then `BytesLeftOver`
 /// (field 0) if there is a byte after the last field, or `StreamFault` or `OutOfMemory` (field 0)
-/// as the input refuses the request for that byte. The output is unchanged then. Else `StreamFault`
-/// or `OutOfMemory` (field 0), as the output refuses.
+/// if the request for that byte fails. After these errors the output is unchanged. Otherwise,
+/// `StreamFault` or `OutOfMemory` (field 0) if a request to the output fails.
 pub fn repack<E: Endianness, R: Source, W: Target>(
     alloc: Global,
     layout: &Layout,
@@ -43,11 +43,12 @@ pub fn repack<E: Endianness, R: Source, W: Target>(
     pack_values::<E, W>(layout, &values, output)
 }
 
-/// Reads packed fields and a last alignment from the first byte of a stream on. Returns the values.
+/// Reads packed fields and the last alignment from a stream, beginning at its first byte. Returns
+/// the values.
 ///
 /// # Errors
 ///
-/// As [`repack`] has them, up to the last alignment.
+/// The errors of [`repack`] up to the last alignment.
 fn read_packed<E: Endianness, R: Source>(
     alloc: Global,
     layout: &Layout,
@@ -62,12 +63,12 @@ fn read_packed<E: Endianness, R: Source>(
     read_packed_from(alloc, layout.fields(), &mut reader)
 }
 
-/// Asks for one byte more, which must not be there.
+/// Requests one more byte, and succeeds if the input has none.
 ///
 /// # Errors
 ///
-/// `BytesLeftOver` (field 0) if there is one. `StreamFault` or `OutOfMemory` (field 0), as the stream
-/// refuses the request, unless it refuses it as its end.
+/// `BytesLeftOver` (field 0) if there is one. `StreamFault` or `OutOfMemory` (field 0) if the request fails for
+/// another reason than the end of input.
 fn expect_end<R: Source>(input: &mut R) -> Result<(), Fault>
     ensures { Ends R.stream input.old result input.new }
 {

@@ -36,14 +36,14 @@ pub enum NamedOrder {
     Little,
 }
 
-/// Runs the program on its arguments, without the program's name. Returns its status: 0, or the
-/// status of a fault. The fault's line is then printed on `faults` by one request. If the line
-/// can't be printed, the status stays the same.
+/// Runs the program on its arguments, without the program's name. Returns its exit status: 0, or
+/// the status of a fault. If there is a fault, its line is printed on `faults` by one request. If
+/// the line can't be printed, the status stays the same.
 ///
-/// The input is any `Read`. The output and the stream for faults are any `Write`, or a target that
-/// is lent. The output is written and flushed only if the whole layout succeeded: at a status of 2,
-/// 3 or 4 nothing was written, and at a status of 5 only if the output itself refused a request.
-/// After a refused request nothing more is asked of the input or the output. At a status of 0
+/// The input is any `Read`. The output and the stream for faults are any `Write`, or a borrowed
+/// target. The output is written and flushed only if the whole layout succeeded: at a status of 2,
+/// 3 or 4 nothing was written, and at a status of 5 only if a request to the output itself failed.
+/// After a failed request, no more requests are made to the input or the output. At a status of 0
 /// nothing is printed on `faults`.
 pub fn run<R: Input, W: Target, X: Target>(
     alloc: Global,
@@ -62,7 +62,7 @@ pub fn run<R: Input, W: Target, X: Target>(
     }
 }
 
-/// Prints the line of a fault, and returns its status.
+/// Prints the line of a fault, and returns its exit status.
 pub fn report<X: Target>(fault: Fault, faults: &mut X) -> u8
     ensures status { result ≡ fault.status }
     ensures line { Reports X.stream fault faults.old faults.new }
@@ -71,7 +71,7 @@ pub fn report<X: Target>(fault: Fault, faults: &mut X) -> u8
     fault.status
 }
 
-/// Prints the line of a fault by one request. Its refusal is ignored.
+/// Prints the line of a fault by one request. Ignores an error of the request.
 fn print_line<X: Target>(fault: Fault, faults: &mut X)
     ensures { Reports X.stream fault faults.old faults.new }
 {

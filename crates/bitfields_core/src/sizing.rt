@@ -11,12 +11,12 @@ use bitstream_io::BitsWritten;
 use std::alloc::Global;
 
 /// Returns the number of bits of the values that an input spells for a layout: the sum of the
-/// fields' words, without the last alignment. It is the same in both orders of bits. Nothing is
-/// written.
+/// lengths of the fields' words, without the last alignment. The number is the same in both orders
+/// of bits. Writes nothing.
 ///
 /// # Errors
 ///
-/// The errors of [`pack`](crate::pack), before it writes.
+/// The errors that [`pack`](crate::pack) returns before it writes.
 pub fn size(alloc: Global, layout: &Layout, input: &[u8]) -> Result<u64, Fault>
     ensures { Sizes layout.now (values_of 1 layout.now (lines_of input.now)) result }
 {

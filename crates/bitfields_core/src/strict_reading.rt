@@ -1,4 +1,4 @@
-//! Packed fields, read strictly: only the bits that packing writes are accepted.
+//! Strict reading of packed fields: accepts only the bits that packing writes.
 
 ghost use Rattle.std.specs.Prelude.{◌≡◌, ◌≤◌, IfOk, None, length};
 ghost use Rattle.bitstream_io.specs.Alignment.{to_boundary};
@@ -15,13 +15,14 @@ use crate::values::push_value;
 use bitstream_io::{BitRead, Error};
 use std::alloc::Global;
 
-/// Reads packed fields and a last alignment from a reader: makes the calls of the fields in order.
-/// Returns the values.
+/// Reads packed fields and the last alignment from a reader, by the read calls of the fields, in
+/// order. Returns the values.
 ///
 /// # Errors
 ///
 /// The errors of [`unpack_from`](crate::unpacking::unpack_from), and `PaddingNotZero` at the first
-/// field `pN` or `a` whose bits are not all 0. For the last alignment the fault names no field.
+/// field `pN` or `a` whose bits are not all 0. For the last alignment, the fault names no field
+/// (field 0).
 pub fn read_packed_from<R: BitRead>(
     alloc: Global,
     fields: &[Field],
@@ -49,12 +50,13 @@ pub fn read_packed_from<R: BitRead>(
     }
 }
 
-/// Reads a packed field: its value, if it has one. The room is for its bytes.
+/// Reads a packed field and returns its value, if it has one. `room` is the buffer for the bytes of
+/// a `bN`.
 ///
 /// # Errors
 ///
-/// `PaddingNotZero` if the bits of a field `pN` or `a` are not all 0, which are taken then. Else as
-/// [`unpack_field`].
+/// `PaddingNotZero` if the bits of a field `pN` or `a` are not all 0. These bits are read then.
+/// Otherwise, the errors of [`unpack_field`].
 fn read_exact_field<R: BitRead>(
     field: Field,
     room: Vec<u8>,
@@ -74,7 +76,7 @@ fn read_exact_field<R: BitRead>(
 ///
 /// # Errors
 ///
-/// `PaddingNotZero` if not all are 0, else the reason for the reader's error.
+/// `PaddingNotZero` if not all bits are 0. Otherwise, the reason for the reader's error.
 fn read_padding<R: BitRead>(bits: u32, reader: &mut R) -> Result<Option<FieldValue>, Reason>
     ensures { ReadsField exact_read R.source (Field.Padding bits) reader.old result reader.new }
 {
@@ -86,7 +88,7 @@ fn read_padding<R: BitRead>(bits: u32, reader: &mut R) -> Result<Option<FieldVal
 ///
 /// # Errors
 ///
-/// `PaddingNotZero` if not all bits are 0, else the reason for the reader's error.
+/// `PaddingNotZero` if not all bits are 0. Otherwise, the reason for the reader's error.
 fn read_alignment<R: BitRead>(reader: &mut R) -> Result<Option<FieldValue>, Reason>
     ensures reads { ReadsField exact_read R.source Field.Align reader.old result reader.new }
     ensures none { IfOk result (λ value. value ≡ None) }
@@ -107,7 +109,7 @@ fn if_zeros(zero: bool) -> Result<Option<FieldValue>, Reason>
     }
 }
 
-/// Reads `bits` bits. Returns whether all are 0.
+/// Reads `bits` bits. Returns true if all are 0.
 fn read_zeros<R: BitRead>(bits: u32, reader: &mut R) -> Result<bool, Error>
     ensures { Reads R.source (zeros_decoder bits) reader.old result reader.new }
 {
@@ -120,7 +122,7 @@ fn read_zeros<R: BitRead>(bits: u32, reader: &mut R) -> Result<bool, Error>
     Ok((word == 0) & rest)
 }
 
-/// Reads the bits up to the next byte boundary, at most this many. Returns whether all are 0.
+/// Reads the bits up to the next byte boundary, at most `most` bits. Returns true if all are 0.
 fn read_to_boundary<R: BitRead>(most: u32, reader: &mut R) -> Result<bool, Error>
     requires { to_boundary (R.source.state reader.old).taken ≤ most }
     ensures { Reads R.source (zeros_decoder (to_boundary (R.source.state reader.old).taken))

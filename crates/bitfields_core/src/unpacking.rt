@@ -1,4 +1,4 @@
-//! Unpacking: the lines of the values that bits hold for the fields of a layout.
+//! Unpacking: reads the values of a layout's fields from packed bits, and returns them as lines.
 
 ghost use Rattle.std.specs.Prelude.{◌≡◌, ◌++◌, ◌^◌, ℕ, List, Some, true, length, string_bytes, IfOk, IsErr, IsSome, OnOk, None, Ok, Err, if◌then◌else◌};
 ghost use Rattle.bitstream_io.specs.Gather.{result_map};
@@ -17,18 +17,18 @@ use bitstream_io::script::ByteList;
 use bitstream_io::{BitRead, BitReader, Bits, Endianness, Error, Lent, Source};
 use std::alloc::{AllocError, Global};
 
-/// Unpacks the fields of a layout from the first byte of a stream on. Returns the line of each
-/// value, ended by LF. No byte after the last field's is asked for. After a refused request the
-/// stream is as the refusal left it.
+/// Unpacks the fields of a layout from a stream, beginning at its first byte. Returns the line of
+/// each value, ended by LF. Requests no byte after the last field. After a failed request, the
+/// stream stays as the request left it.
 ///
 /// # Errors
 ///
 /// `BitsEnded` at the first field whose bits are not all there. `ConstantDiffers` at the first
 /// constant whose bits hold another number. `LimitPassed` at the first field whose number passes
-/// its limit or ends in a redundant group. `StreamFault` or `OutOfMemory` at the field for which
-/// the stream refused a request. `OutOfMemory` at the field for whose bytes or line memory was
-/// refused. If each refusal of the stream is a true end, as with a `Slice`, the bits alone decide
-/// the result, memory aside.
+/// its limit or ends in a redundant group. `StreamFault` or `OutOfMemory` at the field for which a
+/// request to the stream failed. `OutOfMemory` at the field for whose bytes or line an allocation
+/// failed. If the stream fails only at the end of input, as a `Slice` does, the bits alone decide
+/// the result, unless an allocation fails.
 pub fn unpack<E: Endianness, R: Source>(
     alloc: Global,
     layout: &Layout,
@@ -45,13 +45,13 @@ pub fn unpack<E: Endianness, R: Source>(
     Ok(lines.into_bytes())
 }
 
-/// Unpacks fields from a reader: makes their read calls in order. Returns the line of each value,
+/// Unpacks fields from a reader by their read calls, in order. Returns the line of each value,
 /// ended by LF.
 ///
 /// # Errors
 ///
 /// At the first field whose call returns an error, at the first constant whose bits hold another
-/// number, or at the first field for whose bytes or line memory is refused. No call is made after
+/// number, or at the first field for whose bytes or line an allocation fails. No call is made after
 /// it.
 pub fn unpack_from<R: BitRead>(
     alloc: Global,
@@ -77,12 +77,13 @@ pub fn unpack_from<R: BitRead>(
     Ok(lines)
 }
 
-/// Reads a field: its value, if it has one. The room is for its bytes.
+/// Reads a field and returns its value, if it has one. `room` is the buffer for the bytes of a
+/// `bN`.
 ///
 /// # Errors
 ///
-/// `ConstantDiffers` if the bits of a constant hold another number, whose bits are taken then. Else
-/// the reason for the reader's error.
+/// `ConstantDiffers` if the bits of a constant hold another number. These bits are read then.
+/// Otherwise, the reason for the reader's error.
 pub fn unpack_field<R: BitRead>(
     field: Field,
     mut room: Vec<u8>,
@@ -178,11 +179,12 @@ fn read_signed_groups<R: BitRead>(size: GroupSize, reader: &mut R) -> Result<i64
     }
 }
 
-/// Returns room for the bytes that are read for a field: of a field of another kind for none.
+/// Returns a buffer for the bytes that are read for a field. For a field that is not `bN`, it has
+/// no bytes.
 ///
 /// # Errors
 ///
-/// If memory is refused.
+/// `AllocError` if an allocation fails.
 pub fn room_for(alloc: Global, field: Field) -> Result<Vec<u8>, AllocError>
     ensures room { IfOk result (λ room. length room.items ≡ byte_count field) }
     ensures asks { IsErr result → asks_memory field ≡ true }

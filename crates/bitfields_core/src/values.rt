@@ -18,7 +18,7 @@ use std::alloc::Global;
 ///
 /// # Errors
 ///
-/// The errors of [`pack`](crate::pack), before it writes.
+/// The errors that [`pack`](crate::pack) returns before it writes.
 pub fn values(alloc: Global, layout: &Layout, input: &[u8]) -> Result<Vec<FieldValue>, Fault>
     ensures values { IsUnlessMemory (values_of 1 layout.now (lines_of input.now))
         (result_map (λ v. v.items) result) }
@@ -53,7 +53,7 @@ fn read_values(alloc: Global, fields: &[Field], lines: &[&[u8]]) -> Result<Vec<F
 ///
 /// # Errors
 ///
-/// If memory is refused: `OutOfMemory` (field 0). No value is appended then.
+/// `OutOfMemory` (field 0) if an allocation fails. No value is appended then.
 pub fn push_value(values: &mut Vec<FieldValue>, value: Option<FieldValue>) -> Result<(), Fault>
     ensures pushed { OnOk result (values.new.items ≡ values.old.items ++ value_list value) }
     ensures memory { IsOkUnless result (fault 0 Reason.OutOfMemory) }
@@ -75,7 +75,7 @@ pub fn value_count(field: Field) -> usize
     }
 }
 
-/// Returns the items after the items of the field: lines, or values.
+/// Returns the items (lines or values) after the items of a field.
 pub fn behind_value<T>(field: Field, items: &[T]) -> &[T]
     requires { value_count_of field ≤ length items.now }
     ensures { result.now ≡ drop (value_count_of field) items.now }

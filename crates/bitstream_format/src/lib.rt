@@ -1,9 +1,9 @@
 //! Formats as values of the logic.
 //!
-//! A value of `Format` (in `specs/Format.antt`) holds what a format reads, what it writes, what must fit
-//! and how many bits it takes, and its two laws: what was written is read back, and how long it is. Formats are
-//! made of parts in a `do` block, and their laws are proved with them: a format by hand takes some ten lines, and
-//! no lemma. Contracts of reads and writes cite the value.
+//! A value of `Format` (in `specs/Format.antt`) states what a format reads, what it writes, what must fit and how
+//! many bits it takes. It also holds two laws: what was written is read back, and how long it is. A `do` block makes
+//! a format of parts, and proves its laws from the laws of the parts: a format by hand takes about ten lines and no
+//! lemma. Contracts of reads and writes cite the value.
 //!
 //! - `Atoms`: formats of one call: unsigned and signed numbers, flags, bytes, padding, unary numbers,
 //!   `NonZero` types and options of them
@@ -12,13 +12,13 @@
 //! - `Lists`: `array`, a counted `list`, `byte_list`, `optional` (behind a flag), `mapped` (a case by its
 //!   number)
 //! - `Choices`: `choose` one of several cases by a tag
-//! - `Sizes`: `sized`, a part that fills a stated number of bytes, and `fill`, a list that does. The size
-//!   limits the reader: the part is read over these bytes alone.
+//! - `Sizes`: `sized`, a part that fills a stated number of bytes, and `fill`, a list that does. The size limits the
+//!   reader: the part is read from these bytes only.
 //! - `Within`, `Filled`: parts of a stated size, and lists that fill one, as `./format` prints them; [`within`] has
 //!   their functions
-//! - `Places`: formats of a fixed width, each of whose fields has its place among the bits
+//! - `Places`: formats of a fixed width, in which each field has a fixed place among the bits
 //!
-//! The [`examples`] are eight formats by hand.
+//! The [`examples`] are eight formats written by hand.
 #![tactic(auto)]
 
 pub mod examples;

@@ -1,4 +1,4 @@
-//! What `./format` prints calls to for parts of a stated size.
+//! Functions for parts of a stated size, which the code that `./format` prints calls.
 ghost use Rattle.bitstream_format.specs.Within.{is_end, size_of};
 ghost use Rattle.std.specs.Prelude.{◌≡◌, ◌∷◌, []};
 ghost use Rattle.bitstream_io.specs.Callers.{WritesAll};
@@ -31,7 +31,8 @@ pub fn is_end(error: &Error) -> bool
 ///
 /// # Errors
 ///
-/// The error of `bits`. `Checked` if the size does not fit. Else the errors of the sink, which come first.
+/// The error of `bits`. `Checked` if the size does not fit `width` bits. Otherwise, the errors of the sink. If the
+/// sink has failed before, `Failed` comes first.
 pub fn write_size<W: BitWrite>(
     writer: &mut W,
     width: u32,

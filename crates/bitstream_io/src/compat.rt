@@ -1,4 +1,4 @@
-//! The interfaces of earlier versions: the calls of today by their older names.
+//! The interfaces of earlier versions: the current calls under their older names.
 
 mod read;
 mod write;

@@ -1,7 +1,7 @@
-//! Exponential Golomb numbers, as the parameter sets of H.264 and H.265 have them.
+//! Exponential Golomb numbers, as in the parameter sets of H.264 and H.265.
 //!
-//! A number below 2^32 - 1 is written as n zeros, a one, and n more bits: together the one and these bits
-//! are the number plus 1. A signed number is written as its index in the order 0, 1, -1, 2, -2, and so on.
+//! A number below 2^32 - 1 is written as n zeros, a one, and n more bits. The one and the bits after it are the
+//! number plus 1. A signed number is written as its index in the order 0, 1, -1, 2, -2, and so on.
 ghost use Rattle.std.specs.Prelude.{◌≡◌, ◌++◌, ◌^◌, ◌<◌, ◌-◌, ℕ, ℤ, Bool, List, Ok, IfOk, length, unsigned_abs};
 ghost use Rattle.bitstream_io.specs.Callers.{Done, Reads, write_sequence, WritesAll, Order};
 ghost use Rattle.bitstream_io.specs.Golomb.{se_decoder, se_writes, ue_decoder, ue_writes};
@@ -16,7 +16,7 @@ use crate::write::{BitWrite, BitWriteExt};
 /// # Errors
 ///
 /// `VariableWidthOverflow` for more than 31 leading zeros. The zeros and the one after them are
-/// read then, and the reader continues after them. Else the errors of the reader.
+/// read then, and the reader continues after them. Otherwise, the errors of the reader.
 ///
 /// # Examples
 ///
@@ -59,7 +59,7 @@ pub fn read_se<R: BitRead>(reader: &mut R) -> Result<i32, Error>
 ///
 /// # Errors
 ///
-/// `Checked` for `u32::MAX`, which has no encoding. Nothing is written then. Else the errors of the sink.
+/// `Checked` for `u32::MAX`, which has no encoding. Nothing is written then. Otherwise, the errors of the sink.
 pub fn write_ue<W: BitWrite>(writer: &mut W, value: u32) -> Result<(), Error>
     ensures { WritesAll W.sink (ue_writes W.sink.order value) writer.old result writer.new }
 {
@@ -76,7 +76,7 @@ pub fn write_ue<W: BitWrite>(writer: &mut W, value: u32) -> Result<(), Error>
 ///
 /// # Errors
 ///
-/// `Checked` for `i32::MIN`, which has no encoding. Nothing is written then. Else the errors of the sink.
+/// `Checked` for `i32::MIN`, which has no encoding. Nothing is written then. Otherwise, the errors of the sink.
 pub fn write_se<W: BitWrite>(writer: &mut W, value: i32) -> Result<(), Error>
     ensures { WritesAll W.sink (se_writes W.sink.order value) writer.old result writer.new }
 {

@@ -2,9 +2,9 @@
 //!
 //! Ported from `bitstream-io` 4.10.0 by Brian Langenberger; MIT OR Apache-2.0, see `LICENSE`.
 //!
-//! The items are in modules by subject. Most are here too:
+//! The items are in these modules, by subject. The root of the crate exports most of them too:
 //!
-//! - [`compat`]: the calls of today by their older names
+//! - [`compat`]: the current calls under their older names
 //! - [`golomb`]: exponential Golomb numbers
 //! - [`script`]: lists of calls as values, which are made one after another
 //! - [`error`]: the error of a call

@@ -12,13 +12,13 @@ use bitstream_stream::width::{check, check_signed};
 use bitstream_stream::write::BitWrite;
 use std::marker::PhantomData;
 
-/// Counts the bits that are written to it in the order E and keeps none of them, so a length is known
-/// before it is written. It takes no memory. [`BitsWritten`](crate::written::BitsWritten) is one whose
-/// order need not be named.
+/// Counts the bits written to it in the order E and keeps none of them, so that the length of a value is known before
+/// the value is written. It does not allocate. [`BitsWritten`](crate::written::BitsWritten) is a counter without a
+/// parameter for the order.
 ///
-/// A call adds the length of its word, in one sum. If the sum is above the greatest number of N,
-/// the call returns `CounterOverflow` and adds nothing. Errors of a width or a value come first, as
-/// in a writer. A word has the same length in both orders of bits.
+/// A call adds the length of its word in bits, in one addition. If the sum is above the greatest
+/// number of N, the call returns `CounterOverflow` and adds nothing. Errors of a width or a value
+/// come first, as in a writer. A word has the same length in both orders of bits.
 ///
 /// # Examples
 ///

@@ -56,12 +56,11 @@ pub trait Counter: Default
     fn checked_mul(self, other: Self) -> Result<Self, Overflowed>
         ensures { Counts value greatest (value self * value other) result };
 
-    /// Returns whether the number is a multiple of 8.
+    /// Returns true if the number is a multiple of 8.
     fn byte_aligned(&self) -> bool
         ensures { IsTrue result ↔ (value self.now % 8 ≡ 0) };
 
-    // The default is 0, each byte is a number of the type, and a conversion gives the same number or
-    // refuses it.
+    // The default is 0. Each byte is a number of the type. A conversion returns the same number or an error.
     ghost default_law: { (x : Self) → Self.is_default x → value x ≡ 0 };
 
     ghost byte_law: { 255 ≤ greatest };

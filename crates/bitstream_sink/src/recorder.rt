@@ -17,13 +17,14 @@ use std::marker::PhantomData;
 pub mod best;
 pub mod laws;
 
-/// Records the bits that are written to it, so that they can be played to another sink of bits, at
-/// any place in a byte. Whole bytes are in a vector. The bits after them, fewer than 8, are kept
-/// next to it. Their number is returned as an N, but N does not limit the recording.
+/// Records the bits written to it, and plays them to another sink of bits, at any position in a
+/// byte. A vector holds the whole bytes. The recorder keeps the bits after them, fewer than 8, next
+/// to the vector. It returns the number of recorded bits as an N, but N does not limit the
+/// recording.
 ///
-/// If the vector needs memory and gets none, the call returns `OutOfMemory` and the recorder has
-/// failed: it keeps its whole bytes, but each later call that writes or plays returns `Failed`,
-/// until it is cleared.
+/// If an allocation fails, the call returns `OutOfMemory` and the recorder has failed: it keeps its
+/// whole bytes, but each later call that writes or plays returns `Failed` until the recorder is
+/// cleared.
 ///
 /// # Examples
 ///
@@ -52,18 +53,18 @@ impl<N, E: Endianness, A: Allocator> BitRecorder<N, E, A> {
     ghost use Rattle.bitstream_sink.specs.Counter.{Counts};
     ghost use Rattle.bitstream_sink.specs.Recorder.{IsEmptyRecorder, recorded_bits, recorder_failed, playback_encoders};
 
-    /// Returns a recorder of no bits, which takes its memory from the allocator.
+    /// Returns an empty recorder, which allocates from `alloc`.
     pub fn new(alloc: A) -> BitRecorder<N, E, A>
         ensures { IsEmptyRecorder result }
     {
         BitRecorder::over(Growing::new(Vec::new(alloc)))
     }
 
-    /// Returns a recorder of no bits that already has memory for `bytes` bytes.
+    /// Returns an empty recorder with memory for `bytes` bytes.
     ///
     /// # Errors
     ///
-    /// Memory was refused.
+    /// `AllocError` if the allocation fails.
     pub fn with_capacity(alloc: A, bytes: usize) -> Result<BitRecorder<N, E, A>, AllocError>
         ensures { IfOk result (λ recorder. IsEmptyRecorder recorder) }
     {
@@ -71,7 +72,8 @@ impl<N, E: Endianness, A: Allocator> BitRecorder<N, E, A> {
         Ok(BitRecorder::over(Growing::new(vec)))
     }
 
-    /// Returns a recorder as [`new`](BitRecorder::new) does, with its order as an argument.
+    /// Returns an empty recorder as [`new`](BitRecorder::new) does, but takes its order as an
+    /// argument.
     pub fn endian(alloc: A, _order: E) -> BitRecorder<N, E, A>
     where
         E: Drop,
@@ -80,7 +82,7 @@ impl<N, E: Endianness, A: Allocator> BitRecorder<N, E, A> {
         BitRecorder::new(alloc)
     }
 
-    /// Returns a recorder whose whole bytes go to a vector without any.
+    /// Returns an empty recorder over a vector, which has no bytes yet.
     fn over(bytes: Growing<A>) -> BitRecorder<N, E, A>
         requires { growing_bytes bytes ≡ [] }
         ensures { IsEmptyRecorder result }
@@ -99,7 +101,7 @@ impl<N, E: Endianness, A: Allocator> BitRecorder<N, E, A> {
         bytes as u128 * 8 + u128::from(self.writer.queued())
     }
 
-    /// Returns the number of bits recorded, which N has to hold. A recorder that has failed counts
+    /// Returns the number of bits recorded, which must fit N. A recorder that has failed counts
     /// only its whole bytes.
     pub fn written(&self) -> N
     where
@@ -119,7 +121,7 @@ impl<N, E: Endianness, A: Allocator> BitRecorder<N, E, A> {
     ///
     /// # Errors
     ///
-    /// `Overflowed` if and only if N does not hold the number.
+    /// `Overflowed` if and only if the number does not fit N.
     pub fn written_checked(&self) -> Result<N, Overflowed>
     where
         N: Counter,
@@ -131,17 +133,17 @@ impl<N, E: Endianness, A: Allocator> BitRecorder<N, E, A> {
         value_of::<N>(self.bits())
     }
 
-    /// Writes the recorded bits to another sink: the whole bytes, and the bits after them as one
-    /// word. A sink of the same order gets exactly the recorded bits, at any place in a byte. A
-    /// sink of the other order gets the bits of each byte in its own order, and the number of the
-    /// last bits as a word of its own.
+    /// Writes the recorded bits to another sink: first the whole bytes, and then the bits after
+    /// them as one number. A sink of the same order gets exactly the recorded bits, at any position
+    /// in a byte. A sink of the other order writes each byte, and then the number, in its own order
+    /// of bits.
     ///
     /// # Errors
     ///
-    /// `Failed` if the recorder has failed: nothing is written then. Else as
+    /// `Failed` if the recorder has failed. Nothing is written then. Otherwise, the errors of
     /// [`write_bytes`](BitWrite::write_bytes) and
-    /// [`write_unsigned_var`](BitWrite::write_unsigned_var) of the sink: if the second one returns
-    /// an error, the whole bytes are written.
+    /// [`write_unsigned_var`](BitWrite::write_unsigned_var) of the sink. If the second call returns
+    /// an error, the whole bytes stay written.
     pub fn playback<W: BitWrite>(&self, target: &mut W) -> Result<(), Error>
         // Unless the recorder has failed, the whole bytes are written, and then the bits after them
         // as one word, up to the first error.
@@ -161,7 +163,7 @@ impl<N, E: Endianness, A: Allocator> BitRecorder<N, E, A> {
         target.write_unsigned_var(self.writer.queued(), self.writer.queue())
     }
 
-    /// Forgets the recorded bits, and a failure. The recorder keeps its memory.
+    /// Clears the recorded bits and any failure. The recorder keeps its memory.
     pub fn clear(&mut self)
         ensures { IsEmptyRecorder self.new }
     {

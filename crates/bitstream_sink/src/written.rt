@@ -1,10 +1,10 @@
-//! A counter of written bits whose order need not be named.
+//! A counter of written bits, without a parameter for the order.
 
 use crate::bit_counter::BitCounter;
 use bitstream_order::order::BigEndian;
 
-/// Counts the bits that are written to it, as [`BitCounter`] does: a word has the same length in both
-/// orders of bits, so none is named. The counter's own is big-endian.
+/// Counts the bits written to it, as [`BitCounter`] does, without a parameter for the order: a word has the same
+/// length in both orders of bits. The counter's own order is big-endian.
 ///
 /// If the sum is above the greatest number of N, a call returns `CounterOverflow` and adds nothing.
 /// Errors of a width or a value come first, as in a writer.

@@ -21,8 +21,8 @@ pub trait ToBitStream {
     // The error map: from an error of the sink to the type's own.
     ghost becomes: { Error → Self.Error → Type 0 };
 
-    // The calls that write a value, in either order of bits; and the result after them, if all were
-    // done.
+    // The calls that write a value, in either order of bits; and the result after them, if all
+    // succeed.
     ghost writes: { Order → Self → List Encoder };
 
     ghost answers: { Self → Result (Unit {0}) Self.Error } = { λ _. Ok tt };
@@ -31,19 +31,19 @@ pub trait ToBitStream {
     ///
     /// # Errors
     ///
-    /// An error of the sink, mapped to the type's, or the type's own. The parts before the error
-    /// stay written.
+    /// An error of the sink, mapped to the type's error, or an error of the type's own. The parts
+    /// before the error stay written.
     fn to_writer<W: BitWrite>(&self, writer: &mut W) -> Result<(), Self::Error>
         ensures writes { WritesOwn W.sink becomes (writes W.sink.order self.now) (answers self.now)
             writer.old result writer.new };
 
-    /// Returns the number of bits of the value, as [`BitsWritten`] counts them from 0. Nothing is
+    /// Returns the number of bits of the value, as an empty [`BitsWritten`] counts them. Nothing is
     /// written.
     ///
     /// # Errors
     ///
     /// The errors of [`to_writer`](ToBitStream::to_writer), and `CounterOverflow`, mapped to the
-    /// type's, if C does not hold the sum.
+    /// type's error, if the number does not fit C.
     fn bits<C: Counter>(&self) -> Result<C, Self::Error>
     where
         Self::Error: From<Error>,
@@ -55,7 +55,7 @@ pub trait ToBitStream {
         Ok(counter.into_written())
     }
 
-    /// Returns what [`bits`](ToBitStream::bits) does, whatever the order E is.
+    /// Returns what [`bits`](ToBitStream::bits) does, for every order E.
     ///
     /// # Errors
     ///
@@ -70,7 +70,7 @@ pub trait ToBitStream {
     }
 }
 
-/// A type whose values are written as bits with a context, which is lent.
+/// A type whose values are written as bits with a borrowed context.
 /// [`build_with`](crate::write::BitWriteExt::build_with) writes them to any sink.
 pub trait ToBitStreamWith {
     /// The context: data known before a value is written.
@@ -82,8 +82,8 @@ pub trait ToBitStreamWith {
     // The error map: from an error of the sink to the type's own.
     ghost becomes: { Error → Self.Error → Type 0 };
 
-    // The calls that write a value, in either order of bits; and the result after them, if all were
-    // done.
+    // The calls that write a value, in either order of bits; and the result after them, if all
+    // succeed.
     ghost writes: { Order → Self → Self.Context → List Encoder };
 
     ghost answers: { Self → Self.Context → Result (Unit {0}) Self.Error } = { λ _ _. Ok tt };
@@ -101,7 +101,7 @@ pub trait ToBitStreamWith {
         ensures writes { WritesOwn W.sink becomes (writes W.sink.order self.now context.now)
             (answers self.now context.now) writer.old result writer.new };
 
-    /// Returns the number of bits of the value, as [`BitsWritten`] counts them from 0. Nothing is
+    /// Returns the number of bits of the value, as an empty [`BitsWritten`] counts them. Nothing is
     /// written.
     ///
     /// # Errors
@@ -118,7 +118,7 @@ pub trait ToBitStreamWith {
         Ok(counter.into_written())
     }
 
-    /// Returns what [`bits`](ToBitStreamWith::bits) does, whatever the order E is.
+    /// Returns what [`bits`](ToBitStreamWith::bits) does, for every order E.
     ///
     /// # Errors
     ///
@@ -133,7 +133,7 @@ pub trait ToBitStreamWith {
     }
 }
 
-/// A type whose values are written as bits with a context, which is used up.
+/// A type whose values are written as bits with a context taken by value.
 /// [`build_using`](crate::write::BitWriteExt::build_using) writes them to any sink.
 pub trait ToBitStreamUsing {
     /// The context: data known before a value is written.
@@ -145,8 +145,8 @@ pub trait ToBitStreamUsing {
     // The error map: from an error of the sink to the type's own.
     ghost becomes: { Error → Self.Error → Type 0 };
 
-    // The calls that write a value, in either order of bits; and the result after them, if all were
-    // done.
+    // The calls that write a value, in either order of bits; and the result after them, if all
+    // succeed.
     ghost writes: { Order → Self → Self.Context → List Encoder };
 
     ghost answers: { Self → Self.Context → Result (Unit {0}) Self.Error } = { λ _ _. Ok tt };
@@ -164,7 +164,7 @@ pub trait ToBitStreamUsing {
         ensures writes { WritesOwn W.sink becomes (writes W.sink.order self.now context)
             (answers self.now context) writer.old result writer.new };
 
-    /// Returns the number of bits of the value, as [`BitsWritten`] counts them from 0. Nothing is
+    /// Returns the number of bits of the value, as an empty [`BitsWritten`] counts them. Nothing is
     /// written.
     ///
     /// # Errors

@@ -19,7 +19,7 @@ pub trait ToByteStream {
     ghost becomes: { Error → Self.Error → Type 0 };
 
     // The bytes of the calls that write a value, in either order of bytes; and the result after
-    // them, if all were done.
+    // them, if all succeed.
     ghost writes: { Order → Self → List (List ℕ) };
 
     ghost answers: { Self → Result (Unit {0}) Self.Error } = { λ _. Ok tt };
@@ -28,8 +28,8 @@ pub trait ToByteStream {
     ///
     /// # Errors
     ///
-    /// An error of the sink, mapped to the type's, or the type's own. The parts before the error
-    /// stay written.
+    /// An error of the sink, mapped to the type's error, or an error of the type's own. The parts
+    /// before the error stay written.
     fn to_writer<W: ByteWrite>(&self, writer: &mut W) -> Result<(), Self::Error>
         ensures writes { ByteWritesOwn W.sink becomes (writes W.sink.order self.now)
             (answers self.now) writer.old result writer.new };
@@ -39,7 +39,7 @@ pub trait ToByteStream {
     /// # Errors
     ///
     /// The errors of [`to_writer`](ToByteStream::to_writer), and `CounterOverflow`, mapped to the
-    /// type's, if C does not hold the sum.
+    /// type's error, if the number does not fit C.
     fn bytes<C: Counter>(&self) -> Result<C, Self::Error>
     where
         Self::Error: From<Error>,
@@ -52,7 +52,7 @@ pub trait ToByteStream {
     }
 }
 
-/// A type whose values are written as whole bytes with a context, which is lent.
+/// A type whose values are written as whole bytes with a borrowed context.
 /// [`build_with`](crate::byte_write::ByteWriteExt::build_with) writes them to any sink of bytes.
 pub trait ToByteStreamWith {
     /// The context: data known before a value is written.
@@ -65,7 +65,7 @@ pub trait ToByteStreamWith {
     ghost becomes: { Error → Self.Error → Type 0 };
 
     // The bytes of the calls that write a value, in either order of bytes; and the result after
-    // them, if all were done.
+    // them, if all succeed.
     ghost writes: { Order → Self → Self.Context → List (List ℕ) };
 
     ghost answers: { Self → Self.Context → Result (Unit {0}) Self.Error } = { λ _ _. Ok tt };
@@ -100,7 +100,7 @@ pub trait ToByteStreamWith {
     }
 }
 
-/// A type whose values are written as whole bytes with a context, which is used up.
+/// A type whose values are written as whole bytes with a context taken by value.
 /// [`build_using`](crate::byte_write::ByteWriteExt::build_using) writes them to any sink of bytes.
 pub trait ToByteStreamUsing {
     /// The context: data known before a value is written.
@@ -113,7 +113,7 @@ pub trait ToByteStreamUsing {
     ghost becomes: { Error → Self.Error → Type 0 };
 
     // The bytes of the calls that write a value, in either order of bytes; and the result after
-    // them, if all were done.
+    // them, if all succeed.
     ghost writes: { Order → Self → Self.Context → List (List ℕ) };
 
     ghost answers: { Self → Self.Context → Result (Unit {0}) Self.Error } = { λ _ _. Ok tt };

@@ -16,11 +16,11 @@ pub(crate) struct BytesWritten<N: Counter> {
     ghost within: { N.value count ≤ N.greatest },
 }
 
-/// Returns the value of a number.
+/// Converts a `usize` to N.
 ///
 /// # Errors
 ///
-/// `Overflowed` if the number is above the greatest one of N.
+/// `Overflowed` if the number is above the greatest number of N.
 fn value_of<N: Counter>(number: usize) -> Result<N, Overflowed>
     ensures { Counts N.value N.greatest number result }
 {

@@ -26,14 +26,14 @@ pub trait FromByteStream: Sized {
     ///
     /// # Errors
     ///
-    /// An error of the reader, mapped to the type's, or the type's own. The parts before the error
-    /// stay read.
+    /// An error of the reader, mapped to the type's error, or an error of the type's own. The parts
+    /// before the error stay read.
     fn from_reader<R: ByteRead>(reader: &mut R) -> Result<Self, Self::Error>
         ensures reads { ByteOwnReads grows R.source becomes (reads R.source.order)
             reader.old result reader.new };
 }
 
-/// A type whose values are read from whole bytes with a context, which is lent.
+/// A type whose values are read from whole bytes with a borrowed context.
 /// [`parse_with`](crate::byte_read::ByteReadExt::parse_with) reads them from any reader of bytes.
 pub trait FromByteStreamWith: Sized {
     /// The context: data known before a value is read.
@@ -64,7 +64,7 @@ pub trait FromByteStreamWith: Sized {
             reader.old result reader.new };
 }
 
-/// A type whose values are read from whole bytes with a context, which is used up.
+/// A type whose values are read from whole bytes with a context taken by value.
 /// [`parse_using`](crate::byte_read::ByteReadExt::parse_using) reads them from any reader of bytes.
 pub trait FromByteStreamUsing: Sized {
     /// The context: data known before a value is read.

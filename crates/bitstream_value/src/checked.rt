@@ -18,14 +18,14 @@ use bitstream_count::error::Error;
 use bitstream_stream::read::BitRead;
 use bitstream_stream::write::BitWrite;
 
-/// A checked value: it is kept with a count of bits that holds it, so that a write of it is never
-/// rejected. Only [`Checked`](bitstream_count::count::Checked) with each of the four types of
-/// counts implements it.
+/// A checked value: a number with a count of bits that holds it, so that writing it is never
+/// rejected. Only [`Checked`](bitstream_count::count::Checked), with each of the four types of
+/// counts, implements this trait.
 ///
 /// # Errors
 ///
-/// The errors of the reader ([`BitRead`]) and of the sink ([`BitWrite`]). The calls below name only
-/// their own errors.
+/// The errors of the reader ([`BitRead`]) and of the sink ([`BitWrite`]). The calls below list only
+/// further errors.
 ///
 /// # Examples
 ///
@@ -45,12 +45,12 @@ pub trait Checkable: Sealed + Copy {
     // The word of a value, in either order.
     ghost word: { Order → Self → List Bool };
 
-    /// Writes the value, with the number of bits in its count.
+    /// Writes the value in the number of bits of its count.
     fn write<W: BitWrite>(&self, writer: &mut W) -> Result<(), Error>
         ensures writes { Writes W.sink (plain (word W.sink.order self.now))
             writer.old result writer.new };
 
-    /// Returns the number of bits that a write of the value takes.
+    /// Returns the number of bits that writing the value takes.
     fn written_bits(&self) -> u32
         ensures bits { (o : Order) → result ≡ length (word o self.now) };
 }
@@ -59,7 +59,7 @@ pub trait Checkable: Sealed + Copy {
 ///
 /// # Errors
 ///
-/// As of [`Checkable`].
+/// As for [`Checkable`].
 pub trait CheckablePrimitive: Checkable {
     /// The type of the count.
     type CountType;
@@ -73,13 +73,13 @@ pub trait CheckablePrimitive: Checkable {
     ///
     /// # Errors
     ///
-    /// `ReadBits` if the type has fewer bits. Nothing is taken then.
+    /// `ReadBits` if the type has fewer than `count` bits. No bit is read then.
     fn read<R: BitRead>(reader: &mut R, count: Self::CountType) -> Result<Self, Error>
         ensures reads { Reads R.source (reads R.source.order count)
             reader.old (result_map counted result) reader.new };
 }
 
-/// Pairs the value of a result with a count that holds it, which the caller proves.
+/// Pairs the value of a result with a count. The caller proves that the count holds the value.
 #[inline(always)]
 fn keep<C: Holds<T> + Copy, T>(count: C, answer: Result<T, Error>) -> Result<Checked<C, T>, Error>
     requires { IfOk answer (C.holds count) }

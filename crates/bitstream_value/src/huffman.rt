@@ -16,13 +16,13 @@ use bitstream_count::error::Error;
 use bitstream_stream::read::BitRead;
 use bitstream_stream::write::BitWrite;
 
-/// The calls that a code needs of a reader. Every reader of bits has them, with the errors of
-/// [`BitRead`].
+/// The calls that a prefix code makes on a reader. Every reader of bits has them, with the errors
+/// of [`BitRead`].
 pub trait NextBit {
     // The meaning of the reader's states.
     ghost source: { BitSource Self };
 
-    /// Reads one bit, and returns whether it is 1.
+    /// Reads one bit. Returns true if it is 1.
     fn next_bit(&mut self) -> Result<bool, Error>
         ensures reads { Reads source bit_decoder self.old result self.new };
 }
@@ -36,7 +36,7 @@ impl<R: BitRead> NextBit for R {
     }
 }
 
-/// The calls that a code needs of a sink. Every sink of bits has them, with the errors of
+/// The calls that a prefix code makes on a sink. Every sink of bits has them, with the errors of
 /// [`BitWrite`].
 pub trait PutBit {
     // The meaning of the sink's states.
@@ -56,7 +56,7 @@ impl<W: BitWrite> PutBit for W {
     }
 }
 
-/// A prefix code that is read bit by bit. Its only errors are the reader's.
+/// A prefix code that is read bit by bit. The only errors are the errors of the reader.
 pub trait FromBits {
     /// The symbols of the code.
     type Symbol;
@@ -81,7 +81,7 @@ pub trait ToBits {
     ///
     /// # Errors
     ///
-    /// The errors of the sink. The bits before the refused one stay written. A word of no bits
+    /// The errors of the sink. The bits before the error stay written. Writing a word of no bits
     /// always succeeds.
     fn to_bits<P: PutBit>(&self, symbol: Self::Symbol, put: &mut P) -> Result<(), Error>
         ensures writes { WritesAll P.sink (bit_by_bit (word self.now symbol))

@@ -26,12 +26,12 @@ use bitstream_stream::write::BitWrite;
 ///
 /// # Errors
 ///
-/// The errors of the reader ([`BitRead`]) and of the sink ([`BitWrite`]). The calls below name only
-/// their own errors.
+/// The errors of the reader ([`BitRead`]) and of the sink ([`BitWrite`]). The calls below list only
+/// further errors.
 ///
-/// A value that was read in n bits fits them: an unsigned number is below 2^n, a signed one lies from
-/// -2^(n-1) to 2^(n-1) - 1, and a `NonZero` is at most 2^n. Callers know it, so that a sum on a
-/// field that is narrower than its type needs no test.
+/// A value that was read in n bits fits n bits: an unsigned number is below 2^n, a signed number is from -2^(n-1) to
+/// 2^(n-1) - 1, and a `NonZero` is at most 2^n. The contracts state this, so adding to a field that is narrower than
+/// its type needs no overflow check.
 pub trait Integer: Sized {
     // The decoder and the encoders of a value in a number of bits, in either order.
     ghost reads: { Order → ℕ → Decoder Self };
@@ -47,7 +47,7 @@ pub trait Integer: Sized {
     /// Reads a value of `B::BITS` bits, a width that is never rejected.
     fn read<B: Width, R: BitRead>(reader: &mut R) -> Result<Self, Error>
         requires { IsWidth B.BITS }
-        // It is a read of the type's entry at `B::BITS` bits.
+        // It follows the type's decoder at `B::BITS` bits.
         ensures reads { Reads R.source (reads R.source.order B.BITS) reader.old result reader.new }
         // A value that is returned fits `B::BITS` bits.
         ensures fits { IfOk result (λ value. Fits B.BITS value) }
@@ -59,11 +59,11 @@ pub trait Integer: Sized {
     ///
     /// # Errors
     ///
-    /// `ReadBits` if the type has fewer bits, `NoSignBit` for a signed number of 0 bits,
-    /// `BoolWidth` for a `bool` of any number of bits but 1, `NonZeroWidth` for a `NonZero` of its
-    /// type's size in bits, or of more. No bit of the value is read then.
+    /// `ReadBits` if the type has fewer than `bits` bits. `NoSignBit` for a signed number of 0
+    /// bits. `BoolWidth` for a `bool` if `bits` is not 1. `NonZeroWidth` for a `NonZero` if `bits`
+    /// is at least the size of its type in bits. No bit of the value is read then.
     fn read_var<C: Count, R: BitRead>(reader: &mut R, bits: C) -> Result<Self, Error>
-        // It is a read of the type's entry at `bits` bits.
+        // It follows the type's decoder at `bits` bits.
         ensures reads { Reads R.source (reads R.source.order (C.number bits))
             reader.old result reader.new }
         // A value that is returned fits `bits` bits.
@@ -73,7 +73,8 @@ pub trait Integer: Sized {
     ///
     /// # Errors
     ///
-    /// `Checked(ExcessiveValue)` if the value needs more bits. No bit of it is written then.
+    /// `Checked(ExcessiveValue)` if the value needs more than `B::BITS` bits. No bit of it is
+    /// written then.
     fn write<B: Width, W: BitWrite>(self, writer: &mut W) -> Result<(), Error>
         requires { IsWidth B.BITS }
         ensures writes { WritesAll W.sink (writes W.sink.order B.BITS self)
@@ -86,9 +87,10 @@ pub trait Integer: Sized {
     ///
     /// # Errors
     ///
-    /// `NoSignBit`, `BoolWidth` and `NonZeroWidth` as of [`read_var`](Integer::read_var), else
-    /// `Checked(ExcessiveBits)` if the type has fewer bits, else `Checked(ExcessiveValue)` if the
-    /// value needs more. No bit of the value is written then.
+    /// `NoSignBit`, `BoolWidth` and `NonZeroWidth` as for [`read_var`](Integer::read_var).
+    /// Otherwise, `Checked(ExcessiveBits)` if the type has fewer than `bits` bits. Otherwise,
+    /// `Checked(ExcessiveValue)` if the value needs more than `bits` bits. No bit of the value is
+    /// written then.
     fn write_var<C: Count, W: BitWrite>(self, writer: &mut W, bits: C) -> Result<(), Error>
         ensures writes { WritesAll W.sink (writes W.sink.order (C.number bits) self)
             writer.old result writer.new };
@@ -97,13 +99,14 @@ pub trait Integer: Sized {
 /// A type whose values are also read and written in groups of bits (variable width): the integers,
 /// `NonZero` types, `Option`s of these, and arrays.
 ///
-/// A value is written in as few groups as hold it. A `NonZero` is read and written as its number
-/// less 1. An array is its items in order, as it is for [`Integer`]. Any other value is one call.
+/// A value is written in the fewest groups that hold it. A `NonZero` is read and written as its
+/// number minus 1. An array is its items in order, as it is for [`Integer`]. Any other value is one
+/// call.
 ///
 /// # Errors
 ///
-/// The errors of the reader ([`BitRead`]) and of the sink ([`BitWrite`]). The calls below name only
-/// their own errors.
+/// The errors of the reader ([`BitRead`]) and of the sink ([`BitWrite`]). The calls below list only
+/// further errors.
 pub trait VBRInteger: Integer {
     // The decoder and the encoders of a value in groups of a number of bits, in either
     // order.
@@ -118,9 +121,9 @@ pub trait VBRInteger: Integer {
     ///
     /// # Errors
     ///
-    /// `VariableWidthOverflow` if a number does not fit in its type, or a group begins past its
-    /// bits. `RedundantGroup` if a number has two groups or more, and the last one is 0. The groups
-    /// up to the one that shows it are read then.
+    /// `VariableWidthOverflow` if a number does not fit its type, or if a group begins after the
+    /// type's bits. `RedundantGroup` if a number has two or more groups and the last group is 0.
+    /// The groups up to the one that shows the error are read then.
     fn read_vbr<F: Width, R: BitRead>(reader: &mut R) -> Result<Self, Error>
         requires { IsFieldSize F.BITS }
         ensures reads { Reads R.source (reads_vbr R.source.order F.BITS)

@@ -60,8 +60,8 @@ pub fn limited_runs_are_paths()
         → IfSome v (λ k. k < most) × (w ≡ limited_unary stop most v) }
 {}
 
-/// If a value's words have the same length in both orders of bits, `bits` is the number of bits that
-/// `to_writer` appends at a byte boundary, or `CounterOverflow` if C cannot hold it.
+/// If a value's words have the same length in both orders of bits, `bits` returns the number of bits that `to_writer`
+/// appends at a byte boundary, or `CounterOverflow` if C cannot hold it.
 pub fn bits_are_those_appended<T: ToBitStream, C: Counter, W: BitWrite>()
     ensures { (value : T) (old new : W) (bits : Result C T.Error) (n : ℕ)
         → HasOneLength (λ o. T.writes o value) → W.sink.len old % 8 ≡ 0
@@ -73,7 +73,7 @@ pub fn bits_are_those_appended<T: ToBitStream, C: Counter, W: BitWrite>()
         → IsNumberWithin C.value C.greatest T.becomes n bits }
 {}
 
-/// The same of a type whose context is lent.
+/// States the same for a type whose context is borrowed.
 pub fn bits_with_a_context_are_those_appended<T: ToBitStreamWith, C: Counter, W: BitWrite>()
     ensures { (value : T) (context : T.Context) (old new : W) (bits : Result C T.Error) (n : ℕ)
         → HasOneLength (λ o. T.writes o value context) → W.sink.len old % 8 ≡ 0
@@ -85,7 +85,7 @@ pub fn bits_with_a_context_are_those_appended<T: ToBitStreamWith, C: Counter, W:
         → IsNumberWithin C.value C.greatest T.becomes n bits }
 {}
 
-/// The same of a type whose context is used up.
+/// States the same for a type whose context is taken by value.
 pub fn bits_using_a_context_are_those_appended<T: ToBitStreamUsing, C: Counter, W: BitWrite>()
     ensures { (value : T) (context : T.Context) (old new : W) (bits : Result C T.Error) (n : ℕ)
         → HasOneLength (λ o. T.writes o value context) → W.sink.len old % 8 ≡ 0
@@ -97,8 +97,8 @@ pub fn bits_using_a_context_are_those_appended<T: ToBitStreamUsing, C: Counter, 
         → IsNumberWithin C.value C.greatest T.becomes n bits }
 {}
 
-/// `bytes` returns the number of bytes that `to_writer` appends, or `CounterOverflow` if C does not
-/// hold it: if the number is the same in both orders of bytes.
+/// If a value has the same number of bytes in both orders of bytes, `bytes` returns the number of
+/// bytes that `to_writer` appends, or `CounterOverflow` if C cannot hold it.
 pub fn bytes_are_those_appended<T: ToByteStream, C: Counter, W: ByteWrite>()
     ensures { (value : T) (old new : W) (bytes : Result C T.Error) (n : ℕ)
         → HasOneTotal (λ o. T.writes o value)
@@ -110,7 +110,7 @@ pub fn bytes_are_those_appended<T: ToByteStream, C: Counter, W: ByteWrite>()
         → IsNumberWithin C.value C.greatest T.becomes n bytes }
 {}
 
-/// The same of a type whose context is lent.
+/// States the same for a type whose context is borrowed.
 pub fn bytes_with_a_context_are_those_appended<T: ToByteStreamWith, C: Counter, W: ByteWrite>()
     ensures { (value : T) (context : T.Context) (old new : W) (bytes : Result C T.Error) (n : ℕ)
         → HasOneTotal (λ o. T.writes o value context)
@@ -122,7 +122,7 @@ pub fn bytes_with_a_context_are_those_appended<T: ToByteStreamWith, C: Counter, 
         → IsNumberWithin C.value C.greatest T.becomes n bytes }
 {}
 
-/// The same of a type whose context is used up.
+/// States the same for a type whose context is taken by value.
 pub fn bytes_using_a_context_are_those_appended<T: ToByteStreamUsing, C: Counter, W: ByteWrite>()
     ensures { (value : T) (context : T.Context) (old new : W) (bytes : Result C T.Error) (n : ℕ)
         → HasOneTotal (λ o. T.writes o value context)

@@ -1,5 +1,5 @@
 //! Values of any type that is read and written as bits or bytes: integers, checked values, symbols
-//! of prefix codes, and types of a user's own. Callers find what they need in `bitstream_io`.
+//! of prefix codes, and user-defined types. `bitstream_io` exports what callers need.
 //!
 //! - [`build`]: types whose values are written as bits
 //! - [`byte_build`]: types whose values are written as bytes

@@ -15,7 +15,7 @@ use bitstream_stream::write::BitWrite;
 use bitstream_stream::write::writer::BitWriter;
 use std::io;
 
-/// A target that takes all bytes and keeps none.
+/// A target that accepts all bytes and keeps none.
 #[derive(Drop)]
 struct Discard {}
 
@@ -33,7 +33,7 @@ impl Target for Discard {
     }
 }
 
-/// Writes a value, and then zeros up to a whole byte.
+/// Writes a value, and then zeros up to the next byte boundary.
 #[inline(always)]
 fn write_whole<T: ToBitStream<Error = Error>, W: BitWrite>(
     value: &T,
@@ -48,8 +48,7 @@ fn write_whole<T: ToBitStream<Error = Error>, W: BitWrite>(
     writer.byte_align()
 }
 
-/// Returns the first error that a write of the value has where there is room for all bits, or the other
-/// error if there is none.
+/// Returns the first error of writing the value where there is room for all its bits, or `other` if there is none.
 #[inline(never)]
 fn misfit_or<E: Endianness, T: ToBitStream<Error = Error>>(value: &T, other: Error) -> Error
     requires same { (error own : Error) → T.becomes error own → own ≡ error }
@@ -63,22 +62,22 @@ fn misfit_or<E: Endianness, T: ToBitStream<Error = Error>>(value: &T, other: Err
     }
 }
 
-/// Writes a value to the first bytes of a buffer, and zeros up to a whole byte. The other bytes of the
-/// buffer stay as they were. No memory is asked for.
+/// Writes a value to the first bytes of a buffer, and then zeros up to the next byte boundary. The other bytes of the
+/// buffer are unchanged. Does not allocate.
 ///
 /// # Errors
 ///
-/// The first error that a part of the value has, as `Checked` for a number that does not fit its bits, no
-/// matter how long the buffer is. If all parts fit, `Stream(WriteZero)` if the buffer is too short. Bytes
-/// of the buffer may be written then.
+/// The first error of a part of the value, such as `Checked` for a number that does not fit its bits, whatever the
+/// length of the buffer. If all parts fit, `Stream(WriteZero)` if the buffer is too short. After an error, some bytes
+/// of the buffer may be written.
 #[inline(always)]
 pub fn pack_into<'a, E: Endianness, T: ToBitStream<Error = Error>>(
     value: &T,
     buffer: &'a mut [u8],
 ) -> Result<SliceMut<'a>, Error>
-    // The type's errors are the sink's.
+    // The type's errors are the errors of the sink.
     requires same { (error own : Error) → T.becomes error own → own ≡ error }
-    // It has none of its own.
+    // The type has no errors of its own.
     requires plain { T.answers value.now ≡ Ok tt }
     ensures { PacksInto E.order (T.writes E.order value.now) buffer.entry.ghost_name buffer.old result }
 {

@@ -26,14 +26,14 @@ pub trait FromBitStream: Sized {
     ///
     /// # Errors
     ///
-    /// An error of the reader, mapped to the type's, or the type's own. The parts before the error
-    /// stay read.
+    /// An error of the reader, mapped to the type's error, or an error of the type's own. The parts
+    /// before the error stay read.
     fn from_reader<R: BitRead>(reader: &mut R) -> Result<Self, Self::Error>
         ensures reads { OwnReads grows R.source becomes (reads R.source.order)
             reader.old result reader.new };
 }
 
-/// A type whose values are read from bits with a context, which is lent.
+/// A type whose values are read from bits with a borrowed context.
 /// [`parse_with`](crate::read::BitReadExt::parse_with) reads them from any reader.
 pub trait FromBitStreamWith: Sized {
     /// The context: data known before a value is read.
@@ -61,7 +61,7 @@ pub trait FromBitStreamWith: Sized {
             reader.old result reader.new };
 }
 
-/// A type whose values are read from bits with a context, which is used up.
+/// A type whose values are read from bits with a context taken by value.
 /// [`parse_using`](crate::read::BitReadExt::parse_using) reads them from any reader.
 pub trait FromBitStreamUsing: Sized {
     /// The context: data known before a value is read.

@@ -37,7 +37,7 @@ pub trait BitReadExt: BitRead {
     /// As [`Integer::read`].
     fn read<B: Width, I: Integer>(&mut self) -> Result<I, Error>
         requires { I.IsWidth B.BITS }
-        // It is a read of the type's entry at `B::BITS` bits.
+        // It follows the type's decoder at `B::BITS` bits.
         ensures reads { Reads Self.source (I.reads Self.source.order B.BITS)
             self.old result self.new }
         // A value that is returned fits `B::BITS` bits.
@@ -49,7 +49,7 @@ pub trait BitReadExt: BitRead {
     ///
     /// As [`Integer::read_var`].
     fn read_var<I: Integer>(&mut self, bits: u32) -> Result<I, Error>
-        // It is a read of the type's entry at `bits` bits.
+        // It follows the type's decoder at `bits` bits.
         ensures reads { Reads Self.source (I.reads Self.source.order bits)
             self.old result self.new }
         // A value that is returned fits `bits` bits.
@@ -61,7 +61,7 @@ pub trait BitReadExt: BitRead {
     ///
     /// As [`Integer::read_var`].
     fn read_counted<C: Count, I: Integer>(&mut self, bits: C) -> Result<I, Error>
-        // It is a read of the type's entry at `bits` bits.
+        // It follows the type's decoder at `bits` bits.
         ensures reads { Reads Self.source (I.reads Self.source.order (C.number bits))
             self.old result self.new }
         // A value that is returned fits `bits` bits.

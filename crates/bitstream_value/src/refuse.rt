@@ -1,4 +1,5 @@
-//! Errors that read and write nothing, and come after `Failed`.
+//! Calls that read or write nothing and return an error, or `Failed` if the reader or sink has
+//! failed.
 ghost use Rattle.std.specs.Prelude.{◌≡◌, false, Err, IsErr};
 ghost use Rattle.bitstream_count.specs.Codec.{fail};
 ghost use Rattle.bitstream_stream.specs.Reading.Reads.{Reads, is_run_too_long};

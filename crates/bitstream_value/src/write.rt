@@ -65,7 +65,7 @@ pub trait BitWriteExt: BitWrite {
         ensures writes { WritesAll Self.sink (I.writes_vbr Self.sink.order F.BITS value)
             self.old result self.new };
 
-    /// Writes a checked value, with the number of bits in its count. It is never rejected.
+    /// Writes a checked value in the number of bits of its count. The value is never rejected.
     ///
     /// # Errors
     ///

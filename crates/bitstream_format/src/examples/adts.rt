@@ -28,11 +28,11 @@ pub struct AdtsHeader {
     pub copyright_id: bool,
     /// True if that number starts here.
     pub copyright_start: bool,
-    /// The bytes of the frame with this header. Below 2^13.
+    /// The number of bytes of the frame, including this header. Below 2^13.
     pub frame_length: u16,
     /// The fullness of the buffer. Below 2^11.
     pub fullness: u16,
-    /// The blocks of the frame but one. Below 2^2.
+    /// The number of blocks of the frame, minus 1. Below 2^2.
     pub blocks: u8,
 }
 
@@ -60,8 +60,8 @@ impl AdtsHeader {
     ///
     /// # Errors
     ///
-    /// `NoSync`, `UnknownLayer`, after the bits that differ. Else the errors of the reader: after each of
-    /// them it has failed.
+    /// `NoSync` or `UnknownLayer`: the bits that differ are read then. Otherwise, the errors of the reader: the
+    /// reader has failed after any of them.
     pub fn read<R: BitRead>(reader: &mut R) -> Result<AdtsHeader, AdtsError>
         ensures { ReadsOwn R.source becomes_adts (adts.read R.source.order) reader.old result reader.new }
     {
@@ -101,8 +101,8 @@ impl AdtsHeader {
     ///
     /// # Errors
     ///
-    /// `Checked` for a field that does not fit its bits: the fields before it are written then. Else the
-    /// errors of the writer.
+    /// `Checked` for a field that does not fit its bits: the fields before it are written then. Otherwise, the errors
+    /// of the writer.
     pub fn write<W: BitWrite>(&self, writer: &mut W) -> Result<(), Error>
         ensures { WritesAll W.sink (adts.write W.sink.order self.now) writer.old result writer.new }
     {
@@ -125,8 +125,8 @@ impl AdtsHeader {
     }
 }
 
-/// States that what was written is read back, in either order of bits, at any place, and only its bits are
-/// taken: 56.
+/// States that what was written is read back, in either order of bits, at any position, and that a read takes only
+/// its 56 bits.
 pub fn adts_laws()
     ensures round_trip { RoundTripLaw adts }
     ensures length { LengthLaw adts }

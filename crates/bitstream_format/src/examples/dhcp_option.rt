@@ -41,7 +41,7 @@ impl DhcpOption {
     ///
     /// # Errors
     ///
-    /// `UnknownOption`, or `WrongSize` for a value that does not fill them.
+    /// `UnknownOption` for another code. `WrongSize` if the value does not fill the bytes.
     fn filling(code: u8, bytes: &[u8]) -> Result<DhcpOption, DhcpError>
         ensures { result ≡ only (format_if_made (inside code)) WrongSize Reader High (bits High bytes.now) }
     {
@@ -65,8 +65,8 @@ impl DhcpOption {
     ///
     /// # Errors
     ///
-    /// `UnknownOption` and `WrongSize`, after as many bytes as the buffer has. Else the errors of the
-    /// reader: after each of them it has failed.
+    /// `UnknownOption` and `WrongSize`: as many bytes as the buffer has are read then. Otherwise, the errors of the
+    /// reader: the reader has failed after any of them.
     fn read_filling(
         reader: &mut SliceReader<'_, BE>,
         code: u8,
@@ -80,12 +80,12 @@ impl DhcpOption {
         DhcpOption::filling(code, buffer)
     }
 
-    /// Reads an option. No bit after the bytes that its size states is read.
+    /// Reads an option. Reads no bit after the bytes that its size states.
     ///
     /// # Errors
     ///
-    /// `UnknownOption` and `WrongSize`, after these bytes. Else the errors of the reader: after each of them
-    /// it has failed.
+    /// `UnknownOption` and `WrongSize`: these bytes are read then. Otherwise, the errors of the reader: the reader
+    /// has failed after any of them.
     pub fn read(reader: &mut SliceReader<'_, BE>) -> Result<DhcpOption, DhcpError>
         ensures { ReadsOwn (memory_source High) becomes_dhcp (dhcp_option.read High) reader.old result reader.new }
     {
@@ -96,8 +96,8 @@ impl DhcpOption {
     }
 }
 
-/// States that what was written is read back, in either order of bits, at any place, and only its bits are
-/// taken. The value is read over the bytes alone that its size states.
+/// States that what was written is read back, in either order of bits, at any position, and that a read takes only
+/// its bits. The value is read only from the bytes that its size states.
 pub fn dhcp_option_laws()
     ensures round_trip { RoundTripLaw dhcp_option }
     ensures length { LengthLaw dhcp_option }

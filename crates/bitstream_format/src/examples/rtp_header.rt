@@ -17,7 +17,7 @@ pub struct RtpHeader {
     pub padding: bool,
     /// True if an extension of the header follows.
     pub extension: bool,
-    /// A mark of the profile's own, as the end of a frame.
+    /// A mark that the profile defines, such as the end of a frame.
     pub marker: bool,
     /// The type of the payload. Below 2^7.
     pub payload_type: u8,
@@ -65,7 +65,7 @@ impl From<Error> for RtpError {
     }
 }
 
-/// Reads `count` items of `csrc`. If the allocation for an item fails, that one is the last that is read.
+/// Reads `count` items of `csrc`. If the allocation for an item fails, that item is the last one read.
 fn read_csrc<R: BitRead>(reader: &mut R, alloc: Global, count: u64) -> Result<Vec<u32>, Error>
     ensures { GrowingOutcome R.source (items_decoder (list_item (unsigned_decoder R.source.order 32 32)) count)
         reader.old (result_map (λ found. found.items) result) reader.new }
@@ -93,8 +93,9 @@ impl RtpHeader {
     ///
     /// # Errors
     ///
-    /// `WrongVersion`, after the bits that differ. `Reader(OutOfMemory)` if an allocation fails, after the
-    /// items before. Else the errors of the reader: after each of them it has failed.
+    /// `WrongVersion`: the bits that differ are read then. `Reader(OutOfMemory)` if the allocation for an item fails:
+    /// the bits up to the end of that item are read then. Otherwise, the errors of the reader: the reader has failed
+    /// after any of them.
     pub fn read<R: BitRead>(reader: &mut R, alloc: Global) -> Result<RtpHeader, RtpError>
         ensures { GrowsOwn R.source becomes_rtp_header (rtp_header.read R.source.order) reader.old result reader.new }
     {
@@ -124,8 +125,8 @@ impl RtpHeader {
     ///
     /// # Errors
     ///
-    /// `Checked` for a field that does not fit its bits: the fields before it are written then. Else the
-    /// errors of the writer.
+    /// `Checked` for a field that does not fit its bits: the fields before it are written then. Otherwise, the errors
+    /// of the writer.
     pub fn write<W: BitWrite>(&self, writer: &mut W) -> Result<(), Error>
         ensures { WritesAll W.sink (rtp_header.write W.sink.order self.now) writer.old result writer.new }
     {
@@ -143,8 +144,8 @@ impl RtpHeader {
     }
 }
 
-/// States that what was written is read back, in either order of bits, at any place, and only its bits are
-/// taken.
+/// States that what was written is read back, in either order of bits, at any position, and that a read takes only
+/// its bits.
 pub fn rtp_header_laws()
     ensures round_trip { RoundTripLaw rtp_header }
     ensures length { LengthLaw rtp_header }

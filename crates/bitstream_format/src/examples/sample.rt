@@ -26,7 +26,7 @@ impl Sample {
     ///
     /// # Errors
     ///
-    /// The errors of the reader: after each of them it has failed.
+    /// The errors of the reader: the reader has failed after any of them.
     pub fn read<R: BitRead>(reader: &mut R) -> Result<Sample, Error>
         ensures { Reads R.source (sample.read R.source.order) reader.old result reader.new }
     {
@@ -61,8 +61,8 @@ impl Sample {
     ///
     /// # Errors
     ///
-    /// `Checked` for a field that does not fit its bits: the fields before it are written then. Else the
-    /// errors of the writer.
+    /// `Checked` for a field that does not fit its bits: the fields before it are written then. Otherwise, the errors
+    /// of the writer.
     pub fn write<W: BitWrite>(&self, writer: &mut W) -> Result<(), Error>
         ensures { WritesAll W.sink (sample.write W.sink.order self.now) writer.old result writer.new }
     {
@@ -74,8 +74,8 @@ impl Sample {
     }
 }
 
-/// States that what was written is read back, in either order of bits, at any place, and only its bits are
-/// taken. If 48 bits are there, the fields are read from their places; fewer are too few.
+/// States that what was written is read back, in either order of bits, at any position, and that a read takes only
+/// its bits. If 48 bits are left, the fields are read from their places. Fewer bits are incomplete.
 pub fn sample_laws()
     ensures round_trip { RoundTripLaw sample }
     ensures length { LengthLaw sample }

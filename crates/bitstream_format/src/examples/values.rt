@@ -1,6 +1,6 @@
-//! Formats that are values alone, with their laws: GRE (parts behind flags), an address of STUN (a choice
-//! in a part of a stated size), what a relay adds to a DHCP message (a list that fills a size), and the
-//! first message of TLS (extensions as a choice, in such a list).
+//! Formats that are only values, with their laws: GRE (parts behind flags), an address of STUN (a choice in a part of
+//! a stated size), what a relay adds to a DHCP message (a list that fills a size), and the first message of TLS
+//! (extensions as a choice, in such a list).
 ghost use Rattle.bitstream_format.specs.Format.{RoundTripLaw, LengthLaw};
 ghost use Rattle.bitstream_format.specs.Sizes.{ListLimitLaw};
 ghost use Rattle.bitstream_format.specs.Examples.Gre.{gre};
@@ -9,8 +9,8 @@ ghost use Rattle.bitstream_format.specs.Examples.Relay.{relay, sub_option, Reade
 ghost use Rattle.bitstream_format.specs.Examples.Stun.{xor_mapped_address};
 ghost use Rattle.std.specs.Prelude.{ℕ};
 
-/// States that what was written is read back, in either order of bits, at any place, and only its bits are
-/// taken. The next three functions state the same of their formats.
+/// States that what was written is read back, in either order of bits, at any position, and that a read takes only
+/// its bits. The next three functions state the same for their formats.
 pub fn gre_laws()
     ensures round_trip { RoundTripLaw gre }
     ensures length { LengthLaw gre }
@@ -22,7 +22,7 @@ pub fn stun_laws()
     ensures length { LengthLaw xor_mapped_address }
 {}
 
-/// The laws of what a relay adds. Its list is read over the bytes alone that its size states.
+/// The laws of what a relay adds. Its list is read only from the bytes that its size states.
 pub fn relay_laws()
     ensures round_trip { RoundTripLaw relay }
     ensures length { LengthLaw relay }

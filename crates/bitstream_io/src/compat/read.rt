@@ -16,14 +16,14 @@ use bitstream_value::parse::{FromBitStream, FromBitStreamWith};
 use bitstream_value::read::BitReadExt;
 use std::alloc::Allocator;
 
-/// Reads bits, by the names of earlier versions. Every reader of bits has these calls. Code that
+/// Reads bits, under the names of earlier versions. Every reader of bits has these calls. Code that
 /// uses them imports this trait instead of [`BitRead`] and [`BitReadExt`], since some of the names
 /// are the same.
 ///
 /// # Errors
 ///
-/// Each call returns the result of the current call that it names, and leaves the reader in the
-/// same state.
+/// Each call returns the same result as the current call that its comment names, and leaves the
+/// reader in the same state.
 ///
 /// # Examples
 ///
@@ -102,7 +102,7 @@ pub trait BitRead2 {
     fn read_unary1(&mut self) -> Result<u32, Error>
         ensures reads { Reads source (unary_decoder true) self.old result self.new };
 
-    /// Returns whether the reader is at a byte boundary, as [`BitRead::byte_aligned`].
+    /// Returns true if the reader is at a byte boundary, as [`BitRead::byte_aligned`].
     fn byte_aligned(&self) -> bool
         ensures { IsTrue result ↔ (((source.state self.now).failed ≡ false)
             × ((source.state self.now).taken % 8 ≡ 0)) };

@@ -15,14 +15,14 @@ use bitstream_value::huffman::ToBits;
 use bitstream_value::integer::Integer;
 use bitstream_value::write::BitWriteExt;
 
-/// Writes bits, by the names of earlier versions. Every sink of bits has these calls. Code that
+/// Writes bits, under the names of earlier versions. Every sink of bits has these calls. Code that
 /// uses them imports this trait instead of [`BitWrite`] and [`BitWriteExt`], since some of the
 /// names are the same.
 ///
 /// # Errors
 ///
-/// Each call returns the result of the current call that it names, and leaves the sink in the same
-/// state.
+/// Each call returns the same result as the current call that its comment names, and leaves the
+/// sink in the same state.
 ///
 /// # Examples
 ///
@@ -107,7 +107,7 @@ pub trait BitWrite2 {
     fn write_unary1(&mut self, value: u32) -> Result<(), Error>
         ensures writes { Writes sink (unary_word true value) self.old result self.new };
 
-    /// Returns whether the sink is at a byte boundary, as [`BitWrite::byte_aligned`].
+    /// Returns true if the sink is at a byte boundary, as [`BitWrite::byte_aligned`].
     fn byte_aligned(&self) -> bool
         ensures aligned { IsTrue result ↔ ((sink.failed self.now ≡ false)
             × (sink.len self.now % 8 ≡ 0)) };

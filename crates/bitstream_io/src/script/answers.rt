@@ -9,25 +9,25 @@ pub enum Answer {
     Done,
     /// One bit: `true` for 1.
     Bit(bool),
-    /// An unsigned number of 8 bits at most.
+    /// An unsigned number of at most 8 bits.
     U8(u8),
-    /// An unsigned number of 16 bits at most.
+    /// An unsigned number of at most 16 bits.
     U16(u16),
-    /// An unsigned number of 32 bits at most.
+    /// An unsigned number of at most 32 bits.
     U32(u32),
-    /// An unsigned number of 64 bits at most.
+    /// An unsigned number of at most 64 bits.
     U64(u64),
-    /// An unsigned number of 128 bits at most.
+    /// An unsigned number of at most 128 bits.
     U128(u128),
-    /// A signed number of 8 bits at most.
+    /// A signed number of at most 8 bits.
     I8(i8),
-    /// A signed number of 16 bits at most.
+    /// A signed number of at most 16 bits.
     I16(i16),
-    /// A signed number of 32 bits at most.
+    /// A signed number of at most 32 bits.
     I32(i32),
-    /// A signed number of 64 bits at most.
+    /// A signed number of at most 64 bits.
     I64(i64),
-    /// A signed number of 128 bits at most.
+    /// A signed number of at most 128 bits.
     I128(i128),
     /// A unary number.
     Unary(u32),

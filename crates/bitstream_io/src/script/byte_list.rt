@@ -3,7 +3,7 @@ ghost use Rattle.std.specs.Prelude.{◌≡◌, ℕ, List};
 
 use std::marker::Model;
 
-/// The bytes of a call for a buffer.
+/// The bytes of a call that reads or writes a buffer.
 #[derive(Drop)]
 pub struct ByteList {
     bytes: Vec<u8>,

@@ -65,8 +65,8 @@ pub fn appending_composes<W: BitWrite>()
         → W.sink.appends old (first ++ second) new }
 {}
 
-/// If the stream refuses only where its bytes end, as a `Slice` does, a list of reads that do not
-/// allocate returns what all its bytes decide: the results of its read sequence, then `EndOfInput`,
+/// If the stream fails only at the end of its bytes, as a `Slice` does, its bytes decide what a
+/// list of reads that do not allocate returns: the results of the read sequence, then `EndOfInput`,
 /// and then `Failed`.
 pub fn lists_of_reads_are_known<R: BitRead>()
     ensures { (calls : List ReadCall) (old new : R)
@@ -79,9 +79,9 @@ pub fn lists_of_reads_are_known<R: BitRead>()
         ((R.source.state old).queue ++ bits_of R.source.order bytes)) }
 {}
 
-/// Reading back: the matching reads of the accepted calls return the values written (0 for a field of
-/// 0 bits), whatever bits follow. The reads begin at the same place in a byte as the writes, which may
-/// be another number of bits.
+/// The matching reads of the accepted calls return the values written (0 for a field of 0 bits), whatever bits
+/// follow. The reads begin at the same position in a byte as the writes, though the numbers of bits before them may
+/// differ.
 pub fn written_calls_are_read()
     // The matching reads of the accepted calls return the values that the calls wrote.
     ensures answers { (o : Order) (calls : List WriteCall) (len p : ℕ) (more : List Bool)
@@ -97,7 +97,7 @@ pub fn written_calls_are_read()
         (words ++ more)) ≡ p + length words }
 {}
 
-/// If the stream refuses only where its bytes end, as a `Slice` does, matching reads that do not
+/// If the stream fails only at the end of its bytes, as a `Slice` does, matching reads that do not
 /// allocate return each value that was written, if the bits left begin with its call's words.
 pub fn written_calls_round_trip<R: BitRead>()
     ensures { (written : List WriteCall) (len : ℕ) (old new : R)
@@ -115,7 +115,7 @@ pub fn written_calls_round_trip<R: BitRead>()
 pub fn written_words_are_read()
     // A bit is read back.
     ensures bit { (b : Bool) → IsReadAs (bit b ∷ []) bit_decoder b }
-    // A number that fits n bits of its type is read back. One written in no bits is read as 0.
+    // A number that fits n bits of its type is read back. A number written in 0 bits is read as 0.
     ensures unsigned { (o : Order) (size n v : ℕ) → n ≤ size → (v < 2 ^ n) ⊎ (n ≡ 0)
         → IsReadAs (unsigned o size n v ∷ []) (unsigned_decoder o size n) (value_in n v) }
     // A signed number that fits n bits of its type, where n is not 0, is read back.
@@ -156,14 +156,14 @@ pub fn written_words_are_read()
 pub fn written_values_are_read<A>()
     // A `bool` is read back from one bit.
     ensures bool { (b : Bool) → IsReadAs (truth 1 b ∷ []) (truth_decoder 1) b }
-    // A `NonZero` whose number less 1 fits n bits, fewer than its type's, is read back. One written
-    // in no bits is read as 1.
+    // A `NonZero` whose number minus 1 fits n bits, fewer than its type has, is read back. A
+    // `NonZero` written in 0 bits is read as 1.
     ensures non_zero { (after : ℕ → A) (o : Order) (size n v : ℕ) → n < size
         → (v - 1 < 2 ^ n) ⊎ (n ≡ 0)
         → IsReadAs (non_zero o size n v ∷ []) (non_zero_decoder after o size n)
         (after (value_in n (v - 1))) }
-    // An `Option` of a `NonZero` whose number fits n bits of its type is read back. One written in
-    // no bits is read as `None`.
+    // An `Option` of a `NonZero` whose number fits n bits of its type is read back. An `Option`
+    // written in 0 bits is read as `None`.
     ensures option { (after : ℕ → A) (o : Order) (size n v : ℕ) → n ≤ size
         → (v < 2 ^ n) ⊎ (n ≡ 0)
         → IsReadAs (unsigned o size n v ∷ []) (option_decoder after o size n)
@@ -206,7 +206,7 @@ pub fn written_parts_are_read<A, B>()
         → IsReadAs (writes ++ others) (and_then first next) b }
 {}
 
-/// The values of calls are values of their types, as the laws on lists of calls ask.
+/// The values of calls are values of their types, as the laws on lists of calls require.
 pub fn calls_have_values_of_their_types(calls: &[WriteCall])
     ensures { All IsCall calls.now }
 {

@@ -9,30 +9,30 @@ use bitstream_number::number::Bits;
 use bitstream_stream::read::BitRead;
 use std::alloc::Global;
 
-/// A read call with its arguments: the width of a number in bits.
+/// A read call with its arguments. The argument of a number is its width in bits.
 #[derive(Clone, Copy, Debug, PartialEq)]
 pub enum ReadCall {
     /// One bit.
     Bit,
-    /// An unsigned number of 8 bits at most.
+    /// An unsigned number of at most 8 bits.
     U8(u32),
-    /// An unsigned number of 16 bits at most.
+    /// An unsigned number of at most 16 bits.
     U16(u32),
-    /// An unsigned number of 32 bits at most.
+    /// An unsigned number of at most 32 bits.
     U32(u32),
-    /// An unsigned number of 64 bits at most.
+    /// An unsigned number of at most 64 bits.
     U64(u32),
-    /// An unsigned number of 128 bits at most.
+    /// An unsigned number of at most 128 bits.
     U128(u32),
-    /// A signed number of 8 bits at most.
+    /// A signed number of at most 8 bits.
     I8(u32),
-    /// A signed number of 16 bits at most.
+    /// A signed number of at most 16 bits.
     I16(u32),
-    /// A signed number of 32 bits at most.
+    /// A signed number of at most 32 bits.
     I32(u32),
-    /// A signed number of 64 bits at most.
+    /// A signed number of at most 64 bits.
     I64(u32),
-    /// A signed number of 128 bits at most.
+    /// A signed number of at most 128 bits.
     I128(u32),
     /// A unary number whose stop bit is 0.
     Unary0,
@@ -50,20 +50,20 @@ pub enum ReadCall {
     SignedVbr4,
     /// A signed number of variable width, in groups of 8 bits.
     SignedVbr8,
-    /// A number of bytes.
+    /// This number of bytes.
     Bytes(usize),
-    /// A number of bits, whatever they are.
+    /// This number of bits, whatever their values.
     Skip(u32),
-    /// The bits up to the next byte boundary, whatever they are.
+    /// The bits up to the next byte boundary, whatever their values.
     Align,
 }
 
 impl ReadCall {
-    /// Makes the call. Only `Bytes` asks the allocator for memory.
+    /// Makes the call. Only `Bytes` allocates.
     ///
     /// # Errors
     ///
-    /// As the call of [`BitRead`] has them.
+    /// The errors of the call of [`BitRead`].
     pub(crate) fn make<R: BitRead>(&self, alloc: Global, reader: &mut R) -> Result<Answer, Error>
         ensures reads { ReadOutcome R.source (asks_memory self.now)
             (read_decoder R.source.order self.now) reader.old result reader.new }

@@ -14,12 +14,13 @@ use bitstream_count::error::Error;
 use bitstream_stream::read::BitRead;
 use std::alloc::Global;
 
-/// Makes all calls in order, even after one that returned an error, and puts the result of each
-/// into its place.
+/// Makes all calls in order, even after one that failed, and stores the result of each call in its
+/// place in `answers`.
 ///
 /// The results are the same as on the plain list of bits, however the stream is chunked, up to the
-/// first request that is refused. That call returns the error of the refusal, and each value call
-/// after it returns `Failed`. Only `Bytes` allocates, and only for bytes that are there.
+/// first I/O error or failed allocation. That call returns the error. After it, or after
+/// `RunTooLong`, each call except `Align` returns `Failed`. Only `Bytes` allocates, and only for
+/// bytes that the stream has.
 pub fn read_calls<R: BitRead>(
     alloc: Global,
     reader: &mut R,
@@ -27,7 +28,7 @@ pub fn read_calls<R: BitRead>(
     answers: &mut [Option<Result<Answer, Error>>],
 )
     requires { length answers.old ≡ length calls.now }
-    // Each call is made, and is a read of its entry.
+    // Each call is made, and follows its decoder.
     ensures each { ReadsEach R.source calls.now reader.old answers.new reader.new }
     // Each call returns the result of the read sequence on the bits left.
     ensures run { (bytes : List ℕ) → (R.source.state reader.old).bytes ≡ Some bytes

@@ -12,25 +12,25 @@ use bitstream_stream::write::BitWrite;
 pub enum WriteCall {
     /// One bit: 1 for `true`.
     Bit(bool),
-    /// An unsigned number of 8 bits at most.
+    /// An unsigned number of at most 8 bits.
     U8(u32, u8),
-    /// An unsigned number of 16 bits at most.
+    /// An unsigned number of at most 16 bits.
     U16(u32, u16),
-    /// An unsigned number of 32 bits at most.
+    /// An unsigned number of at most 32 bits.
     U32(u32, u32),
-    /// An unsigned number of 64 bits at most.
+    /// An unsigned number of at most 64 bits.
     U64(u32, u64),
-    /// An unsigned number of 128 bits at most.
+    /// An unsigned number of at most 128 bits.
     U128(u32, u128),
-    /// A signed number of 8 bits at most.
+    /// A signed number of at most 8 bits.
     I8(u32, i8),
-    /// A signed number of 16 bits at most.
+    /// A signed number of at most 16 bits.
     I16(u32, i16),
-    /// A signed number of 32 bits at most.
+    /// A signed number of at most 32 bits.
     I32(u32, i32),
-    /// A signed number of 64 bits at most.
+    /// A signed number of at most 64 bits.
     I64(u32, i64),
-    /// A signed number of 128 bits at most.
+    /// A signed number of at most 128 bits.
     I128(u32, i128),
     /// A unary number whose stop bit is 0.
     Unary0(u32),
@@ -46,9 +46,9 @@ pub enum WriteCall {
     SignedVbr8(i64),
     /// Bytes.
     Bytes(ByteList),
-    /// A number of zeros.
+    /// This number of bits of 0.
     Pad(u32),
-    /// Zeros up to a multiple of 8 bits.
+    /// Bits of 0 up to the next byte boundary.
     Align,
 }
 
@@ -57,7 +57,7 @@ impl WriteCall {
     ///
     /// # Errors
     ///
-    /// As the call of [`BitWrite`] has them.
+    /// The errors of the call of [`BitWrite`].
     pub(crate) fn make<W: BitWrite>(&self, writer: &mut W) -> Result<(), Error>
         ensures writes { Writes W.sink (write_encoder W.sink.order self.now)
             writer.old result writer.new }

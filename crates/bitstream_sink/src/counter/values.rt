@@ -5,11 +5,11 @@ ghost use Rattle.bitstream_stream.specs.Alignment.{to_boundary};
 
 use crate::counter::{Counter, Overflowed};
 
-/// Returns the value of a number of a `usize`.
+/// Converts a `usize` to N.
 ///
 /// # Errors
 ///
-/// `Overflowed` if the number is above the greatest one of N.
+/// `Overflowed` if the number is above the greatest number of N.
 #[inline(always)]
 fn value_of_usize<N: Counter>(number: usize) -> Result<N, Overflowed>
     ensures { Counts N.value N.greatest number result }
@@ -17,11 +17,11 @@ fn value_of_usize<N: Counter>(number: usize) -> Result<N, Overflowed>
     N::try_from(number).ok().ok_or(Overflowed)
 }
 
-/// Returns the value of a number.
+/// Converts a `u128` to N.
 ///
 /// # Errors
 ///
-/// `Overflowed` if the number is above the greatest one of N.
+/// `Overflowed` if the number is above the greatest number of N.
 #[inline(always)]
 pub fn value_of<N: Counter>(number: u128) -> Result<N, Overflowed>
     ensures { Counts N.value N.greatest number result }
@@ -39,11 +39,11 @@ pub fn value_of<N: Counter>(number: u128) -> Result<N, Overflowed>
     Ok(sum)
 }
 
-/// Returns a number raised to a multiple of 8.
+/// Rounds a number up to a multiple of 8.
 ///
 /// # Errors
 ///
-/// `Overflowed` if that is above the greatest number of N.
+/// `Overflowed` if the result is above the greatest number of N.
 pub fn next_byte<N: Counter>(value: N) -> Result<N, Overflowed>
     requires { N.value value ≤ N.greatest }
     ensures { Counts N.value N.greatest (N.value value + to_boundary (N.value value)) result }

@@ -7,32 +7,31 @@ use bitstream_stream::write::BitWrite;
 use std::alloc::{Allocator, Global};
 use std::mem;
 
-/// A sink that can be emptied, and that another can be compared with.
+/// A sink that can be cleared and compared with another one.
 pub trait Recorder: BitWrite + Sized {
     ghost use Rattle.std.specs.Borrow.{MutBor};
     ghost use Rattle.std.specs.Fn.{FnOnceReturnsAtMut};
     ghost use Rattle.bitstream_sink.specs.Best.{Best};
 
-    // Nothing was recorded, and nothing refused.
+    // Nothing was recorded, and no allocation failed.
     ghost is_empty: { Self → Type 0 };
 
-    /// Forgets the recorded bits, and a failure.
+    /// Clears the recorded bits and any failure.
     fn begin_anew(&mut self)
         ensures { is_empty self.new };
 
-    /// Returns whether this recorder has not failed and has fewer bits than another.
+    /// Returns true if this recorder has not failed and has fewer bits than `other`.
     fn is_better_than(&self, other: &Self) -> bool
         ensures { IsTrue result ↔ ((Self.sink.failed self.now ≡ false)
             × (Self.sink.len self.now < Self.sink.len other.now)) };
 
-    /// Clears `candidate`, records into it with `f`, and returns the shorter of the two; this recorder
-    /// on a tie, or if the candidate has failed. If the candidate wins, `*candidate` becomes the old
-    /// recorder. Else it stays as the function left it.
+    /// Clears `candidate`, records into it with `f`, and returns the shorter of the two recorders. Returns this
+    /// recorder on a tie, or if the candidate has failed. If the candidate wins, `*candidate` becomes this recorder.
+    /// Otherwise, it stays as `f` left it.
     ///
     /// # Errors
     ///
-    /// The errors of the function: the candidate stays as the function left it then, and this
-    /// recorder is lost.
+    /// The errors of `f`. The candidate stays as `f` left it then, and this recorder is lost.
     final fn best<F, X>(self, candidate: &mut Self, f: X) -> Result<Self, F>
     where
         Self: Drop,
@@ -71,8 +70,8 @@ impl<N, E: Endianness> BitRecorder<N, E, Global> {
     ghost use Rattle.bitstream_sink.specs.Best.{Best};
     ghost use Rattle.bitstream_sink.specs.Recorder.{IsEmptyRecorder};
 
-    /// Returns the better of this recorder and a candidate, as [`Recorder::best`] does, with no need
-    /// to import that trait.
+    /// Returns the better of this recorder and a candidate, as [`Recorder::best`] does, but without an import of that
+    /// trait.
     ///
     /// # Errors
     ///

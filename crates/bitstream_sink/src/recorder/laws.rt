@@ -1,6 +1,6 @@
 //! The laws of recordings.
 //!
-//! Each function states a law by its contract, and has nothing to do.
+//! The contract of each function is a law. Its body is empty.
 ghost use Rattle.std.specs.Prelude.{◌≡◌, ◌++◌, List, Bool, length};
 ghost use Rattle.bitstream_count.specs.declared.error.Error.{Error};
 ghost use Rattle.bitstream_count.specs.declared.error.Error.TheVariants.{OutOfMemory};
@@ -25,7 +25,7 @@ pub fn recordings_grow<N, E: Endianness, A: Allocator>()
         ≡ length (recorded_bits E.order recorder) }
 {}
 
-/// A recorder fails if its memory was refused, and never else.
+/// The only error that makes a recorder fail is `OutOfMemory`.
 pub fn recorders_lack_memory<N, E: Endianness, A: Allocator>()
     ensures { (old new : BitRecorder N E A) (x : List Bool) (error : Error) →
         WriteRefused ⟦<BitRecorder<N, E, A> as BitWrite>⟧.sink old x error new

@@ -66,7 +66,7 @@ impl<const STOP_BIT: u8, const MAXIMUM: u32> ToBits for LimitedUnary<STOP_BIT, M
 ///
 /// # Errors
 ///
-/// As [`PutBit::put_bit`]. The bits before the refused one stay written.
+/// As [`PutBit::put_bit`]. The bits before the error stay written.
 fn repeat<P: PutBit>(put: &mut P, one: bool, times: u32) -> Result<(), Error>
     ensures writes { WritesAll P.sink (bit_by_bit (replicate times one)) put.old result put.new }
 {

@@ -20,9 +20,9 @@ enum Node<S> {
 /// A prefix code that is a tree of symbols. The word of a symbol is the path from the root to its
 /// leaf: the bit 0 leads to the first side of a branch, and the bit 1 to the second.
 ///
-/// If several leaves have the same symbol, the path of the first one, from the side of 0, is
-/// written. For a symbol that no leaf has, nothing is written. However deep a tree is, reading,
-/// writing and dropping it take no more stack.
+/// If several leaves have the same symbol, a write takes the path of the first one, from the side
+/// of 0. If no leaf has the symbol, nothing is written. Reading, writing and dropping a deep tree
+/// use no more stack than a flat one.
 ///
 /// # Examples
 ///
@@ -55,7 +55,7 @@ impl<S: Copy + Eq, A: Allocator> HuffmanTree<S, A> {
     ///
     /// # Errors
     ///
-    /// If memory is refused.
+    /// `AllocError` if an allocation fails.
     pub fn leaf(alloc: A, symbol: S) -> Result<Self, AllocError>
         ensures tree { IfOk result (λ code. tree_of code ≡ one_leaf symbol) }
     {
@@ -64,11 +64,12 @@ impl<S: Copy + Eq, A: Allocator> HuffmanTree<S, A> {
         Ok(HuffmanTree { nodes })
     }
 
-    /// Makes a tree of two: the words of `zero` follow the bit 0, and the words of `one` the bit 1.
+    /// Joins two trees: the words of `zero` follow the bit 0, and the words of `one` follow the bit
+    /// 1.
     ///
     /// # Errors
     ///
-    /// If memory is refused. Both trees are dropped then.
+    /// `AllocError` if an allocation fails. Both trees are dropped then.
     pub fn node(zero: Self, one: Self) -> Result<Self, AllocError>
         ensures tree { IfOk result (λ code. tree_of code ≡ two_sides (tree_of zero) (tree_of one)) }
     {

@@ -50,7 +50,7 @@ pub trait NonZeroInteger: Copy {
     ghost after_law: { (x : Self) (n : ℕ) → number x ≡ n + 1 → after n ≡ x };
 }
 
-/// Reads a `NonZero`, as its number less 1.
+/// Reads a `NonZero`, as its number minus 1.
 #[inline(always)]
 fn read_non_zero<N: NonZeroInteger, C: Count, R: BitRead>(
     reader: &mut R,
@@ -71,7 +71,7 @@ fn read_non_zero<N: NonZeroInteger, C: Count, R: BitRead>(
     }
 }
 
-/// Writes a `NonZero`, as its number less 1.
+/// Writes a `NonZero`, as its number minus 1.
 #[inline(always)]
 fn write_non_zero<N: NonZeroInteger, C: Count, W: BitWrite>(
     value: N,
@@ -89,7 +89,7 @@ fn write_non_zero<N: NonZeroInteger, C: Count, W: BitWrite>(
     }
 }
 
-/// Reads a `NonZero` of `B::BITS` bits, as its number less 1.
+/// Reads a `NonZero` of `B::BITS` bits, as its number minus 1.
 fn read_non_zero_fixed<B: Width, N: NonZeroInteger, R: BitRead>(reader: &mut R) -> Result<N, Error>
     requires { B.BITS < N.Base.BITS_SIZE }
     // Takes only `B::BITS` bits and returns their number plus 1, or returns an error.
@@ -103,7 +103,7 @@ fn read_non_zero_fixed<B: Width, N: NonZeroInteger, R: BitRead>(reader: &mut R) 
     Ok(N::next(base))
 }
 
-/// Writes a `NonZero` in `B::BITS` bits, as its number less 1.
+/// Writes a `NonZero` in `B::BITS` bits, as its number minus 1.
 #[inline(always)]
 fn write_non_zero_fixed<B: Width, N: NonZeroInteger, W: BitWrite>(
     value: N,
@@ -117,7 +117,7 @@ fn write_non_zero_fixed<B: Width, N: NonZeroInteger, W: BitWrite>(
     write_number_fixed::<B, N::Base, W>(value.base() - N::Base::ONE, writer)
 }
 
-/// Reads a `NonZero` in groups, as its number less 1.
+/// Reads a `NonZero` in groups, as its number minus 1.
 fn read_non_zero_vbr<F: Width, N: NonZeroInteger, R: BitRead>(reader: &mut R) -> Result<N, Error>
     requires some { 2 ≤ F.BITS }
     requires within { F.BITS < N.Base.BITS_SIZE }
@@ -133,7 +133,7 @@ fn read_non_zero_vbr<F: Width, N: NonZeroInteger, R: BitRead>(reader: &mut R) ->
     Ok(N::next(base))
 }
 
-/// Writes a `NonZero` in groups, as its number less 1.
+/// Writes a `NonZero` in groups, as its number minus 1.
 fn write_non_zero_vbr<F: Width, N: NonZeroInteger, W: BitWrite>(
     value: N,
     writer: &mut W,

@@ -6,11 +6,12 @@ ghost use Rattle.bitstream_value.specs.Nodes.{Joined};
 use crate::huffman::tree::{HuffmanTree, Node};
 use std::alloc::{AllocError, Allocator};
 
-/// Appends one tree's nodes to another's, and returns them all with the places of the two roots.
+/// Appends the nodes of one tree to the nodes of another. Returns all nodes, with the places of the
+/// two roots.
 ///
 /// # Errors
 ///
-/// If memory is refused. Both trees are dropped then.
+/// `AllocError` if an allocation fails. Both trees are dropped then.
 pub(super) fn joined<S: Copy, A: Allocator>(
     first: HuffmanTree<S, A>,
     second: HuffmanTree<S, A>,

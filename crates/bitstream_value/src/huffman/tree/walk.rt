@@ -81,11 +81,11 @@ impl<S: Copy + Eq, A: Allocator> HuffmanTree<S, A> {
     /// `leaf` is the symbol's first leaf below the branch.
     ///
     /// If the side of 0 follows the side of 1, all of it is searched. It is then the shorter of the
-    /// two, so the searches of a write are linear in the number of nodes.
+    /// two, so all searches of one write take time linear in the number of nodes.
     fn leaf_on_zero_side(&self, zero: usize, one: usize, leaf: usize, symbol: S) -> Option<usize>
         requires { zero < length (nodes_of self.now) }
-        // If the side of 0 comes first, the result is `leaf` if it is not after `zero`, else
-        // `None`.
+        // If the side of 0 comes first, the result is `leaf` if it is not after `zero`, and
+        // otherwise `None`.
         ensures inside { zero < one → result ≡ (if nat_le leaf zero then Some leaf else None) }
         // If the side of 0 follows the other, its first leaf with the symbol is returned, if it has
         // one.

@@ -1,4 +1,4 @@
-//! The words of a tree's symbols, made once.
+//! The precomputed words of a tree's symbols.
 ghost use Rattle.std.specs.Prelude.{◌<◌, ◌^◌};
 
 use crate::huffman::tree::{HuffmanTree, Node};
@@ -6,7 +6,7 @@ use crate::huffman::{PutBit, ToBits};
 use bitstream_count::error::Error;
 use std::alloc::{AllocError, Allocator};
 
-/// A word of at most 63 bits. As a sink, it appends bits to it.
+/// A word of at most 63 bits. As a sink, it appends the bits written to it.
 #[derive(Clone, Copy, Drop)]
 struct ShortWord {
     bits: u32,
@@ -66,8 +66,8 @@ struct SymbolWord<S> {
     word: ShortWord,
 }
 
-/// The words of a tree's symbols, made once: each is found by its symbol, and written with no walk down the
-/// tree. Who writes many symbols takes these. Words of 64 bits and more are still written by the tree.
+/// The precomputed words of a tree's symbols: each word is found by its symbol, and written without a walk down the
+/// tree. Use them to write many symbols. The tree still writes the words of 64 or more bits.
 ///
 /// # Examples
 ///
@@ -99,12 +99,12 @@ impl<S: Copy + Eq, A: Allocator> HuffmanTree<S, A> {
     ghost use Rattle.bitstream_value.specs.SymbolWords.{FindsShort, ShortestFirst, made_word, short_bits};
     ghost use Rattle.bitstream_value.specs.Tree.{symbol_word};
 
-    /// Makes the words of all symbols, so that each is written faster. That takes as long as it takes the
-    /// tree to write each symbol once.
+    /// Precomputes the words of all symbols, so that each symbol is written faster. This takes as long as writing
+    /// each symbol once with the tree.
     ///
     /// # Errors
     ///
-    /// If memory is refused.
+    /// `AllocError` if an allocation fails.
     pub fn words(&self, alloc: A) -> Result<SymbolWords<'_, S, A>, AllocError>
         // A symbol is written as the tree writes it.
         ensures words { IfOk result (λ words. (symbol : S)
@@ -143,7 +143,7 @@ impl<S: Copy + Eq, A: Allocator> SymbolWords<'_, S, A> {
     ghost use Rattle.std.specs.Prelude.{◌≡◌, option_map};
     ghost use Rattle.bitstream_value.specs.SymbolWords.{found_word, short_bits, words_made};
 
-    /// Returns the word of a symbol, if it was made.
+    /// Returns the word of a symbol, if it was precomputed.
     fn find(&self, symbol: S) -> Option<ShortWord>
         ensures { option_map short_bits result ≡ found_word S.eq (words_made self.now) symbol }
     {
