@@ -1,6 +1,6 @@
-//! The reasons that a value does not fit a count of bits.
+//! The reasons why a value does not fit a count of bits.
 
-/// The reasons that a value does not fit a count of bits.
+/// The reasons why a value does not fit a count of bits.
 #[derive(Clone, Copy, Debug, PartialEq, Eq, Drop, thiserror::Error)]
 pub enum CheckedError {
     /// The count has more bits than the value's type.

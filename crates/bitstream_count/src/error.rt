@@ -11,10 +11,10 @@ use std::io::ErrorKind;
 
 /// The errors of a call.
 ///
-/// After `EndOfInput`, `Stream`, `OutOfMemory` and `RunTooLong`, and after a `Place` from the
-/// stream's end, a bit reader or writer has failed: each later call that reads or writes a value
-/// returns `Failed`. After `VariableWidthOverflow` and `RedundantGroup` the reader continues after
-/// the groups that it took. After any other error of a single call nothing has changed.
+/// After `EndOfInput`, `Stream`, `OutOfMemory` and `RunTooLong`, and after a `Place` of a seek
+/// from the stream's end, a bit reader or writer has failed: each later call that reads or writes a
+/// value returns `Failed`. After `VariableWidthOverflow` and `RedundantGroup` the reader continues
+/// after the groups that it took. After any other error of a single call nothing has changed.
 #[derive(Debug, Drop, thiserror::Error)]
 pub enum Error {
     /// A read of more bits than the type has.
@@ -26,16 +26,16 @@ pub enum Error {
     /// A signed value of 0 bits.
     #[error("signed values need at least 1 bit for sign")]
     NoSignBit,
-    /// A `bool` of any number of bits but 1.
+    /// A `bool` in a number of bits other than 1.
     #[error("booleans require exactly 1 bit")]
     BoolWidth,
-    /// A `NonZero` of its type's size in bits, or of more.
+    /// A `NonZero` in as many bits as its type has, or in more.
     #[error("bit count must be less than the type's size in bits")]
     NonZeroWidth,
     /// A variable-width value outside its type's range.
     #[error("variable bit rate overflow")]
     VariableWidthOverflow,
-    /// A variable-width value of two groups or more, the last of them 0.
+    /// A variable-width value of two or more groups, of which the last is 0.
     #[error("redundant variable width group")]
     RedundantGroup,
     /// A count above the limit of the counter's type.
@@ -47,16 +47,16 @@ pub enum Error {
     /// The stream refused a read with `UnexpectedEof`.
     #[error("end of input")]
     EndOfInput,
-    /// The stream refused a request with this kind.
+    /// The stream refused a request with an error of this kind.
     #[error("stream fault")]
     Stream(ErrorKind),
-    /// Memory was refused.
+    /// A memory allocation failed.
     #[error("out of memory")]
     OutOfMemory,
-    /// A position before the first bit, or past the greatest one.
+    /// A position before the first bit, or past the greatest position.
     #[error("bit position out of range")]
     Place,
-    /// The reader or writer had failed before.
+    /// The reader or writer had already failed.
     #[error("failed before")]
     Failed,
 }

@@ -1,7 +1,7 @@
-//! Laws of counts, and of unary and variable-width words, whatever uses them.
+//! Laws of counts, and of unary and variable-width words, independent of any reader or writer.
 //!
-//! The contract of each function is a law. A law of counts makes the calls that it is about. A law
-//! of words has an empty body.
+//! The contract of each function is a law. A law of counts calls the functions that it is about. A
+//! law of words has an empty body.
 
 ghost use Rattle.std.specs.Hash as fed;
 ghost use Rattle.std.specs.List.{fold};
@@ -16,14 +16,14 @@ ghost use Rattle.bitstream_count.specs.Vbr.{Vbr, IsAccepted, vbr_word, read_vbr}
 use crate::count::{BitCount, FixedBitCount, FixedSignedBitCount, SignedBitCount};
 use std::hash::{Hash, Hasher};
 
-/// Two counts are equal exactly if their numbers are.
+/// Two counts are equal exactly if their numbers of bits are equal.
 pub fn equal_counts_are_equal_numbers<const MAX: u32>(a: &BitCount<MAX>, b: &BitCount<MAX>) -> bool
     ensures { IsTrue result ↔ (a.now ≡ b.now) }
 {
     a == b
 }
 
-/// Two signed counts are equal exactly if their numbers are.
+/// Two signed counts are equal exactly if their numbers of bits are equal.
 pub fn equal_signed_counts_are_equal_numbers<const MAX: u32>(
     a: &SignedBitCount<MAX>,
     b: &SignedBitCount<MAX>,
@@ -98,7 +98,7 @@ pub fn fixed_signed_counts_round_trip<const BITS: u32>(
     FixedSignedBitCount::try_from(SignedBitCount::from(count))
 }
 
-/// No unary word is the beginning of another one with the same stop bit.
+/// No unary word is a prefix of another unary word with the same stop bit.
 pub fn unary_words_begin_no_other()
     ensures { (stop : Bool) (j k : ℕ) (x y : List Bool)
         → unary stop j ++ x ≡ unary stop k ++ y → j ≡ k }
@@ -117,14 +117,14 @@ pub fn unary_words_alone_are_read()
     ensures number { (stop : Bool) (bits : List Bool) (n k : ℕ)
         → read_unary stop bits ≡ Done n (Ok k)
         → (k < 2 ^ 32) × (n ≤ length bits) × (take n bits ≡ unary stop k) }
-    // An error is `RunTooLong`, and 2^32 bits are taken then, none of them the stop bit.
+    // The only error is `RunTooLong`. Then 2^32 bits are taken, and none of them is the stop bit.
     ensures error { (stop : Bool) (bits : List Bool) (n : ℕ) (error : Error)
         → read_unary stop bits ≡ Done n (Err error)
         → (error ≡ RunTooLong) × (n ≡ 2 ^ 32) × (n ≤ length bits)
         × (take n bits ≡ replicate n (not stop)) }
 {}
 
-/// No word of variable width is the beginning of another one with groups of the same size.
+/// No word of variable width is a prefix of another one with groups of the same size.
 pub fn variable_width_words_begin_no_other()
     ensures { (o : Order) (field : ℕ) (u v x y : List Bool) (a b : ℕ) → 0 < field
         → Vbr false o field u a → Vbr false o field v b → u ++ x ≡ v ++ y → (u ≡ v) × (a ≡ b) }
@@ -137,7 +137,8 @@ pub fn variable_width_words_read_back()
         → read_vbr strict o field width limit (w ++ rest) ≡ Done (length w) (Ok v) }
 {}
 
-/// A number of variable width is returned only if the bits begin with an accepted word of it.
+/// A number of variable width is returned only if the bits begin with an accepted word of that
+/// number.
 pub fn variable_width_words_alone_are_read()
     ensures { (strict : Bool) (o : Order) (field width limit : ℕ) (bits : List Bool) (n v : ℕ) → 2 ≤ field
         → read_vbr strict o field width limit bits ≡ Done n (Ok v)

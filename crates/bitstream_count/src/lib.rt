@@ -1,5 +1,5 @@
-//! Errors, counts of bits, and values that are known to fit a count. Callers find what they need in
-//! `bitstream_io`.
+//! Errors, counts of bits, and values that are known to fit a count. `bitstream_io` re-exports what
+//! callers need.
 //!
 //! - [`count`]: counts of bits, and values that are known to fit one
 //! - [`error`]: the error of a call

@@ -1,7 +1,7 @@
-//! Laws of words, bytes and numbers, whatever reads or writes them.
+//! Laws of words, bytes and numbers, independent of any reader or writer.
 //!
 //! The contract of each function is a law. A law that is only about words has an empty body. A law
-//! of numbers makes the calls that it is about, for any type of its bound.
+//! of numbers calls the functions that it is about, for any type that its bound allows.
 
 ghost use Rattle.std.specs.Prelude.{◌≡◌, ℕ, ℤ, pos, ◌+◌, ◌*◌, ◌%◌, ◌^◌, ◌<◌, ◌≤◌, ◌+ℤ◌, ◌*ℤ◌, ◌≤ℤ◌, ◌<ℤ◌, Bool, List, ◌++◌, length};
 ghost use Rattle.bitstream_number.specs.Word.{Order, High, Low, word, number, bits, bytes, FitsSignedBits, signed_word, signed_number, zig, zag};
@@ -16,7 +16,7 @@ pub fn words_hold_numbers()
     ensures number { (o : Order) (n v : ℕ) → number o (word o n v) ≡ v % 2 ^ n }
     // A list of bits is the word of its own number.
     ensures word { (o : Order) (w : List Bool) → word o (length w) (number o w) ≡ w }
-    // Two numbers below 2^n are the same if their words at n bits are.
+    // Two numbers below 2^n are equal if their words at n bits are equal.
     ensures same { (o : Order) (n u v : ℕ) → u < 2 ^ n → v < 2 ^ n
         → word o n u ≡ word o n v → u ≡ v }
     // A signed number that fits in n bits, where n is not 0, round-trips through its two's
@@ -25,12 +25,12 @@ pub fn words_hold_numbers()
         → signed_number o (signed_word o n x) ≡ x }
 {}
 
-/// The number of two words, one after the other, is computed from the numbers of the two words.
+/// The number that two concatenated words encode is computed from the numbers of the two words.
 pub fn words_split()
-    // Big-endian: the first word is the high part of the number of both.
+    // Big-endian: the first word is the high part of the combined number.
     ensures high { (first second : List Bool) → number High (first ++ second)
         ≡ number High first * 2 ^ length second + number High second }
-    // Little-endian: the first word is the low part of the number of both.
+    // Little-endian: the first word is the low part of the combined number.
     ensures low { (first second : List Bool) → number Low (first ++ second)
         ≡ number Low first + number Low second * 2 ^ length first }
 {}
@@ -40,8 +40,8 @@ pub fn bytes_are_words()
     ensures { (o : Order) (n v : ℕ) → bits o (bytes o n v) ≡ word o (8 * n) v }
 {}
 
-/// Every signed number has a place of its own in the zigzag order 0, -1, 1, -2, 2 and so on, and
-/// every place is taken.
+/// Each signed number has exactly one place in the zigzag order 0, -1, 1, -2, 2 and so on, and each
+/// place holds exactly one number.
 pub fn zigzags_round_trip()
     // `zag` undoes `zig`.
     ensures signed { (x : ℤ) → zag (zig x) ≡ x }
@@ -58,7 +58,7 @@ pub fn masks_are_remainders<U: UnsignedInteger>(value: U, bits: u32) -> U
     value & (U::ALL >> (U::BITS_SIZE - bits))
 }
 
-/// If one value lies above the bits of another, `|` of the two is their sum.
+/// If one value has only bits above the bits of another value, `|` of the two is their sum.
 pub fn ors_are_sums<U: UnsignedInteger>(high: U, low: U) -> U
     requires { (n : ℕ) × (U.value high % 2 ^ n ≡ 0) × (U.value low < 2 ^ n) }
     ensures { U.value result ≡ U.value high + U.value low }
@@ -66,12 +66,12 @@ pub fn ors_are_sums<U: UnsignedInteger>(high: U, low: U) -> U
     high | low
 }
 
-/// A shift by the type's size or more leaves 0.
+/// A shift by the type's size in bits or more returns 0.
 pub fn shifts_past_the_size_are_zero<U: UnsignedInteger>(value: U, by: u32) -> (U, U)
     requires { U.BITS_SIZE ≤ by }
-    // The left shift gives 0.
+    // The left shift returns 0.
     ensures left { U.value result.0 ≡ 0 }
-    // The right shift gives 0.
+    // The right shift returns 0.
     ensures right { U.value result.1 ≡ 0 }
 {
     value.known();

@@ -1,12 +1,12 @@
-//! Values that only contracts see: a count, the refusals of a stream, and bytes as they were. They
-//! take no memory.
+//! Values that only contracts see: a count, the refusals of a stream, and the earlier bytes of a
+//! slice. They take no memory.
 ghost use Rattle.std.specs.Prelude.{◌≡◌, ℕ, ◌+◌, ◌*◌, List, [], ◌∷◌};
 ghost use Rattle.std.specs.Borrow.{ftrue};
 ghost use Rattle.bitstream_order.specs.Refusal.{Refusal};
 
 use std::marker::Model;
 
-/// A number that only contracts see, and that has no greatest value.
+/// A number that only contracts see, without an upper limit.
 #[derive(Drop)]
 pub struct GhostCount {
     seal: (),
@@ -25,14 +25,14 @@ unsafe impl Sync for GhostCount {}
 const _: () = prove!(size_of::<GhostCount>() == 0);
 
 impl GhostCount {
-    /// Returns a tally of 0.
+    /// Returns a count of 0.
     pub fn new() -> GhostCount
         ensures { result.count ≡ 0 }
     {
         GhostCount { seal: () }
     }
 
-    /// Does nothing at run time. The caller's proof states the growth of the count.
+    /// Does nothing at run time. The caller's proof states by how much the count grows.
     pub(crate) fn grow(&mut self, _n: u64)
         ghost by: { ℕ }
         ensures { self.new.count ≡ self.old.count + by }
@@ -45,14 +45,14 @@ impl GhostCount {
         self.grow(n)
     }
 
-    /// Adds the bits of n bytes to the count.
+    /// Adds the number of bits in n bytes to the count.
     pub fn add_bytes(&mut self, n: usize)
         ensures { self.new.count ≡ self.old.count + 8 * n }
     {
         self.grow(n as u64)
     }
 
-    /// Does nothing at run time. The count grows by the bits of the bytes that another tally
+    /// Does nothing at run time. The count grows by the number of bits in the bytes that `_bytes`
     /// counts.
     fn grow_from(&mut self, _bytes: &GhostCount)
         ghost by: { ℕ }
@@ -62,7 +62,7 @@ impl GhostCount {
         self.grow(0)
     }
 
-    /// Adds the bits of the bytes that another tally counts to the count.
+    /// Adds the number of bits in the bytes that `bytes` counts.
     pub fn add_bits_of(&mut self, bytes: &GhostCount)
         ensures { self.new.count ≡ self.old.count + 8 * bytes.now.count }
     {
@@ -70,7 +70,7 @@ impl GhostCount {
     }
 }
 
-/// A list of refusals that only contracts see, the last one first.
+/// A list of refusals that only contracts see, the most recent one first.
 #[derive(Drop)]
 pub struct GhostRefusals {
     seal: (),
@@ -96,7 +96,7 @@ impl GhostRefusals {
         GhostRefusals { seal: () }
     }
 
-    /// Does nothing at run time. The caller's proof states the growth of the list.
+    /// Does nothing at run time. The caller's proof states how the list grows.
     pub fn push(&mut self, _n: u64)
         ghost by: { Refusal }
         ensures { self.new.list ≡ by ∷ self.old.list }
@@ -135,7 +135,7 @@ impl GhostBytes {
         ensures { self.new.list ≡ by }
     {}
 
-    /// Does nothing at run time. The list is then the bytes of the slice.
+    /// Does nothing at run time. The list becomes the bytes of the slice.
     fn set_to(&mut self, _bytes: &[u8])
         ghost by: { List ℕ }
         requires { by ≡ _bytes.now }

@@ -1,11 +1,11 @@
-//! Orders of bits, streams with counts of their requests, and the kernels that move words. Callers
-//! find what they need in `bitstream_io`.
+//! Orders of bits, streams with counts of their requests, and the kernels that move words.
+//! `bitstream_io` re-exports what callers need.
 //!
 //! - [`ghosts`]: values that only contracts see: a count, and the refusals of a stream
 //! - [`kernels`]: functions that move words: they gather them from a stream, send, shift, count and
 //!   copy them
 //! - [`order`]: the two orders of bits
-//! - [`port`]: the one holder of a stream, which counts its requests for contracts
+//! - [`port`]: the only holder of a stream, which counts its requests for contracts
 //! - [`streams`]: sources and targets of bytes: the traits of streams, bytes in memory, a vector
 //!   that grows, and a stream that is lent
 //!

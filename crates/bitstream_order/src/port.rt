@@ -17,7 +17,7 @@ use std::io;
 use std::io::{ErrorKind, SeekFrom};
 use std::snapshot::Snapshot;
 
-/// The one holder of a stream: nothing else asks the stream for bytes or sends bytes to it. The
+/// The only holder of a stream: nothing else asks the stream for bytes or sends bytes to it. The
 /// counts take no memory at run time.
 #[derive(Drop)]
 pub struct Port<S> {
@@ -103,17 +103,17 @@ impl<S> Port<S> {
         }
     }
 
-    /// Lends the stream. What is done to it then is not counted.
+    /// Lends the stream. Requests made through the loan are not counted.
     pub fn lend(&mut self) -> &mut S
         ensures value { result.now ≡ port_stream self.old }
-        // When the borrow ends, only the stream may have changed: it is as it was left.
+        // When the borrow ends, only the stream may have changed: it is as the borrower left it.
         ensures* writes_back { sem 𝓛
             (Lends (the_row S.row) S.row self.entry result (with_stream self.old)) }
     {
         &mut self.stream
     }
 
-    /// Returns the stream, to be looked at.
+    /// Returns the stream, by shared reference.
     pub fn stream(&self) -> &S
         ensures { result.now ≡ port_stream self.now }
     {
@@ -139,7 +139,7 @@ impl<S> Port<S> {
         self.refusals = GhostRefusals::new();
     }
 
-    /// Returns a tally of the bits of all fetched bytes.
+    /// Returns the number of bits in all fetched bytes, as a ghost count.
     pub fn fetched_bits(&self) -> GhostCount
         ensures { result.count ≡ 8 * fetched_count self.now }
     {
@@ -161,8 +161,9 @@ impl<S: Source> Port<S> {
     ///
     /// # Errors
     ///
-    /// `EndOfInput` if the stream refuses with `UnexpectedEof`, `OutOfMemory` if it refuses with
-    /// that kind, else `Stream` with its kind. No byte is counted as fetched then.
+    /// `EndOfInput` if the stream refuses with the kind `UnexpectedEof`, `OutOfMemory` if with the
+    /// kind `OutOfMemory`, and otherwise `Stream` with the kind of the refusal. No byte is counted
+    /// as fetched then.
     #[inline(always)]
     pub fn fetch(&mut self, buf: &mut [u8]) -> Result<(), Error>
         ensures fetches { Fetches (MayRefuseRead S.stream)
@@ -173,12 +174,12 @@ impl<S: Source> Port<S> {
     }
 
     /// Fills the first `count` bytes of the buffer, which has at least `count`, by one request for
-    /// these bytes alone. The contents of the buffer after them are then unspecified. `constant` is
-    /// true if `count` is known at compile time, and changes only how the bytes are copied.
+    /// only these bytes. The rest of the buffer is then unspecified. `constant` is true if `count`
+    /// is known at compile time, and changes only how the bytes are copied.
     ///
     /// # Errors
     ///
-    /// As [`fetch`](Port::fetch).
+    /// The errors of [`fetch`](Port::fetch).
     #[inline(always)]
     pub fn fetch_prefix(
         &mut self,
@@ -187,7 +188,8 @@ impl<S: Source> Port<S> {
         constant: bool,
     ) -> Result<(), Error>
         requires { count ≤ length buf.old }
-        // The buffer's front gets the next `count` bytes by one request, or it is refused.
+        // The first `count` bytes of the buffer become the next `count` bytes of the stream by one
+        // request, or the request is refused.
         ensures fetches { Fetches (MayRefuseRead S.stream)
             (source_state S.stream self.old) (take count buf.new) result
             (source_state S.stream self.new) }
@@ -214,8 +216,8 @@ impl<S: Target> Port<S> {
     ///
     /// # Errors
     ///
-    /// `OutOfMemory` if the stream refuses with that kind, else `Stream` with its kind. No byte is
-    /// counted as sent then.
+    /// `OutOfMemory` if the stream refuses with the kind `OutOfMemory`, and otherwise `Stream` with
+    /// the kind of the refusal. No byte is counted as sent then.
     #[inline(always)]
     pub fn send(&mut self, bytes: &[u8]) -> Result<(), Error>
         ensures { Sends (MayRefuseWrite S.stream) (target_state S.stream self.old) bytes.now result
@@ -242,12 +244,13 @@ impl<S: Target> Port<S> {
         }
     }
 
-    /// Flushes the stream by one request, which sends no bytes: the stream passes on what it has
-    /// buffered itself.
+    /// Flushes the stream by one request, which sends no bytes. The stream passes on the bytes that
+    /// it has buffered itself.
     ///
     /// # Errors
     ///
-    /// As [`send`](Port::send). The stream holds the same bytes then too.
+    /// The errors of [`send`](Port::send). After an error too, the stream holds the same bytes as
+    /// before.
     pub fn flush(&mut self) -> Result<(), Error>
         // One request is made, and no byte is sent, whether it is refused or not.
         ensures sends { Sends (MayRefuseWrite S.stream) (target_state S.stream self.old) [] result
@@ -274,19 +277,19 @@ impl<S: Target> Port<S> {
 
 impl<S: SeekSource> Port<S> {
     /// Seeks by one request, and returns the new position in bytes. The count of fetched bytes
-    /// starts again there.
+    /// restarts at 0.
     ///
     /// # Errors
     ///
-    /// `OutOfMemory` if the stream refuses with that kind, else `Stream` with its kind. The
-    /// position is unchanged then.
+    /// `OutOfMemory` if the stream refuses with the kind `OutOfMemory`, and otherwise `Stream` with
+    /// the kind of the refusal. The position is unchanged then.
     pub fn seek(&mut self, to: SeekFrom) -> Result<u64, Error>
-        // One request is made. The count of fetched bytes starts again, or is unchanged if it is
-        // refused.
+        // One request is made. The count of fetched bytes restarts at 0, or is unchanged if the
+        // request is refused.
         ensures seeks { Seeks (MayRefuseSeek S.stream S.refuses_seek to)
             (source_state S.stream self.old) result (source_state S.stream self.new) }
-        // If the stream's position is known, it becomes the result, or stays if the seek is
-        // refused. If its bytes are known too, the result is the place meant.
+        // If the stream's position is known, the new position is the result, or the old one if the
+        // seek is refused. If its bytes are known too, the result is the position that `to` means.
         ensures moves { SeekMoves (S.position (port_stream self.old))
             (S.position (port_stream self.new)) (S.bytes (port_stream self.old)) to result }
         // All bytes of the stream stay the same, if they are known.
@@ -308,12 +311,13 @@ impl<S: SeekSource> Port<S> {
         }
     }
 
-    /// Asks for the position in bytes by one request: a seek by 0 bytes. The count of fetched bytes
-    /// is unchanged.
+    /// Returns the position in bytes. It makes one request: a seek by 0 bytes. The count of fetched
+    /// bytes is unchanged.
     ///
     /// # Errors
     ///
-    /// `OutOfMemory` if the stream refuses with that kind, else `Stream` with its kind.
+    /// `OutOfMemory` if the stream refuses with the kind `OutOfMemory`, and otherwise `Stream` with
+    /// the kind of the refusal.
     pub fn position(&mut self) -> Result<u64, Error>
         // One request is made, and no byte is fetched or sent, whether it is refused or not.
         ensures places { Places (MayRefuseSeek S.stream S.refuses_seek (Current (pos 0)))

@@ -1,4 +1,4 @@
-//! Streams: what bytes are read from and written to.
+//! Streams: sources and targets of bytes.
 
 pub mod growing;
 pub mod lent;

@@ -1,7 +1,7 @@
-//! Numbers of bits of bytes in memory, which may be more than a `u64` holds.
+//! Numbers of bits in memory, which may exceed a `u64`.
 ghost use Rattle.std.specs.Prelude.{◌≡◌, min};
 
-/// Returns a number, or 2^64 - 1 if it is more.
+/// Returns `number`, or 2^64 - 1 if `number` is greater.
 pub fn capped(number: u128) -> u64
     ensures { result ≡ min number u64.MAX }
 {

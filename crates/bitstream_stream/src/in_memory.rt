@@ -18,8 +18,8 @@ impl<'a, E: Endianness> BitReader<Slice<'a>, E> {
     ghost use Rattle.bitstream_stream.specs.Reading.MemorySource.{memory_source};
     ghost use Rattle.bitstream_stream.specs.Reading.Reader.{new_reader_state};
 
-    /// Returns a reader of bytes in memory, as [`SliceReader::over`] does. A reader of a [`Slice`], whose
-    /// requests are counted, is made by [`new`](BitReader::new).
+    /// Returns a reader of the bits of `bytes`, as [`SliceReader::over`] does. To get a reader of a
+    /// [`Slice`], whose requests are counted, call [`new`](BitReader::new).
     ///
     /// # Examples
     ///
@@ -42,7 +42,7 @@ impl<'a, E: Endianness> BitReader<Slice<'a>, E> {
 impl<'a, E: Endianness> ByteReader<Slice<'a>, E> {
     ghost use Rattle.bitstream_stream.specs.WholeBytes.ByteReader.{byte_reader_state};
 
-    /// Returns a reader of whole bytes in memory, as a [`Slice`].
+    /// Returns a reader of whole bytes over a [`Slice`] of `bytes`.
     pub fn over(bytes: &'a [u8]) -> ByteReader<Slice<'a>, E>
         ensures { ⟦<Self as ByteRead>⟧.source.state result
             ≡ byte_reader_state (new_port_state (Some bytes.now) []) }
@@ -55,8 +55,8 @@ impl<'a, E: Endianness> BitWriter<SliceMut<'a>, E> {
     ghost use Rattle.bitstream_order.specs.Streaming.SliceMut.{slice_mut_stream};
     ghost use Rattle.bitstream_stream.specs.Writing.Writer.{writer_state, new_writer_state};
 
-    /// Returns a writer to bytes in memory, from their front, as a [`SliceMut`]. It changes none of them
-    /// yet.
+    /// Returns a writer of bits to a [`SliceMut`] of `bytes`, starting at the first byte. No byte
+    /// is changed yet.
     ///
     /// # Examples
     ///
@@ -83,8 +83,8 @@ impl<'a, E: Endianness> ByteWriter<SliceMut<'a>, E> {
     ghost use Rattle.bitstream_order.specs.Streaming.SliceMut.{slice_mut_stream};
     ghost use Rattle.bitstream_stream.specs.WholeBytes.ByteWriter.{byte_writer_state};
 
-    /// Returns a writer of whole bytes to bytes in memory, from their front, as a [`SliceMut`]. It changes
-    /// none of them yet.
+    /// Returns a writer of whole bytes to a [`SliceMut`] of `bytes`, starting at the first byte. No
+    /// byte is changed yet.
     pub fn over(bytes: &'a mut [u8]) -> ByteWriter<SliceMut<'a>, E>
         ensures { byte_writer_state slice_mut_stream result
             ≡ new_port_state (Some []) (to_slice bytes.entry.ghost_name bytes.old ∷ []) }

@@ -39,29 +39,29 @@ use bitstream_order::streams::source::Source;
 use bitstream_order::streams::target::Target;
 use std::alloc::Allocator;
 
-/// Reading two numbers, one after the other, is reading one number of the bits of both. The first
-/// one is its high part if the order is big-endian, its low part if little-endian.
+/// Reading two consecutive numbers equals reading one number from the bits of both. The first
+/// number is its high part in big-endian order, and its low part in little-endian order.
 pub fn words_join()
-    // Big-endian: two reads, the first as the high part, find what one read of both finds.
+    // Big-endian: two reads, the first as the high part, return what one read of both returns.
     ensures high { (size a b p : ℕ) (bits : List Bool) → a + b ≤ size →
         (and_then (unsigned_decoder High size a) (λ first.
         and_then (unsigned_decoder High size b) (λ second. pure (first * 2 ^ b + second)))).reads p bits
         ≡ (unsigned_decoder High size (a + b)).reads p bits }
-    // Little-endian: two reads, the first as the low part, find what one read of both finds.
+    // Little-endian: two reads, the first as the low part, return what one read of both returns.
     ensures low { (size a b p : ℕ) (bits : List Bool) → a + b ≤ size →
         (and_then (unsigned_decoder Low size a) (λ first.
         and_then (unsigned_decoder Low size b) (λ second. pure (first + second * 2 ^ a)))).reads p bits
         ≡ (unsigned_decoder Low size (a + b)).reads p bits }
 {}
 
-/// Reading or writing the bytes of a number, in the order of the bits, is reading or writing the
-/// number as one word.
+/// Reading or writing the bytes of a number, in the order of the bits, equals reading or writing
+/// the number as one word.
 pub fn bytes_are_numbers()
-    // A read of n bytes finds the bytes of the number that a read of 8 * n bits finds.
+    // A read of n bytes returns the bytes of the number that a read of 8 * n bits returns.
     ensures reads { (o : Order) (n p : ℕ) (bits : List Bool) →
         (and_then (unsigned_decoder o (8 * n) (8 * n)) (λ v. pure (bytes_in o n v))).reads p bits
         ≡ (bytes_decoder o n).reads p bits }
-    // A write of the n bytes of a number is a write of that number at 8 * n bits.
+    // A write of the n bytes of a number equals a write of that number at 8 * n bits.
     ensures writes { (o : Order) (n v len : ℕ) → v < 2 ^ (8 * n) →
         buffer o (bytes_in o n v) len ≡ unsigned o (8 * n) (8 * n) v len }
 {}
@@ -72,8 +72,8 @@ pub fn dropped_queues_are_alignments<R: Source, E: Endianness>()
         reader (Ok tt) (aligned_reader reader) }
 {}
 
-/// If the stream refuses only at its true end, a call of any reader returns the result of its
-/// prefix of the bits left, or `EndOfInput` if they are too few.
+/// If the stream refuses only at the end of its input, a call of any reader returns the result for
+/// a prefix of the bits left, or `EndOfInput` if too few bits are left.
 pub fn ends_are_known<R: BitRead, A>()
     ensures { (decoder : Decoder A) (old new : R) (answer : Result A Error) (bytes : List ℕ)
         → TrueEnds R.source.may
@@ -83,9 +83,9 @@ pub fn ends_are_known<R: BitRead, A>()
         ((R.source.state old).queue ++ bits_of R.source.order bytes)) }
 {}
 
-/// If the stream refuses only at its true end, a call that takes n bits, whatever they are, is done
-/// if n bits are left. So after one test of the number of bits left, it is known that no read of
-/// them is refused.
+/// If the stream refuses only at the end of its input, a call that takes n bits, whatever their
+/// values, completes if n bits are left. So one test of the number of bits left shows that no read
+/// of them is refused.
 pub fn enough_bits_are_known<R: BitRead, A>()
     ensures { (decoder : Decoder A) (n : ℕ) (left : List Bool) (old new : R) (answer : Result A Error)
         → TrueEnds R.source.may → (R.source.state old).failed ≡ false
@@ -95,8 +95,8 @@ pub fn enough_bits_are_known<R: BitRead, A>()
         × (bits_left R.source.order (R.source.state new) ≡ Some (drop n left)) }
 {}
 
-/// Calls of words of a known length are done by that number of bits, and two calls by the sum of
-/// both lengths.
+/// A call for a word of a known length completes with that number of bits, and two calls complete
+/// with the sum of both lengths.
 pub fn known_lengths_are_enough<A, B>()
     // One bit.
     ensures bit { IsDoneBy 1 bit_decoder }
@@ -119,13 +119,13 @@ pub fn known_lengths_are_enough<A, B>()
         → ((value : A) → IsDoneBy n (second value)) → IsDoneBy (m + n) (and_then first second) }
 {}
 
-/// A [`Slice`] refuses only at a true end.
+/// A [`Slice`] refuses only at the end of its input.
 pub fn slices_end<E: Endianness>()
     ensures { TrueEnds ⟦<BitReader<Slice<'static>, E> as BitRead>⟧.source.may }
 {}
 
-/// Calls of a writer whose target refuses only for want of room are all done if they are accepted and
-/// there is room for their words.
+/// If a writer's target refuses only for lack of room, its calls all complete if they are accepted
+/// and there is room for their words.
 pub fn rooms_are_known<W: Target, E: Endianness>()
     ensures { (encoders : List Encoder) (old new : BitWriter W E) (answer : Result (Unit {0}) Error)
         → AllLackRoom ⟦<BitWriter<W, E> as BitWrite>⟧.sink.may
@@ -136,7 +136,7 @@ pub fn rooms_are_known<W: Target, E: Endianness>()
         → WritesAll ⟦<BitWriter<W, E> as BitWrite>⟧.sink encoders old answer new → answer ≡ Ok tt }
 {}
 
-/// A write of bytes, to a sink whose stream refuses only for want of room, is done if there is room.
+/// If a sink's stream refuses only for lack of room, a write of bytes completes if there is room.
 pub fn rooms_of_bytes_are_known<W: ByteWrite, A>()
     ensures { (bytes held : List ℕ) (capacity : ℕ) (old new : W) (answer : Result A Error)
         → AllLackRoom W.sink.may → W.sink.limit ≡ None → W.sink.contents old ≡ Some held
@@ -144,19 +144,19 @@ pub fn rooms_of_bytes_are_known<W: ByteWrite, A>()
         → ByteWrites W.sink bytes old answer new → (done : A) × (answer ≡ Ok done) }
 {}
 
-/// A [`SliceMut`] refuses only for want of room.
+/// A [`SliceMut`] refuses only for lack of room.
 pub fn slices_tell_their_room<E: Endianness>()
     ensures { AllLackRoom ⟦<BitWriter<SliceMut<'static>, E> as BitWrite>⟧.sink.may }
 {}
 
-/// A writer over a [`SliceMut`] fails if it lacks room, and never else.
+/// A writer over a [`SliceMut`] fails if and only if it lacks room.
 pub fn slices_lack_room<E: Endianness>()
     ensures { (old new : BitWriter SliceMut E) (x : List Bool) (error : Error) →
         WriteRefused ⟦<BitWriter<SliceMut<'static>, E> as BitWrite>⟧.sink old x error new
         → error ≡ Stream WriteZero }
 {}
 
-/// A writer over a [`Growing`] fails if its memory was refused, and never else.
+/// A writer over a [`Growing`] fails if and only if a memory allocation failed.
 pub fn vectors_lack_memory<E: Endianness, A: Allocator>()
     ensures { (old new : BitWriter (Growing A) E) (x : List Bool) (error : Error) →
         WriteRefused ⟦<BitWriter<Growing<A>, E> as BitWrite>⟧.sink old x error new
@@ -175,13 +175,13 @@ pub fn slices_refuse_no_seek()
     ensures { (refusal : Refusal) → MaySeek (MayRefuseSeek slice_stream slice_refuses_seek) refusal → ⊥ }
 {}
 
-/// A reader of bytes in memory is refused only at a true end.
+/// A reader of bytes in memory is refused only at the end of its input.
 pub fn memory_ends<E: Endianness>()
     ensures { TrueEnds ⟦<SliceReader<'static, E> as BitRead>⟧.source.may }
 {}
 
-/// The bytes left of a reader of bytes in memory are the bytes after its place, and so are its bits
-/// left, if it has not failed.
+/// The bytes left of a reader of bytes in memory are the bytes after its place. If it has not
+/// failed, its bits left are the bits after its place.
 pub fn memory_tells_its_rest<E: Endianness>()
     // The bytes left are the bytes after the fetched ones.
     ensures bytes { (reader : SliceReader E) → ((memory_source E.order).state reader).bytes

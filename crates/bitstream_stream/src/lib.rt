@@ -1,6 +1,6 @@
 //! Readers and writers of bits and of bytes, over a stream or over bytes in memory.
-//! `bitstream_value` reads and writes values of other types. Callers find what they need in
-//! `bitstream_io`.
+//! `bitstream_value` reads and writes values of other types. `bitstream_io` re-exports what callers
+//! need.
 //!
 //! - [`bytes`]: readers and writers of whole bytes
 //! - [`laws`]: laws of reads and writes, and of the ends and the room of streams

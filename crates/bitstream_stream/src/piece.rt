@@ -1,21 +1,21 @@
-//! The sizes of the pieces in which bytes go, and buffers that grow by them.
+//! The sizes of the pieces in which bytes are moved, and buffers that grow by such pieces.
 ghost use Rattle.std.specs.Prelude.{◌≡◌, ◌-◌, ◌≤◌, ◌++◌, length, replicate, OnOk};
 
 use std::alloc::{AllocError, Allocator};
 
-/// The number of bytes that are moved at a time off a byte boundary, or skipped or padded at a
-/// time.
+/// The number of bytes that are moved at a time when not at a byte boundary, or that are skipped or
+/// padded at a time.
 pub(crate) const PIECE: usize = 1024;
 
 /// The greatest number of bytes by which a vector grows at a time.
 pub(crate) const GROWTH: usize = 4096;
 
-/// Extends a buffer with zeros to `len` bytes. The first growth asks for exactly the memory that it
-/// needs.
+/// Extends a buffer with zeros to `len` bytes. The first growth allocates exactly the memory that
+/// it needs.
 ///
 /// # Errors
 ///
-/// If memory is refused.
+/// `AllocError` if the allocation fails.
 pub(crate) fn grow<A: Allocator>(buf: &mut Vec<u8, A>, len: usize) -> Result<(), AllocError>
     requires { length buf.old.items ≤ len }
     ensures { OnOk result (buf.new.items

@@ -26,8 +26,8 @@ pub mod slice_reader;
 /// If the stream refuses a request, a call returns `EndOfInput`, `OutOfMemory` or `Stream` with the
 /// kind of the refusal, and the reader has failed. From then on each call that reads a value
 /// returns `Failed`, before any other check and also at a width of 0 bits. After any other error
-/// the reader continues where it was, unless the call says otherwise. The calls below name only
-/// their own errors.
+/// the reader continues where it was, unless the documentation of the call states otherwise. The
+/// calls below list only their additional errors.
 ///
 /// # Examples
 ///
@@ -51,7 +51,7 @@ pub trait BitRead {
     ///
     /// # Errors
     ///
-    /// `ReadBits` if the type has fewer bits. Nothing is taken then.
+    /// `ReadBits` if the type has fewer than `bits` bits. No bit is taken then.
     fn read_unsigned_counted<C: Count, U: UnsignedInteger>(&mut self, bits: C) -> Result<U, Error>
         ensures reads { Reads source (unsigned_decoder source.order U.BITS_SIZE (C.number bits))
             self.old (result_map U.value result) self.new };
@@ -60,7 +60,7 @@ pub trait BitRead {
     ///
     /// # Errors
     ///
-    /// `ReadBits` if the type has fewer bits. Nothing is taken then.
+    /// `ReadBits` if the type has fewer than `bits` bits. No bit is taken then.
     fn read_signed_counted<C: SignedCount, S: SignedInteger>(&mut self, bits: C) -> Result<S, Error>
         ensures reads { Reads source (signed_decoder source.order S.BITS_SIZE (C.number bits))
             self.old (result_map S.integer result) self.new };
@@ -76,7 +76,7 @@ pub trait BitRead {
         ensures reads { Reads source (bytes_decoder source.order V.BYTES) self.old
             (result_map (value_bytes F.order V.be_bytes V.le_bytes) result) self.new };
 
-    /// Returns whether the reader is at a byte boundary. A reader that has failed is not.
+    /// Returns true if the reader is at a byte boundary and has not failed.
     fn byte_aligned(&self) -> bool
         ensures { IsTrue result ↔ (((source.state self.now).failed ≡ false)
             × ((source.state self.now).taken % 8 ≡ 0)) };
@@ -90,7 +90,7 @@ pub trait BitRead {
     fn fail(&mut self)
         ensures { source.state self.new ≡ failed_reader (source.state self.old) };
 
-    /// Reads one bit, and returns whether it is 1.
+    /// Reads one bit, and returns true if it is 1.
     fn read_bit(&mut self) -> Result<bool, Error>
         ensures reads { Reads source bit_decoder self.old result self.new }
     {
@@ -102,7 +102,7 @@ pub trait BitRead {
     ///
     /// # Errors
     ///
-    /// As [`read_unsigned_counted`](BitRead::read_unsigned_counted).
+    /// The errors of [`read_unsigned_counted`](BitRead::read_unsigned_counted).
     fn read_unsigned_var<U: UnsignedInteger>(&mut self, bits: u32) -> Result<U, Error>
         ensures reads { Reads source (unsigned_decoder source.order U.BITS_SIZE bits)
             self.old (result_map U.value result) self.new }
@@ -123,7 +123,7 @@ pub trait BitRead {
     ///
     /// # Errors
     ///
-    /// `NoSignBit` at 0 bits. Nothing is taken then. Else as
+    /// `NoSignBit` at 0 bits. No bit is taken then. Otherwise the errors of
     /// [`read_signed_counted`](BitRead::read_signed_counted).
     fn read_signed_var<S: SignedInteger>(&mut self, bits: u32) -> Result<S, Error>
         ensures reads { Reads source (signed_decoder source.order S.BITS_SIZE bits)
@@ -152,8 +152,8 @@ pub trait BitRead {
     ///
     /// # Errors
     ///
-    /// `err` if the number is another one. Its bits are taken then. Every other error is converted
-    /// into an E.
+    /// `err` if the number is not `V::BITS`. Its bits are taken then. Every other error is
+    /// converted into an E.
     fn read_const<B: Width, V: Width, E: From<Error> + Drop>(&mut self, err: E) -> Result<(), E>
         requires word { B.BITS ≤ 32 }
         requires value { (V.BITS < 2 ^ B.BITS) ⊎ (B.BITS ≡ 0) }
@@ -168,8 +168,8 @@ pub trait BitRead {
     ///
     /// # Errors
     ///
-    /// `RunTooLong` if 4294967296 bits come before any stop bit. These are taken then, and the
-    /// reader has failed.
+    /// `RunTooLong` if 4294967296 (2^32) bits come before any stop bit. These bits are taken then,
+    /// and the reader has failed.
     fn read_unary<S: Width>(&mut self) -> Result<u32, Error>
         requires { S.BITS < 2 }
         ensures reads { Reads source (unary_decoder (S.BITS == 1)) self.old result self.new }
@@ -188,8 +188,8 @@ pub trait BitRead {
         }
     }
 
-    /// Reads a count of bits, in as few bits as hold `C::MAX`. `C::MAX` must be a power of two
-    /// minus 1, so that every number of these bits is a count.
+    /// Reads a count of bits, in the fewest bits that hold `C::MAX`. `C::MAX` must be a power of
+    /// two minus 1, so that every number of these bits is a count.
     fn read_count<C: Count>(&mut self) -> Result<C, Error>
         requires some { 0 < C.MAX }
         requires full { IsTrue (is_full 32 C.MAX) }
@@ -199,13 +199,13 @@ pub trait BitRead {
         let number = self.read_unsigned_var(count_bits(C::MAX))?;
         match C::of(number) {
             Some(count) => Ok(count),
-            // `C::MAX` is 1 less than a power of two, so it is the greatest number of that many
-            // bits.
+            // `C::MAX` is 1 less than a power of two, so it is the greatest number that these bits
+            // hold.
             None => unreachable!(),
         }
     }
 
-    /// Fills a buffer with bytes. After an error the contents of the buffer are not specified.
+    /// Fills a buffer with bytes. After an error the contents of the buffer are unspecified.
     fn read_bytes(&mut self, buf: &mut [u8]) -> Result<(), Error>
         ensures reads { Reads source (bytes_decoder source.order (length buf.old))
             self.old (result_map (λ _. buf.new) result) self.new }
@@ -227,12 +227,12 @@ pub trait BitRead {
         Ok(bytes)
     }
 
-    /// Reads `bytes` bytes into a vector. At most 4096 bytes are asked for at a time, and the
-    /// vector grows as they come. So a length that the stream does not have costs little memory.
+    /// Reads `bytes` bytes into a vector. At most 4096 bytes are requested at a time, and the
+    /// vector grows as they arrive. So a length beyond the end of the stream costs little memory.
     ///
     /// # Errors
     ///
-    /// `OutOfMemory` if memory for the bytes is refused. The reader has failed then.
+    /// `OutOfMemory` if an allocation for the bytes fails. The reader has failed then.
     fn read_to_vec<A: Allocator>(&mut self, alloc: A, bytes: usize) -> Result<Vec<u8, A>, Error>
         ensures reads { ReadsGrowing source (bytes_decoder source.order bytes)
             self.old (result_map (λ v. v.items) result) self.new }
@@ -252,7 +252,7 @@ pub trait BitRead {
         Ok(buf)
     }
 
-    /// Skips `bits` bits, whatever they are.
+    /// Skips `bits` bits, whatever their values.
     fn skip(&mut self, bits: u32) -> Result<(), Error>
         ensures reads { Reads source (skip_decoder bits) self.old result self.new }
     {
@@ -264,13 +264,13 @@ pub trait BitRead {
     }
 
     /// Reads the groups of an unsigned number of variable width, by
-    /// [`read_unsigned_vbr`](BitRead::read_unsigned_vbr) if the read is strict, else by
+    /// [`read_unsigned_vbr`](BitRead::read_unsigned_vbr) if `strict` is true, and otherwise by
     /// [`read_unsigned_vbr_any`](BitRead::read_unsigned_vbr_any).
     ///
     /// # Errors
     ///
-    /// The errors of [`read_unsigned_vbr`](BitRead::read_unsigned_vbr): `RedundantGroup` only if
-    /// the read is strict.
+    /// The errors of [`read_unsigned_vbr`](BitRead::read_unsigned_vbr), but `RedundantGroup` only
+    /// if `strict` is true.
     fn read_groups<F: Width, U: UnsignedInteger>(&mut self, strict: bool) -> Result<U, Error>
         requires some { 2 ≤ F.BITS }
         requires within { F.BITS < U.BITS_SIZE }
@@ -306,15 +306,15 @@ pub trait BitRead {
     }
 
     /// Reads an unsigned number of variable width, in groups of `F::BITS` bits. The highest bit of
-    /// a group says whether another group follows. The other bits are digits of the number, the
-    /// lowest digits first. The format is the `vbr` of LLVM's bitstreams.
+    /// a group is 1 if another group follows, and 0 otherwise. The other bits are digits of the
+    /// number, the lowest digits first. The format is the `vbr` of LLVM's bitstreams.
     ///
     /// # Errors
     ///
-    /// `VariableWidthOverflow` if the number does not fit in U, or a group begins past U's bits.
-    /// `RedundantGroup` if there are two groups or more, and the last one is 0: so each number has
-    /// one word. The groups up to the faulty one are taken then, and the reader continues after
-    /// them.
+    /// `VariableWidthOverflow` if the number does not fit in U, or if a group begins beyond the
+    /// bits of U. `RedundantGroup` if there are two or more groups and the last one is 0. So each
+    /// number has only one accepted word. The groups up to the faulty one are taken then, and the
+    /// reader continues after them.
     fn read_unsigned_vbr<F: Width, U: UnsignedInteger>(&mut self) -> Result<U, Error>
         requires some { 2 ≤ F.BITS }
         requires within { F.BITS < U.BITS_SIZE }
@@ -340,12 +340,12 @@ pub trait BitRead {
         self.read_groups::<F, U>(false)
     }
 
-    /// Reads a signed number of variable width. It is encoded as an unsigned one, by the zigzag of
-    /// Protocol Buffers: x as 2x, or as -2x - 1 if x is negative.
+    /// Reads a signed number of variable width. It is encoded as an unsigned number, by the zigzag
+    /// encoding of Protocol Buffers: x as 2x, or as -2x - 1 if x is negative.
     ///
     /// # Errors
     ///
-    /// As [`read_unsigned_vbr`](BitRead::read_unsigned_vbr).
+    /// The errors of [`read_unsigned_vbr`](BitRead::read_unsigned_vbr).
     fn read_signed_vbr<F: Width, S: SignedInteger>(&mut self) -> Result<S, Error>
         requires some { 2 ≤ F.BITS }
         requires within { F.BITS < S.BITS_SIZE }
@@ -360,7 +360,7 @@ pub trait BitRead {
     ///
     /// # Errors
     ///
-    /// As [`read_unsigned_vbr_any`](BitRead::read_unsigned_vbr_any).
+    /// The errors of [`read_unsigned_vbr_any`](BitRead::read_unsigned_vbr_any).
     fn read_signed_vbr_any<F: Width, S: SignedInteger>(&mut self) -> Result<S, Error>
         requires some { 2 ≤ F.BITS }
         requires within { F.BITS < S.BITS_SIZE }
@@ -373,9 +373,9 @@ pub trait BitRead {
 
     /// Returns the reader by reference, for a function that takes a reader by value.
     fn by_ref(&mut self) -> &mut Self
-        // It reaches this reader, unchanged.
+        // It refers to this reader, unchanged.
         ensures value { result.now ≡ self.old }
-        // It is this very reference, so its calls change this reader.
+        // It is this very reference, so calls on it change this reader.
         ensures same_reference { result.ghost_name ≡ self.entry.ghost_name }
     {
         self

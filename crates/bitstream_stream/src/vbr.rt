@@ -6,7 +6,7 @@ ghost use Rattle.bitstream_stream.specs.Groups.{IsFirstGroup, IsLastGroup, rejec
 
 use bitstream_number::number::{Numeric, UnsignedInteger, Width};
 
-/// Returns the number of bits of a number in groups of `F::BITS` bits.
+/// Returns the number of bits that a number takes in groups of `F::BITS` bits.
 #[inline(always)]
 pub fn vbr_bits<F: Width, U: UnsignedInteger>(value: U) -> u32
     requires some { 2 ≤ F.BITS }
@@ -14,25 +14,25 @@ pub fn vbr_bits<F: Width, U: UnsignedInteger>(value: U) -> u32
     ensures { (o : Order) → length (vbr_word o F.BITS (U.value value)) ≡ result }
 {
     value.known();
-    // One bit of a group says whether another one follows.
+    // One bit of a group states whether another group follows.
     let payload = F::BITS - 1;
     let mut bits = F::BITS;
     let mut rest = value;
-    // Two groups an iteration.
+    // Each iteration counts two groups.
     while rest.shr_default(2 * payload) != U::ZERO {
         bits += 2 * F::BITS;
         rest = rest.shr_default(2 * payload);
     }
-    // One group is left, or two.
+    // One or two groups are left.
     if rest >> payload != U::ZERO {
         bits += F::BITS;
     }
     bits
 }
 
-/// Splits a number into its first group and the rest, which the later groups hold. A group is the
-/// lowest digits, below a bit that says that another group follows. Returns `None` if one group
-/// holds the number.
+/// Splits a number into its first group and the rest, which the later groups hold. The first group
+/// is the lowest digits, below a bit of 1 that states that another group follows. Returns `None` if
+/// one group holds the number.
 #[inline(always)]
 pub(crate) fn split_group<F: Width, U: UnsignedInteger>(value: U) -> Option<(U, U)>
     requires some { 2 ≤ F.BITS }
@@ -49,7 +49,7 @@ pub(crate) fn split_group<F: Width, U: UnsignedInteger>(value: U) -> Option<(U, 
     if rest == U::ZERO {
         return None;
     }
-    // The bit that says that another group follows.
+    // The bit that states that another group follows.
     let more = U::ONE << payload;
     let digits = value & (more - U::ONE);
     Some((more | digits, rest))

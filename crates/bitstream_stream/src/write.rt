@@ -18,8 +18,8 @@ pub mod writer;
 /// If the stream refuses a request, a call returns `OutOfMemory` or `Stream` with the kind of the
 /// refusal, and the sink has failed: its queued bits are lost. From then on each call that writes
 /// returns `Failed`, before any other check and also at a width of 0 bits. A sink with a limit
-/// returns `CounterOverflow` if the bits would pass it. After this and any other error nothing is
-/// written, and the sink is unchanged. The calls below name only their own errors.
+/// returns `CounterOverflow` if the bits would exceed the limit. After this and any other error no
+/// bit is written, and the sink is unchanged. The calls below list only their additional errors.
 ///
 /// # Examples
 ///
@@ -45,13 +45,13 @@ pub trait BitWrite {
     // The meaning of the sink's states.
     ghost sink: { Sink Self };
 
-    /// Writes an unsigned number in `bits` bits. In 0 bits any number is accepted, and nothing is
+    /// Writes an unsigned number in `bits` bits. At 0 bits any number is accepted, and nothing is
     /// written.
     ///
     /// # Errors
     ///
-    /// `Checked(ExcessiveBits)` if the type has fewer bits, else `Checked(ExcessiveValue)` if the
-    /// number needs more.
+    /// `Checked(ExcessiveBits)` if the type has fewer than `bits` bits. Otherwise
+    /// `Checked(ExcessiveValue)` if the number needs more than `bits` bits.
     fn write_unsigned_counted<C: Count, U: UnsignedInteger>(
         &mut self,
         count: C,
@@ -65,8 +65,8 @@ pub trait BitWrite {
     ///
     /// # Errors
     ///
-    /// `Checked(ExcessiveBits)` if the type has fewer bits, else `Checked(ExcessiveValue)` if the
-    /// number needs more.
+    /// `Checked(ExcessiveBits)` if the type has fewer than `bits` bits. Otherwise
+    /// `Checked(ExcessiveValue)` if the number needs more than `bits` bits.
     fn write_signed_counted<C: SignedCount, S: SignedInteger>(
         &mut self,
         count: C,
@@ -89,22 +89,21 @@ pub trait BitWrite {
             (buffer sink.order (value_bytes F.order V.be_bytes V.le_bytes value))
             self.old result self.new };
 
-    /// Returns whether the sink is at a byte boundary. A sink that has failed is not.
+    /// Returns true if the sink is at a byte boundary and has not failed.
     fn byte_aligned(&self) -> bool
         ensures aligned { IsTrue result ↔ ((sink.failed self.now ≡ false)
             × (sink.len self.now % 8 ≡ 0)) };
 
-    /// Returns whether `bits` more bits fit. A `BitWriter` has no limit, so for it this is always
-    /// true.
+    /// Returns true if `bits` more bits fit. A `BitWriter` has no limit, so it always returns true.
     fn has_room(&self, bits: u128) -> bool
         ensures room { IsTrue result ↔ IsWithin sink.limit (sink.len self.now + bits) };
 
-    /// Writes an unsigned number in `bits` bits. In 0 bits any number is accepted, and nothing is
+    /// Writes an unsigned number in `bits` bits. At 0 bits any number is accepted, and nothing is
     /// written.
     ///
     /// # Errors
     ///
-    /// As [`write_unsigned_counted`](BitWrite::write_unsigned_counted).
+    /// The errors of [`write_unsigned_counted`](BitWrite::write_unsigned_counted).
     fn write_unsigned_var<U: UnsignedInteger>(&mut self, bits: u32, value: U) -> Result<(), Error>
         ensures writes { Writes sink (unsigned sink.order U.BITS_SIZE bits (U.value value))
             self.old result self.new }
@@ -116,7 +115,7 @@ pub trait BitWrite {
     ///
     /// # Errors
     ///
-    /// `Checked(ExcessiveValue)` if the number needs more bits.
+    /// `Checked(ExcessiveValue)` if the number needs more than `B::BITS` bits.
     fn write_unsigned<B: Width, U: UnsignedInteger>(&mut self, value: U) -> Result<(), Error>
         requires { B.BITS ≤ U.BITS_SIZE }
         ensures writes { Writes sink (unsigned sink.order U.BITS_SIZE B.BITS (U.value value))
@@ -129,7 +128,8 @@ pub trait BitWrite {
     ///
     /// # Errors
     ///
-    /// `NoSignBit` at 0 bits. Else as [`write_signed_counted`](BitWrite::write_signed_counted).
+    /// `NoSignBit` at 0 bits. Otherwise the errors of
+    /// [`write_signed_counted`](BitWrite::write_signed_counted).
     fn write_signed_var<S: SignedInteger>(&mut self, bits: u32, value: S) -> Result<(), Error>
         ensures writes { Writes sink (signed sink.order S.BITS_SIZE bits (S.integer value))
             self.old result self.new }
@@ -147,7 +147,7 @@ pub trait BitWrite {
     ///
     /// # Errors
     ///
-    /// `Checked(ExcessiveValue)` if the number needs more bits.
+    /// `Checked(ExcessiveValue)` if the number needs more than `B::BITS` bits.
     fn write_signed<B: Width, S: SignedInteger>(&mut self, value: S) -> Result<(), Error>
         requires some { 1 ≤ B.BITS }
         requires within { B.BITS ≤ S.BITS_SIZE }
@@ -185,7 +185,7 @@ pub trait BitWrite {
         self.write_bit(stop)
     }
 
-    /// Writes a count of bits, in as few bits as hold `C::MAX`.
+    /// Writes a count of bits, in the fewest bits that hold `C::MAX`.
     fn write_count<C: Count>(&mut self, count: C) -> Result<(), Error>
         requires { 0 < C.MAX }
         ensures writes { Writes sink (count_decoder sink.order C.MAX (C.number count))
@@ -229,7 +229,7 @@ pub trait BitWrite {
         Ok(())
     }
 
-    /// Writes `bits` bits of 0.
+    /// Writes `bits` zero bits.
     fn pad(&mut self, bits: u32) -> Result<(), Error>
         ensures writes { Writes sink (zeros bits) self.old result self.new }
     {
@@ -244,9 +244,10 @@ pub trait BitWrite {
         Ok(())
     }
 
-    /// Writes an unsigned number of variable width, in as few groups of `F::BITS` bits as hold it.
-    /// The highest bit of a group says whether another group follows. The other bits are digits of
-    /// the number, the lowest digits first. The format is the `vbr` of LLVM's bitstreams.
+    /// Writes an unsigned number of variable width, in the fewest groups of `F::BITS` bits that
+    /// hold it. The highest bit of a group is 1 if another group follows, and 0 otherwise. The other
+    /// bits are digits of the number, the lowest digits first. The format is the `vbr` of LLVM's
+    /// bitstreams.
     fn write_unsigned_vbr<F: Width, U: UnsignedInteger>(&mut self, value: U) -> Result<(), Error>
         requires some { 2 ≤ F.BITS }
         requires within { F.BITS < U.BITS_SIZE }
@@ -265,8 +266,8 @@ pub trait BitWrite {
         self.write_unsigned::<F, U>(rest)
     }
 
-    /// Writes a signed number of variable width. It is encoded as an unsigned one, by the zigzag of
-    /// Protocol Buffers: x as 2x, or as -2x - 1 if x is negative.
+    /// Writes a signed number of variable width. It is encoded as an unsigned number, by the zigzag
+    /// encoding of Protocol Buffers: x as 2x, or as -2x - 1 if x is negative.
     fn write_signed_vbr<F: Width, S: SignedInteger>(&mut self, value: S) -> Result<(), Error>
         requires some { 2 ≤ F.BITS }
         requires within { F.BITS < S.BITS_SIZE }
@@ -280,9 +281,9 @@ pub trait BitWrite {
     fn by_ref(&mut self) -> &mut Self
     where
         Self: Sized,
-        // It is this very reference, so its calls change this sink.
+        // It is this very reference, so calls on it change this sink.
         ensures same_reference { result.ghost_name ≡ self.entry.ghost_name }
-        // It reaches this sink, unchanged.
+        // It refers to this sink, unchanged.
         ensures same_value { result.now ≡ self.old }
     {
         self

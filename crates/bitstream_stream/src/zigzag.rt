@@ -1,4 +1,4 @@
-//! Signed numbers in the zigzag order 0, -1, 1, -2, 2 and so on, and back.
+//! Conversions of signed numbers to places in the zigzag order 0, -1, 1, -2, 2 and so on, and back.
 ghost use Rattle.std.specs.Prelude.{◌≡◌};
 ghost use Rattle.bitstream_number.specs.Word.{zig, zag};
 

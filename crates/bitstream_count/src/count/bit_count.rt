@@ -71,7 +71,7 @@ impl<const MAX: u32> BitCount<MAX> {
         }
     }
 
-    /// Applies `f` to the number of bits, and returns a count of the result; or `None` if `f`
+    /// Applies `f` to the number of bits, and returns a count of the result. Returns `None` if `f`
     /// returns `None` or a number above NEW_MAX.
     pub fn try_map<const NEW_MAX: u32, F: FnOnce(u32) -> Option<u32>>(
         self,
@@ -94,7 +94,7 @@ impl<const MAX: u32> BitCount<MAX> {
         MAX
     }
 
-    /// Returns the smaller of this count and a count of `bits`.
+    /// Returns the smaller of this count and a count of `bits` bits.
     pub fn min(self, bits: u32) -> Self
         ensures { result ≡ min self.entry bits }
     {
@@ -122,11 +122,12 @@ impl<const MAX: u32> BitCount<MAX> {
         Checked::of(self, lowest_bits(self.bits))
     }
 
-    /// Returns the range of the values of this number of bits: 0 to 2^n - 1, or all of U if n is
-    /// its size or more.
+    /// Returns the range of the values of this number of bits: 0 to 2^n - 1, or all values of U if
+    /// n is U's size in bits or more.
     pub fn range<U: UnsignedInteger>(&self) -> RangeInclusive<U>
         ensures start { U.value result.start ≡ 0 }
-        // For n bits, the range ends at 2^n - 1, or at U's greatest value if n is U's size or more.
+        // For n bits, the range ends at 2^n - 1, or at U's greatest value if n is U's size in bits
+        // or more.
         ensures end { U.value result.end ≡ 2 ^ (min self.now U.BITS_SIZE) - 1 }
         ensures open { result.exhausted ≡ false }
     {
@@ -136,7 +137,7 @@ impl<const MAX: u32> BitCount<MAX> {
 }
 
 impl BitCount<4294967295> {
-    /// Returns a count of a number of bits that is known only at run time.
+    /// Returns a count of `bits` bits, for a number that is known only at run time.
     pub fn unknown(bits: u32) -> Self
         ensures { result ≡ bits }
     {

@@ -14,8 +14,8 @@ use bitstream_number::number::{Numeric, SignedInteger, UnsignedInteger};
 use std::alloc::AllocError;
 use std::marker::Model;
 
-/// A type of counts, and the values of type T that such a count holds: the bound of a function over
-/// any [`Checked`]. Only the four types of counts of this crate implement it.
+/// A type of counts that hold values of type T. It is the bound of a function over any [`Checked`].
+/// Only the four count types of this crate implement it.
 pub trait Holds<T>: Sealed {
     // A count holds a value.
     ghost holds: { Self → T → Type 0 };
@@ -37,7 +37,8 @@ impl<const BITS: u32, S: SignedInteger> Holds<S> for FixedSignedBitCount<BITS> {
     ghost holds = { λ _ v. HoldsSigned S.BITS_SIZE BITS (S.integer v) };
 }
 
-/// A value with a count of bits that holds it. The count is not above the size of the value's type.
+/// A value with a count of bits that holds it. The count is at most the size in bits of the value's
+/// type.
 ///
 /// # Examples
 ///
@@ -84,14 +85,14 @@ pub type CheckedUnsigned<const MAX: u32, T> = Checked<BitCount<MAX>, T>;
 /// A signed value with a count from 1 to MAX bits that holds it.
 pub type CheckedSigned<const MAX: u32, T> = Checked<SignedBitCount<MAX>, T>;
 
-/// An unsigned value that BITS bits hold.
+/// An unsigned value that fits in BITS bits.
 pub type CheckedUnsignedFixed<const BITS: u32, T> = Checked<FixedBitCount<BITS>, T>;
 
-/// A signed value that BITS bits hold.
+/// A signed value that fits in BITS bits.
 pub type CheckedSignedFixed<const BITS: u32, T> = Checked<FixedSignedBitCount<BITS>, T>;
 
 impl<C: Holds<T>, T> Checked<C, T> {
-    /// Returns the value with a count that holds it, which the caller proves.
+    /// Returns the value with a count. The caller proves that the count holds the value.
     pub fn of(count: C, value: T) -> Self
         requires { C.holds count value }
         ensures count { result.0 ≡ count }
@@ -115,7 +116,7 @@ impl<C: Holds<T> + Copy, T: Copy> Checked<C, T> {
     /// Returns the value.
     pub fn into_value(self) -> T
         ensures value { result ≡ self.1 }
-        // The count kept with it holds it.
+        // The count stored with the value holds it.
         ensures holds { C.holds self.0 result }
     {
         self.value
@@ -124,19 +125,20 @@ impl<C: Holds<T> + Copy, T: Copy> Checked<C, T> {
     /// Returns the value by reference.
     pub fn as_ref(&self) -> &T
         ensures value { result.now ≡ self.now.1 }
-        // The count kept with it holds it.
+        // The count stored with the value holds it.
         ensures holds { C.holds self.now.0 result.now }
     {
         &self.value
     }
 }
 
-/// Checks a value against a number of bits, and returns the value to keep: at 0 bits any value is
-/// accepted, and 0 is kept.
+/// Checks that a value fits in `bits` bits, and returns the value to store. At 0 bits any value is
+/// accepted, and 0 is stored.
 ///
 /// # Errors
 ///
-/// `ExcessiveBits` if U has fewer bits, else `ExcessiveValue` if the value needs more.
+/// `ExcessiveBits` if U has fewer than `bits` bits. Otherwise `ExcessiveValue` if the value needs
+/// more than `bits` bits.
 fn check_unsigned<U: UnsignedInteger>(bits: u32, value: U) -> Result<U, CheckedError>
     ensures { MatchResult result
         (λ v. AcceptsUnsigned U.BITS_SIZE bits (U.value value)
@@ -161,11 +163,12 @@ fn negative_one<S: SignedInteger>() -> S
     S::ZERO - S::ONE
 }
 
-/// Checks a value against a number of bits, and returns it.
+/// Checks that a value fits in `bits` bits, and returns the value.
 ///
 /// # Errors
 ///
-/// `ExcessiveBits` if S has fewer bits, else `ExcessiveValue` if the value needs more.
+/// `ExcessiveBits` if S has fewer than `bits` bits. Otherwise `ExcessiveValue` if the value needs
+/// more than `bits` bits.
 fn check_signed<S: SignedInteger>(bits: u32, value: S) -> Result<S, CheckedError>
     requires { 1 ≤ bits }
     ensures { MatchResult result
@@ -184,12 +187,12 @@ fn check_signed<S: SignedInteger>(bits: u32, value: S) -> Result<S, CheckedError
 }
 
 impl<const MAX: u32, U: UnsignedInteger> Checked<BitCount<MAX>, U> {
-    /// Returns the value with this count. At 0 bits any value is accepted, and 0 is kept.
+    /// Returns the value with this count. At 0 bits any value is accepted, and 0 is stored.
     ///
     /// # Errors
     ///
-    /// `ExcessiveBits` if U has fewer bits than the count, else `ExcessiveValue` if the value needs
-    /// more.
+    /// `ExcessiveBits` if U has fewer bits than the count. Otherwise `ExcessiveValue` if the value
+    /// needs more bits than the count.
     pub fn new(count: BitCount<MAX>, value: U) -> Result<Self, CheckedError>
         ensures { MatchResult result
             (λ c. AcceptsUnsigned U.BITS_SIZE count.entry (U.value value) × (c.0 ≡ count.entry)
@@ -200,11 +203,11 @@ impl<const MAX: u32, U: UnsignedInteger> Checked<BitCount<MAX>, U> {
         Ok(Checked { count, value })
     }
 
-    /// Returns the value with a count of BITS bits, which is not above the type's size.
+    /// Returns the value with a count of BITS bits, at most the type's size in bits.
     ///
     /// # Errors
     ///
-    /// `ExcessiveValue` if the value needs more bits.
+    /// `ExcessiveValue` if the value needs more than BITS bits.
     pub fn new_fixed<const BITS: u32>(value: U) -> Result<Self, CheckedError>
         requires some { BITS ≤ MAX }
         requires within { BITS ≤ U.BITS_SIZE }
@@ -222,8 +225,8 @@ impl<const MAX: u32, S: SignedInteger> Checked<SignedBitCount<MAX>, S> {
     ///
     /// # Errors
     ///
-    /// `ExcessiveBits` if S has fewer bits than the count, else `ExcessiveValue` if the value needs
-    /// more.
+    /// `ExcessiveBits` if S has fewer bits than the count. Otherwise `ExcessiveValue` if the value
+    /// needs more bits than the count.
     pub fn new(count: SignedBitCount<MAX>, value: S) -> Result<Self, CheckedError>
         ensures { MatchResult result
             (λ c. HoldsSigned S.BITS_SIZE count.entry (S.integer value)
@@ -234,11 +237,11 @@ impl<const MAX: u32, S: SignedInteger> Checked<SignedBitCount<MAX>, S> {
         Ok(Checked { count, value })
     }
 
-    /// Returns the value with a count of BITS bits, which is not above the type's size.
+    /// Returns the value with a count of BITS bits, at most the type's size in bits.
     ///
     /// # Errors
     ///
-    /// `ExcessiveValue` if the value needs more bits.
+    /// `ExcessiveValue` if the value needs more than BITS bits.
     pub fn new_fixed<const BITS: u32>(value: S) -> Result<Self, CheckedError>
         requires some { 1 ≤ BITS }
         requires most { BITS ≤ MAX }
@@ -252,11 +255,11 @@ impl<const MAX: u32, S: SignedInteger> Checked<SignedBitCount<MAX>, S> {
 }
 
 impl<const BITS: u32, U: UnsignedInteger> Checked<FixedBitCount<BITS>, U> {
-    /// Returns the value with a count of BITS bits, which is not above the type's size.
+    /// Returns the value with a count of BITS bits, at most the type's size in bits.
     ///
     /// # Errors
     ///
-    /// `ExcessiveValue` if the value needs more bits.
+    /// `ExcessiveValue` if the value needs more than BITS bits.
     pub fn new_fixed(value: U) -> Result<Self, CheckedError>
         requires { BITS ≤ U.BITS_SIZE }
         ensures { MatchResult result
@@ -271,11 +274,11 @@ impl<const BITS: u32, U: UnsignedInteger> Checked<FixedBitCount<BITS>, U> {
 }
 
 impl<const BITS: u32, S: SignedInteger> Checked<FixedSignedBitCount<BITS>, S> {
-    /// Returns the value with a count of BITS bits, which is not above the type's size.
+    /// Returns the value with a count of BITS bits, at most the type's size in bits.
     ///
     /// # Errors
     ///
-    /// `ExcessiveValue` if the value needs more bits.
+    /// `ExcessiveValue` if the value needs more than BITS bits.
     pub fn new_fixed(value: S) -> Result<Self, CheckedError>
         requires some { 1 ≤ BITS }
         requires within { BITS ≤ S.BITS_SIZE }

@@ -27,7 +27,7 @@ impl<const BITS: u32, const MAX: u32> TryFrom<BitCount<MAX>> for FixedBitCount<B
     ///
     /// # Errors
     ///
-    /// The count itself, if it is of another number of bits.
+    /// The count itself, if its number of bits is not BITS.
     fn try_from(count: BitCount<MAX>) -> Result<FixedBitCount<BITS>, BitCount<MAX>> {
         if count.bits() == BITS {
             Ok(FixedBitCount)
@@ -37,7 +37,7 @@ impl<const BITS: u32, const MAX: u32> TryFrom<BitCount<MAX>> for FixedBitCount<B
     }
 }
 
-/// A count of BITS bits, at least 1, the sign bit included.
+/// A count of BITS bits, including the sign bit. BITS is at least 1.
 #[derive(Copy, Clone, Debug)]
 pub struct FixedSignedBitCount<const BITS: u32> {
     ghost some: { 1 ≤ BITS },
@@ -60,7 +60,7 @@ impl<const BITS: u32, const MAX: u32> TryFrom<SignedBitCount<MAX>> for FixedSign
     ///
     /// # Errors
     ///
-    /// The count itself, if it is of another number of bits.
+    /// The count itself, if its number of bits is not BITS.
     fn try_from(
         count: SignedBitCount<MAX>,
     ) -> Result<FixedSignedBitCount<BITS>, SignedBitCount<MAX>> {

@@ -1,4 +1,4 @@
-//! The traits of counts of bits, whatever their greatest number is.
+//! The traits of counts of bits, for any greatest number of bits.
 
 ghost use Rattle.std.specs.Prelude.{◌≡◌, ℕ, ◌<◌, ◌≤◌, MatchOption};
 ghost use Rattle.bitstream_count.specs.Counts.{IsOutOfRange};
@@ -24,7 +24,7 @@ pub trait Count: Sealed + Copy {
         ensures { MatchOption result (MAX < bits) (λ n. (bits ≤ MAX) × (number n ≡ bits)) };
 }
 
-/// A count of bits, from 1 to `MAX`, the sign bit included. `SignedBitCount<MAX>` is the only one.
+/// A count of bits, from 1 to `MAX`, including the sign bit. `SignedBitCount<MAX>` is the only one.
 pub trait SignedCount: Sealed + Copy {
     /// The greatest number of bits.
     const MAX: u32;
@@ -33,10 +33,10 @@ pub trait SignedCount: Sealed + Copy {
 
     ghost number: { Self → ℕ };
 
-    /// Returns the number of bits, the sign bit included.
+    /// Returns the number of bits, including the sign bit.
     fn bits(self) -> u32
         ensures value { result ≡ number self }
-        // It is at least 1, since the sign bit is one of them.
+        // The result is at least 1, since the sign bit counts.
         ensures some { 1 ≤ result }
         ensures bound { result ≤ MAX };
 

@@ -1,4 +1,4 @@
-//! Splits of numbers into lowest bits and the bits above.
+//! Splits of numbers into their lowest bits and the bits above.
 
 ghost use Rattle.std.specs.Prelude.{◌≡◌, ℕ, ◌+◌, ◌-◌, ◌*◌, ◌%◌, ◌^◌, ◌≤◌, min};
 
@@ -42,7 +42,7 @@ pub(crate) fn lowest_bits<U: UnsignedInteger>(bits: u32) -> U
 }
 
 impl<const MAX: u32> BitCount<MAX> {
-    /// Returns a split at this number of bits, or at the type's size if that is less.
+    /// Returns a split at this number of bits, or at the type's size in bits if that is less.
     pub fn mask_lsb<U: UnsignedInteger>(self) -> LsbMask<MAX, U>
         ensures { result ≡ min self.entry U.BITS_SIZE }
     {
@@ -54,9 +54,9 @@ impl<const MAX: u32> BitCount<MAX> {
 }
 
 impl<const MAX: u32, U: UnsignedInteger> LsbMask<MAX, U> {
-    /// Returns the number of the bits above, and the number of the lowest bits.
+    /// Splits `v`: returns the bits above as a number, and then the lowest bits as a number.
     pub fn split(&self, v: U) -> (U, CheckedUnsigned<MAX, U>)
-        // The count of the low value is n, the one at which this mask splits.
+        // The count of the low value is n, the number of bits at which this mask splits.
         ensures count { result.1.0 ≡ self.now }
         // The number is the high value times 2^n, plus the low value.
         ensures split { U.value v ≡ U.value result.0 * 2 ^ self.now + U.value result.1.1 }

@@ -4,7 +4,7 @@ use crate::count::bit_count::BitCount;
 use crate::count::fixed::{FixedBitCount, FixedSignedBitCount};
 use crate::count::signed_bit_count::SignedBitCount;
 
-/// A type of counts of this crate.
+/// A count type of this crate.
 pub trait Sealed {}
 
 impl<const MAX: u32> Sealed for BitCount<MAX> {}

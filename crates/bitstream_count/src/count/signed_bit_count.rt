@@ -13,7 +13,7 @@ use std::fmt;
 use std::marker::Model;
 use std::ops::RangeInclusive;
 
-/// A count of bits, from 1 to MAX, the sign bit included.
+/// A count of bits, from 1 to MAX, including the sign bit.
 ///
 /// # Examples
 ///
@@ -83,7 +83,7 @@ impl<const MAX: u32> SignedBitCount<MAX> {
         left.signed_count()
     }
 
-    /// Applies `f` to the number of bits, and returns a count of the result; or `None` if `f`
+    /// Applies `f` to the number of bits, and returns a count of the result. Returns `None` if `f`
     /// returns `None`, 0 or a number above NEW_MAX.
     pub fn try_map<const NEW_MAX: u32, F: FnOnce(u32) -> Option<u32>>(
         self,
@@ -104,7 +104,7 @@ impl<const MAX: u32> SignedBitCount<MAX> {
         MAX
     }
 
-    /// Returns a `BitCount` of the same number of bits, the sign bit included.
+    /// Returns a `BitCount` of the same number of bits, including the sign bit.
     pub fn count(&self) -> BitCount<MAX>
         ensures { result ≡ self.now }
     {
@@ -118,12 +118,13 @@ impl<const MAX: u32> SignedBitCount<MAX> {
         self.count.min(self.count.bits() - 1)
     }
 
-    /// Returns the range of the values of this number of bits: -2^(n-1) to 2^(n-1) - 1, or all of S
-    /// if n is its size or more.
+    /// Returns the range of the values of this number of bits: -2^(n-1) to 2^(n-1) - 1, or all
+    /// values of S if n is S's size in bits or more.
     pub fn range<S: SignedInteger>(&self) -> RangeInclusive<S>
-        // For n bits, the range begins at -2^(n-1), or at S's least value if n is S's size or more.
+        // For n bits, the range begins at -2^(n-1), or at S's least value if n is S's size in bits
+        // or more.
         ensures start { S.integer result.start ≡ pos 0 -ℤ pos (2 ^ (min self.now S.BITS_SIZE - 1)) }
-        // It ends at 2^(n-1) - 1, or at S's greatest value then.
+        // It ends at 2^(n-1) - 1, or at S's greatest value if n is S's size in bits or more.
         ensures end { S.integer result.end ≡ pos (2 ^ (min self.now S.BITS_SIZE - 1) - 1) }
         ensures open { result.exhausted ≡ false }
     {

@@ -1,4 +1,4 @@
-//! Integers of either sign.
+//! Signed and unsigned integers.
 
 ghost use Rattle.std.specs.Prelude.{◌≡◌, ◌≢◌, ◌↔◌, ℕ, ℤ, pos, negsuc, ◌*◌, ◌<◌, ◌≤◌, ◌-ℤ◌, Some, IsTrue, int_rem};
 ghost use Rattle.std.specs.Ordering.{int_cmp};
@@ -9,7 +9,7 @@ use std::ops::{
     BitAnd, BitOr, BitOrAssign, BitXor, Not, Rem, RemAssign, Shl, ShlAssign, Shr, ShrAssign, Sub,
 };
 
-/// An integer type, of either sign.
+/// An integer type, signed or unsigned.
 pub trait Numeric: Primitive
     + Copy
     + Default
@@ -78,7 +78,7 @@ pub trait Numeric: Primitive
     ghost order_law: { (a b : Self)
         → Self.partial_cmp a b ≡ Some (int_cmp (integer a) (integer b)) };
 
-    // The bitwise operators can always be computed, and so can a shift by less than the size.
+    // The bitwise operators can always be computed, and so can a shift by less than `BITS_SIZE`.
     ghost can_shl_law: { (a : Self) (k : ℕ) → k < BITS_SIZE → Self.can_shl a k };
 
     ghost can_shr_law: { (a : Self) (k : ℕ) → k < BITS_SIZE → Self.can_shr a k };
@@ -104,7 +104,7 @@ pub trait Numeric: Primitive
     ghost rem_law: { (a b r : Self) → Self.rem_gives a b r
         → integer r ≡ int_rem (integer a) (integer b) };
 
-    // An assigning operator (`<<=` and so on) has the clauses of the plain one.
+    // An assigning operator (`<<=` and so on) has the same clauses as the plain operator.
     ghost can_shl_assign_law: { (a : Self) (k : ℕ) → Self.can_shl a k → Self.can_shl_assign a k };
 
     ghost shl_assign_law: { (a : Self) (k : ℕ) (r : Self) → Self.shl_assign_gives a k r

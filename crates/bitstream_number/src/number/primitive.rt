@@ -3,7 +3,7 @@
 ghost use Rattle.std.specs.Prelude.{refl, ◌≡◌, ℕ, List, length};
 ghost use Rattle.std.specs.Borrow.{sem, Lends, Array, u8 as byte};
 
-/// A buffer of a fixed number of bytes, as an array of bytes is.
+/// A buffer of a fixed number of bytes, such as an array of bytes.
 pub trait Buffer: Copy {
     // The bytes in a buffer, and the buffer that holds given bytes.
     ghost items: { Self → List ℕ };
@@ -40,8 +40,8 @@ impl<const N: usize> Buffer for [u8; N] {
     ghost items_law = { λ bs. refl };
 }
 
-/// A value of a fixed number of bytes: an integer, or an array of bytes. An array has the same
-/// bytes in either byte order: its own.
+/// A value of a fixed number of bytes: an integer, or an array of bytes. The bytes of an array are
+/// its own bytes, in either byte order.
 pub trait Primitive: Sized {
     /// The buffer that holds the bytes of a value.
     type Bytes: Buffer;

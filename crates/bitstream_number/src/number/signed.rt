@@ -13,7 +13,7 @@ pub trait SignedInteger: Numeric {
     /// The unsigned type of the same size.
     type Unsigned: UnsignedInteger<Signed = Self>;
 
-    /// Returns whether the number is negative.
+    /// Returns true if the number is negative.
     fn is_negative(self) -> bool
         ensures { IsTrue result ↔ (Self.integer self <ℤ pos 0) };
 

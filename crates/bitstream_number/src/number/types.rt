@@ -1,4 +1,5 @@
-//! The ten integer types, a file each. `.ci/numbers` prints the files, from `tools/numbers`.
+//! The ten integer types, one file each. `.ci/numbers` prints the files from the templates in
+//! `tools/numbers`.
 
 mod i128;
 mod i16;

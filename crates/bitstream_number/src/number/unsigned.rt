@@ -20,17 +20,17 @@ use crate::number::width::Width;
 /// assert_eq!(rt; UnsignedInteger::shl_default(3u8, 8), 0);
 /// ```
 pub trait UnsignedInteger: Numeric {
-    /// The value with its most significant bit set, and no other.
+    /// The value with only its most significant bit set.
     const MSB_BIT: Self;
 
     ghost MSB_BIT: { Self };
 
-    /// The value with its least significant bit set, and no other.
+    /// The value with only its least significant bit set.
     const LSB_BIT: Self;
 
     ghost LSB_BIT: { Self };
 
-    /// The value with all bits set: the greatest one.
+    /// The value with all bits set: the greatest value of the type.
     const ALL: Self;
 
     ghost ALL: { Self };
@@ -45,7 +45,7 @@ pub trait UnsignedInteger: Numeric {
 
     ghost signed: { Self.Signed → ℤ };
 
-    /// Converts a number, which must be in the type's range.
+    /// Converts a `u64` to this type. The number must be in the type's range.
     fn from_u64(number: u64) -> Self
         requires { number < 2 ^ Self.BITS_SIZE }
         ensures { value result ≡ number };
@@ -72,16 +72,16 @@ pub trait UnsignedInteger: Numeric {
         self.as_negative(B::BITS)
     }
 
-    /// Shifts to the left. Returns `None` if `rhs` is the type's size or more.
+    /// Shifts to the left. Returns `None` if `rhs` is `BITS_SIZE` or more.
     fn checked_shl(self, rhs: u32) -> Option<Self>
         ensures { SomeIff result (rhs < Self.BITS_SIZE)
             (of ((value self * 2 ^ rhs) % 2 ^ Self.BITS_SIZE)) };
 
-    /// Shifts to the right. Returns `None` if `rhs` is the type's size or more.
+    /// Shifts to the right. Returns `None` if `rhs` is `BITS_SIZE` or more.
     fn checked_shr(self, rhs: u32) -> Option<Self>
         ensures { SomeIff result (rhs < Self.BITS_SIZE) (of (value self / 2 ^ rhs)) };
 
-    /// Shifts to the left. Returns 0 if `rhs` is the type's size or more.
+    /// Shifts to the left. Returns 0 if `rhs` is `BITS_SIZE` or more.
     fn shl_default(self, rhs: u32) -> Self
         ensures { value result ≡ (value self * 2 ^ rhs) % 2 ^ Self.BITS_SIZE }
     {
@@ -91,7 +91,7 @@ pub trait UnsignedInteger: Numeric {
         }
     }
 
-    /// Shifts to the right. Returns 0 if `rhs` is the type's size or more.
+    /// Shifts to the right. Returns 0 if `rhs` is `BITS_SIZE` or more.
     fn shr_default(self, rhs: u32) -> Self
         ensures { value result ≡ value self / 2 ^ rhs }
     {
@@ -113,7 +113,7 @@ pub trait UnsignedInteger: Numeric {
     ghost order_value_law: { (a b : Self)
         → Self.partial_cmp a b ≡ Some (nat_cmp (value a) (value b)) };
 
-    // The number of a byte, and that a value is in the type's range.
+    // The number of a converted byte, and the fact that a value is in the type's range.
     ghost byte_law: { (x : Self) (u : ℕ) → Self.integer x ≡ Self.wrap (pos u) → u < 256
         → value x ≡ u };
 

@@ -16,7 +16,7 @@ pub trait Width: sealed::Sealed {
     ghost BITS: { ℕ };
 }
 
-/// N bits, as a type. A method of a trait takes it instead of a const parameter.
+/// N bits, as a type. Trait methods take it instead of a const parameter.
 pub struct Bits<const N: u32>;
 
 impl<const N: u32> Width for Bits<N> {

@@ -11,8 +11,8 @@ fn copy_all<const N: usize>(to: &mut [u8], from: &[u8])
     to[..N].copy_from_slice(&from[..N]);
 }
 
-/// Copies bytes. Up to 16 bytes, the most that a word has, are copied with a constant length, so
-/// without a call.
+/// Copies bytes. Up to 16 bytes, the size of the largest word, are copied with a constant length,
+/// and so without a function call.
 #[inline(always)]
 pub(crate) fn copy(to: &mut [u8], from: &[u8])
     requires { length to.old ≡ length from.now }
@@ -39,18 +39,18 @@ pub(crate) fn copy(to: &mut [u8], from: &[u8])
     }
 }
 
-/// Copies the first `count` bytes to the start of a buffer, if there are `count`, and returns true
-/// if there are. The rest of the buffer is unspecified: it may be overwritten, because a copy of
+/// If there are at least `count` bytes, copies the first `count` to the start of a buffer and
+/// returns true. The rest of the buffer is unspecified: it may be overwritten, because a copy of
 /// constant length is faster.
 #[inline(always)]
 pub(crate) fn copy_prefix(to: &mut [u8], from: &[u8], count: usize) -> bool
     requires { count ≤ length to.old }
     ensures len { length to.new ≡ length to.old }
     ensures enough { IsTrue result ↔ (count ≤ length from.now) }
-    // If there are enough, the buffer begins with the first `count` bytes.
+    // If there are at least `count` bytes, the buffer begins with the first `count` bytes.
     ensures copied { IsTrue result → take count to.new ≡ take count from.now }
 {
-    // There are enough bytes for the whole buffer, whose length is mostly a constant.
+    // There are enough bytes for the whole buffer, whose length is usually a constant.
     if from.len() >= to.len() {
         copy(to, &from[..to.len()]);
         return true;
@@ -58,7 +58,7 @@ pub(crate) fn copy_prefix(to: &mut [u8], from: &[u8], count: usize) -> bool
     if from.len() < count {
         return false;
     }
-    // Near the end of the bytes only those asked for are copied.
+    // Near the end of the bytes, only `count` bytes are copied.
     copy(&mut to[..count], &from[..count]);
     true
 }

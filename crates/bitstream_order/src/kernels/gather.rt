@@ -18,13 +18,14 @@ pub fn unused_bits(n: u32) -> u32
     (8 - n % 8) % 8
 }
 
-/// Takes the next n bits of the stream by one request, for their bytes. Returns the number whose
-/// word is the `done` bits of `acc` and then these n bits, and a byte whose first bits are the rest
-/// of the last byte. `constant` is true if n is known at compile time (see [`Port::fetch_prefix`]).
+/// Takes the next n bits of the stream by one request for the bytes that hold them. Appends these n
+/// bits to the `done` bits of `acc`, and returns the result as a number. Also returns a byte whose
+/// first bits are the rest of the last fetched byte. `constant` is true if n is known at compile
+/// time (see [`Port::fetch_prefix`]).
 ///
 /// # Errors
 ///
-/// As [`Port::fetch`]. No byte is fetched then.
+/// The errors of [`Port::fetch`]. No byte is fetched then.
 #[inline(always)]
 pub fn take_bits<S: Source, E: Endianness, U: UnsignedInteger>(
     port: &mut Port<S>,
@@ -44,7 +45,7 @@ pub fn take_bits<S: Source, E: Endianness, U: UnsignedInteger>(
     ensures requests { requests_count port.new ≡ requests_count port.old + 1 }
 {
     let mut bytes = U::buffer();
-    // Only the bytes that hold these bits are asked for.
+    // Only the bytes that hold these bits are requested.
     let count = (n + 7) / 8;
     match port.fetch_prefix(U::as_bytes_mut(&mut bytes), count as usize, constant) {
         Ok(()) => {

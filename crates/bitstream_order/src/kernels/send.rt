@@ -11,12 +11,12 @@ use crate::streams::target::Target;
 use bitstream_count::error::Error;
 use bitstream_number::number::{Numeric, Primitive, UnsignedInteger};
 
-/// Sends the whole bytes of a queue of bits and the n bits of a value after it, by one request.
-/// Returns the number of the n bits that were sent: all but fewer than 8.
+/// Appends the n bits of a value to a queue of bits, and sends the whole bytes of the result by one
+/// request. Returns how many of the n bits were sent: fewer than 8 are left.
 ///
 /// # Errors
 ///
-/// As [`Port::send`]. None of these bits is counted as sent then.
+/// The errors of [`Port::send`]. None of these bits is counted as sent then.
 #[inline(always)]
 pub fn send_prefix<T: Target, E: Endianness, U: UnsignedInteger>(
     port: &mut Port<T>,
@@ -29,8 +29,8 @@ pub fn send_prefix<T: Target, E: Endianness, U: UnsignedInteger>(
     requires small { queue < 2 ^ queued }
     requires full { 8 ≤ queued + n }
     requires room { n ≤ U.BITS_SIZE }
-    // The queue is sent, and then the number of bits of the word that the result says; or the
-    // request is refused.
+    // The queue is sent, and then as many bits of the word as the result states. Or the request is
+    // refused.
     ensures sends { SendsPrefix (MayRefuseWrite T.stream) E.order
         (word E.order queued queue) (word E.order n (U.value value))
         (target_state T.stream port.old) result (target_state T.stream port.new) }

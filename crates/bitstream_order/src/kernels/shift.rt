@@ -6,10 +6,10 @@ ghost use Rattle.bitstream_order.specs.Moving.Shift.{Shifts};
 use crate::order::Endianness;
 use bitstream_number::number::{Numeric, Primitive, UnsignedInteger};
 
-/// Prepends the queued bits to bytes in place, one value of type U at a time, and leaves the last
-/// bytes, fewer than a U has. Returns the number of bytes shifted, and the bits left over, whose
-/// number is `queued`. Each iteration carries the whole value of the iteration before; only its
-/// last bits count.
+/// Prepends the queued bits to bytes in place, one value of type U at a time. The last bytes, fewer
+/// than the size of U, are left unshifted. Returns the number of bytes shifted, and the `queued`
+/// bits left over. Each iteration carries the whole value of the previous iteration; only its last
+/// bits count.
 #[inline(always)]
 fn shift_values<E: Endianness, U: UnsignedInteger>(
     queue: u8,
@@ -22,16 +22,16 @@ fn shift_values<E: Endianness, U: UnsignedInteger>(
     // The queue and the old bits of the shifted bytes are their new bits and the bits left over.
     ensures shifts { Shifts E.order queued queue (bits E.order (take result.0 bytes.old))
         (bits E.order (take result.0 bytes.new)) result.1 }
-    // The bits left over are `queued` bits.
+    // The bits left over fit in `queued` bits.
     ensures small { result.1 < 2 ^ queued }
     ensures rest { drop result.0 bytes.new ≡ drop result.0 bytes.old }
     // No more bytes are shifted than there are.
     ensures within { result.0 ≤ length bytes.old }
-    // Fewer bytes than U has are left unshifted.
+    // Fewer than `U::BYTES` bytes are left unshifted.
     ensures most { length bytes.old < result.0 + U.BYTES }
     ensures len { length bytes.new ≡ length bytes.old }
 {
-    // The queue is the last bits of a value before the first one.
+    // The queue is treated as the last bits of a value that precedes the first one.
     let rest = U::BITS_SIZE - queued;
     let mut before = E::put(U::ZERO, rest, U::from_u8(queue), queued);
     let mut at = 0;
@@ -40,7 +40,7 @@ fn shift_values<E: Endianness, U: UnsignedInteger>(
         let mut part = U::buffer();
         U::as_bytes_mut(&mut part).copy_from_slice(&bytes[at..end]);
         let value = E::of_bytes::<U>(part);
-        // The last bits of the value before it, and then this value but for its own last bits.
+        // The last bits of the previous value, and then this value without its own last bits.
         let shifted = E::to_bytes(E::shift_in(before, queued, value));
         bytes[at..end].copy_from_slice(U::as_bytes(&shifted));
         before = value;
@@ -50,8 +50,7 @@ fn shift_values<E: Endianness, U: UnsignedInteger>(
     (at, E::cut(before, U::BITS_SIZE, rest, queued))
 }
 
-/// Prepends the queued bits to bytes in place, and returns the bits left over, whose number is
-/// `queued`.
+/// Prepends the queued bits to bytes in place, and returns the `queued` bits left over.
 #[inline(always)]
 pub fn shift<E: Endianness>(queue: u8, queued: u32, bytes: &mut [u8]) -> u8
     requires some { 1 ≤ queued }
@@ -60,11 +59,11 @@ pub fn shift<E: Endianness>(queue: u8, queued: u32, bytes: &mut [u8]) -> u8
     // The queue and the old bits of the bytes are their new bits and the bits left over.
     ensures shifts { Shifts E.order queued queue (bits E.order bytes.old)
         (bits E.order bytes.new) result }
-    // The bits left over are `queued` bits.
+    // The bits left over fit in `queued` bits.
     ensures small { result < 2 ^ queued }
     ensures len { length bytes.new ≡ length bytes.old }
 {
     let (at, left) = shift_values::<E, u64>(queue, queued, bytes);
-    // Fewer than 8 bytes are left, which go one by one.
+    // Fewer than 8 bytes are left. They are shifted one by one.
     shift_values::<E, u8>(left, queued, &mut bytes[at..]).1
 }

@@ -16,7 +16,7 @@ use bitstream_count::error::Error;
 ///
 /// # Errors
 ///
-/// As [`Port::fetch`]. No byte is fetched then.
+/// The errors of [`Port::fetch`]. No byte is fetched then.
 #[inline(always)]
 fn fetch_byte<S: Source>(port: &mut Port<S>) -> Result<u8, Error>
     ensures { FetchesByte (MayRefuseRead S.stream) (source_state S.stream port.old) result
@@ -38,13 +38,14 @@ pub struct TakenUnary {
     pub queued: u32,
 }
 
-/// Takes bits up to and including the first one that is `stop`: the first `queued` bits of a byte,
-/// and then the bits of the stream, one byte an iteration. Returns `None` if 2^32 bits come before
+/// Takes bits up to and including the first `stop` bit: from the first `queued` bits of a byte,
+/// and then from the stream, one byte per iteration. Returns `None` if 2^32 bits come before
 /// any stop bit.
 ///
 /// # Errors
 ///
-/// As [`Port::fetch`]. The bits of all bytes that were fetched before are taken then.
+/// The errors of [`Port::fetch`]. The bits of all bytes that were fetched before the error are
+/// taken then.
 #[inline(always)]
 pub fn take_unary<S: Source, E: Endianness>(
     port: &mut Port<S>,
@@ -54,20 +55,20 @@ pub fn take_unary<S: Source, E: Endianness>(
     stop: bool,
 ) -> Result<Option<TakenUnary>, Error>
     requires { queued < 8 }
-    // The queued bits and then those fetched are the unary word and the bits left. Or the run is
-    // too long, or a request is refused.
+    // The queued bits and then the fetched bits are the unary word and then the bits left. Or the
+    // run is too long, or a request is refused.
     ensures takes { TakesUnary (MayRefuseRead S.stream) E.order stop
         (word E.order queued (first_part E.order queue 8 queued))
         (source_state S.stream port.old) result (source_state S.stream port.new) }
     // If a word was taken, fewer than 8 bits are left after it.
     ensures few { IfOk result (λ answer. IfSome answer (λ run. run.queued < 8)) }
-    // Unless a request is refused, it takes one iteration more than the number of bytes that it
-    // fetches.
+    // Unless a request is refused, the number of iterations is one more than the number of bytes
+    // fetched.
     ensures turns { OnOk result (turns.new.count
         ≡ turns.old.count + (fetched_count port.new - fetched_count port.old) + 1) }
 {
-    // The first iteration reads the queue. The bits after the queued ones mean nothing, so a stop
-    // bit there does not count.
+    // The first iteration reads the queue. The bits after the queued ones are meaningless, so a
+    // stop bit there does not count.
     turns.add(1);
     let first = E::run_length(queue, stop);
     // The stop bit is in the queue, so no byte is needed.
@@ -81,11 +82,11 @@ pub fn take_unary<S: Source, E: Endianness>(
     // No queued bit is the stop bit, so all of them count.
     let mut count = queued;
     loop {
-        // One more byte is needed, and for now no other: the stop bit may be in it.
+        // Only one more byte is fetched, since the stop bit may be in it.
         let byte = fetch_byte(port)?;
         turns.add(1);
         let lead = E::run_length(byte, stop);
-        // A sum that a `u32` does not hold is a run of 2^32 bits or more.
+        // A sum that overflows a `u32` means a run of 2^32 bits or more.
         let Some(more) = count.checked_add(lead) else {
             return Ok(None);
         };

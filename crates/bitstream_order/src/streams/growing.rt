@@ -1,4 +1,4 @@
-//! A vector of bytes, as a target that refuses if the vector cannot grow, and never else.
+//! A vector of bytes, as a target that refuses a write only if the vector cannot grow.
 ghost use Rattle.std.specs.Prelude.{◌≡◌, [], length};
 ghost use Rattle.bitstream_order.specs.Streaming.Growing.{IsExtended};
 
@@ -8,9 +8,9 @@ use std::io;
 use std::io::ErrorKind;
 
 /// A vector of bytes, with writes appended to it. A request is refused if and only if the vector
-/// needs memory and gets none, always as `OutOfMemory`, and then the bytes are unchanged. So the
-/// state after a refusal is known to a writer over it. (std's contract does not state this for a
-/// `Vec` as a stream.)
+/// needs memory and the allocation fails. The kind of the error is then `OutOfMemory`, and the
+/// bytes are unchanged. So a writer over it knows the state after a refusal. (std's contract does
+/// not state this for a `Vec` as a stream.)
 ///
 /// # Examples
 ///
@@ -72,7 +72,7 @@ fn extend_by<const N: usize, A: Allocator>(
 }
 
 /// Appends bytes to a vector. Up to 8 bytes, which is enough for most words, are copied with a
-/// constant length, so without a call.
+/// constant length, and so without a function call.
 #[inline(always)]
 fn extend<A: Allocator>(vec: &mut Vec<u8, A>, bytes: &[u8]) -> Result<(), AllocError>
     ensures { IsExtended vec.old bytes.now result vec.new }

@@ -29,8 +29,8 @@ pub trait SeekSource: Source {
     ///
     /// The errors of [`Seek::seek`] of the source. The position is unchanged then.
     fn seek(&mut self, to: SeekFrom) -> io::Result<u64>
-        // If the source's position is known, it becomes the result, or stays if the seek is
-        // refused. If its bytes are known too, the result is the place meant.
+        // If the source's position is known, the new position is the result, or the old one if the
+        // seek is refused. If its bytes are known too, the result is the position that `to` means.
         ensures moves { SeekMoves (position self.old) (position self.new)
             (bytes self.old) to result }
         // All bytes of the source stay the same, if they are known.

@@ -11,12 +11,13 @@ use std::io;
 use std::io::{ErrorKind, SeekFrom};
 
 /// Bytes in memory, read from their start. A read is refused exactly if fewer bytes are left than
-/// it asks for: with `UnexpectedEof`, and without taking any. So the bytes alone decide the results
-/// of a reader over it. (std's contract does not state this for a `&[u8]` as a stream.)
+/// it asks for. The error is then `UnexpectedEof`, and no byte is taken. So the results of a reader
+/// over it depend only on the bytes. (std's contract does not state this for a `&[u8]` as a
+/// stream.)
 ///
 /// It seeks as std's `Cursor` does. A place past the end is allowed, and no byte is left there. A
-/// seek is refused exactly if its place is below 0 or above 2^64 - 1: with `InvalidInput`, and
-/// without moving.
+/// seek is refused exactly if its place in bytes is below 0 or above 2^64 - 1. The error is then
+/// `InvalidInput`, and the place is unchanged.
 ///
 /// # Examples
 ///
@@ -46,7 +47,7 @@ impl<'a> Slice<'a> {
     pub fn new(bytes: &'a [u8]) -> Slice<'a>
         // All these bytes are left.
         ensures bytes { slice_left result ≡ bytes.now }
-        // They are all its bytes, from place 0 on.
+        // They are all bytes of the source, from place 0 on.
         ensures all { slice_bytes result ≡ bytes.now }
         ensures place { slice_place result ≡ 0 }
     {
@@ -71,7 +72,7 @@ impl<'a> Slice<'a> {
         (self.all.len() - self.bytes.len()) as u64 + self.past
     }
 
-    /// Returns the place in bytes that is meant, if there is one.
+    /// Returns the place in bytes that `to` means, or `None` if there is no such place.
     fn place_meant(&self, to: SeekFrom) -> Option<u64>
         ensures { SomeIff result
             (FitsUnsigned w64 (byte_meant (slice_place self.now) (length (slice_bytes self.now)) to))
@@ -114,8 +115,8 @@ impl<'a> Source for Slice<'a> {
         Ok(())
     }
 
-    /// Copies the first bytes that fill the buffer, if there are enough, and takes the first
-    /// `count`. If `count` is known at compile time, it copies only these.
+    /// Takes the first `count` bytes. Copies as many bytes as the buffer has, if there are enough.
+    /// If `constant` is true, copies only the first `count` bytes.
     #[inline(always)]
     fn read_prefix(&mut self, buf: &mut [u8], count: usize, constant: bool) -> io::Result<()> {
         if constant {

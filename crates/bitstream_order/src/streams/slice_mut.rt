@@ -8,9 +8,10 @@ use std::io;
 use std::io::ErrorKind;
 
 /// Bytes in memory, written from their start. Bytes not yet written keep their values. A request is
-/// refused exactly if fewer bytes are free than it has: as `WriteZero`, and without writing any. So
-/// a program packs into a buffer of its own, with no allocator, and its writer fails only for want
-/// of room. (std's contract does not state this for a `&mut [u8]` as a stream.)
+/// refused exactly if it has more bytes than are free. The error is then `WriteZero`, and no byte
+/// is written. So a program can pack into its own buffer without an allocator, and its writer fails
+/// only if the buffer has too little room. (std's contract does not state this for a `&mut [u8]` as
+/// a stream.)
 ///
 /// # Examples
 ///
@@ -30,7 +31,7 @@ pub struct SliceMut<'a> {
     bytes: &'a mut [u8],
     // The number of bytes written.
     written: usize,
-    // The bytes as they were at first.
+    // The initial bytes.
     was: GhostBytes,
     ghost room: { written ≤ length bytes.now },
     ghost len: { length bytes.now ≡ length was.list },
@@ -40,16 +41,16 @@ pub struct SliceMut<'a> {
 impl<'a> SliceMut<'a> {
     ghost use Rattle.bitstream_order.specs.Streaming.SliceMut.{slice_bytes, slice_capacity, slice_name, slice_was, written_bytes};
 
-    /// Returns a target that writes to these bytes, from their first byte on.
+    /// Returns a target that writes to these bytes, starting at the first byte.
     pub fn new(bytes: &'a mut [u8]) -> SliceMut<'a>
         // No byte is written yet.
         ensures written { written_bytes result ≡ [] }
         ensures capacity { slice_capacity result ≡ length bytes.old }
-        // The bytes of the slice are as they were.
+        // The bytes of the slice are unchanged.
         ensures bytes { slice_bytes result ≡ bytes.old }
-        // The target knows them.
+        // The target records them as its initial bytes.
         ensures was { slice_was result ≡ bytes.old }
-        // It reaches the bytes by this very reference.
+        // It reaches the bytes through this very reference.
         ensures name { slice_name result ≡ bytes.entry.ghost_name }
     {
         let was = GhostBytes::of(bytes);

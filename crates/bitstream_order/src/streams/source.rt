@@ -21,10 +21,11 @@ pub trait Source {
     ///
     /// # Errors
     ///
-    /// Reads bytes as [`Read::read_exact`] of the source does. After an error, the bytes that it
-    /// took may be unknown.
+    /// The errors of [`Read::read_exact`] of the source. After an error, the bytes that it took may
+    /// be unknown.
     fn read_exact(&mut self, buf: &mut [u8]) -> io::Result<()>
-        // If it succeeds, the buffer has taken the next bytes, if the bytes left are known.
+        // If it succeeds, the buffer holds the next bytes and they are taken, if the bytes left are
+        // known.
         ensures bytes { OnOk result (Consumes (stream.remaining self.old) (stream.remaining self.new) buf.new) }
         // If it succeeds, its effect is the one that the source states for a request of this
         // length.
@@ -36,13 +37,13 @@ pub trait Source {
             (λ e. stream.refuses self.old (length buf.old) (error_kind e) self.new) };
 
     /// Fills the first `count` bytes of the buffer, which has at least `count`, by one request for
-    /// these bytes alone. The rest of the buffer is unspecified: a source in memory may fill it
-    /// too, since a copy of constant length is cheaper. `constant` is true if `count` is a
-    /// compile-time constant, and changes speed only.
+    /// only these bytes. The rest of the buffer is unspecified: a source in memory may fill it too,
+    /// since a copy of constant length is cheaper. `constant` is true if `count` is a compile-time
+    /// constant, and changes speed only.
     ///
     /// # Errors
     ///
-    /// As [`read_exact`](Source::read_exact).
+    /// The errors of [`read_exact`](Source::read_exact).
     #[inline(always)]
     fn read_prefix(&mut self, buf: &mut [u8], count: usize, _constant: bool) -> io::Result<()>
         requires { count ≤ length buf.old }

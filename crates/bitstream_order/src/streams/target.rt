@@ -21,8 +21,8 @@ pub trait Target {
     ///
     /// # Errors
     ///
-    /// Writes bytes as [`Write::write_all`] of the target does. After an error, the bytes written
-    /// may be unknown.
+    /// The errors of [`Write::write_all`] of the target. After an error, the bytes written may be
+    /// unknown.
     fn write_all(&mut self, bytes: &[u8]) -> io::Result<()>
         // If it succeeds, the bytes are appended to the contents, if they are known.
         ensures bytes { OnOk result (Appends (stream.contents self.old) (stream.contents self.new) bytes.now) }
@@ -32,12 +32,12 @@ pub trait Target {
         ensures refused { IfErr result
             (λ e. stream.refuses self.old (length bytes.now) (error_kind e) self.new) };
 
-    /// Flushes the target by one request, which sends no bytes: the target passes on what it has
-    /// buffered itself.
+    /// Flushes the target by one request, which sends no bytes. The target passes on the bytes that
+    /// it has buffered itself.
     ///
     /// # Errors
     ///
-    /// The target's own, as [`Write::flush`] has them.
+    /// The errors of [`Write::flush`] of the target.
     fn flush(&mut self) -> io::Result<()>
         // The target holds the same bytes as before, if they are known.
         ensures bytes { Keeps (stream.contents self.old) (stream.contents self.new) }

@@ -16,7 +16,7 @@ use std::alloc::Allocator;
 ///
 /// If the stream refuses a request, a call returns `EndOfInput`, `OutOfMemory` or `Stream` with the
 /// kind of the refusal. Errors are not sticky: the next call asks the stream again. The calls below
-/// name only their own errors.
+/// list only their additional errors.
 ///
 /// # Examples
 ///
@@ -42,12 +42,12 @@ pub trait ByteRead {
         ensures reads { ByteReads source (given_bytes V.BYTES) self.old
             (result_map (value_bytes F.order V.be_bytes V.le_bytes) result) self.new };
 
-    /// Skips `bytes` bytes, whatever they are.
+    /// Skips `bytes` bytes, whatever their values.
     fn skip(&mut self, bytes: u32) -> Result<(), Error>
         ensures reads { ByteReads source (skipped_bytes bytes) self.old result self.new };
 
-    /// Fills a buffer with bytes. For an empty one no request is made. After an error the contents
-    /// of the buffer are not specified.
+    /// Fills a buffer with bytes. For an empty buffer no request is made. After an error the
+    /// contents of the buffer are unspecified.
     fn read_bytes(&mut self, buf: &mut [u8]) -> Result<(), Error>
         ensures reads { ByteReads source (given_bytes (length buf.old)) self.old
             (result_map (λ _. buf.new) result) self.new }
@@ -70,13 +70,13 @@ pub trait ByteRead {
         Ok(bytes)
     }
 
-    /// Reads `bytes` bytes into a vector. Up to 4096 bytes take one buffer of their size. More are
-    /// read at most 4096 at a time, and the buffer grows as they come. So a length that the stream
-    /// does not have costs little memory.
+    /// Reads `bytes` bytes into a vector. Up to 4096 bytes are read into one buffer of their size.
+    /// More bytes are read in pieces of at most 4096 bytes, and the buffer grows as they arrive. So
+    /// a length beyond the end of the stream costs little memory.
     ///
     /// # Errors
     ///
-    /// `OutOfMemory` if memory for the bytes is refused.
+    /// `OutOfMemory` if an allocation for the bytes fails.
     fn read_to_vec<A: Allocator>(&mut self, alloc: A, bytes: usize) -> Result<Vec<u8, A>, Error>
         ensures reads { ByteReadsGrowing source (given_bytes bytes) self.old
             (result_map (λ read. read.items) result) self.new }

@@ -13,7 +13,7 @@ use bitstream_order::order::Endianness;
 ///
 /// If the stream refuses a request, a call returns `OutOfMemory` or `Stream` with the kind of the
 /// refusal. Errors are not sticky: the next call asks the stream again. A sink with a limit returns
-/// `CounterOverflow` if the bytes would pass it, and is unchanged.
+/// `CounterOverflow` if the bytes would exceed the limit, and is unchanged.
 ///
 /// # Examples
 ///
@@ -39,11 +39,11 @@ pub trait ByteWrite {
         ensures writes { ByteWrites sink (value_bytes F.order V.be_bytes V.le_bytes value)
             self.old result self.new };
 
-    /// Writes bytes. For none no request is made.
+    /// Writes bytes. For an empty slice no request is made.
     fn write_bytes(&mut self, bytes: &[u8]) -> Result<(), Error>
         ensures writes { ByteWrites sink bytes.now self.old result self.new };
 
-    /// Writes `bytes` bytes of 0.
+    /// Writes `bytes` zero bytes.
     fn pad(&mut self, bytes: u32) -> Result<(), Error>
         ensures writes { ByteWrites sink (replicate bytes 0) self.old result self.new };
 }

@@ -4,7 +4,7 @@ ghost use Rattle.bitstream_stream.specs.Reading.Place.{bit_meant, place_of};
 
 use std::io::SeekFrom;
 
-/// Returns the bit that is meant, which may be none of the stream.
+/// Returns the place in bits that `to` means, which may lie outside the stream.
 fn meant(at: u64, queued: u32, to: SeekFrom) -> i128
     ensures { result ≡ bit_meant at queued to }
 {
@@ -16,12 +16,12 @@ fn meant(at: u64, queued: u32, to: SeekFrom) -> i128
     }
 }
 
-/// Returns the place in bits that `to` means: x for `Start(x)`, n bits back from the end for
-/// `End(n)` (unlike in std), and d bits after the reader's place for `Current(d)`. `at` is the
-/// position in bytes that the stream returns (for `End`: of its end), and `queued` the number of
-/// bits that are fetched from before it and not yet taken.
+/// Returns the place in bits that `to` means: x for `Start(x)`, n bits before the end for `End(n)`
+/// (unlike in std), and d bits after the reader's place for `Current(d)`. `at` is the position in
+/// bytes that the stream returns; for `End` it is the position of the stream's end. `queued` is the
+/// number of bits before `at` that are fetched and not yet taken.
 ///
-/// Returns `None` if the place is below 0 or above 2^64 - 1. Nothing in between wraps.
+/// Returns `None` if the place is below 0 or above 2^64 - 1. No intermediate result wraps.
 ///
 /// # Examples
 ///

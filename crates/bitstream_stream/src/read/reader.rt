@@ -29,8 +29,8 @@ mod seek;
 /// Reads bits from a stream of bytes. A byte is fetched only when a call needs a bit of it, so
 /// fewer than 8 bits are queued at any time.
 ///
-/// Over a [`Slice`](bitstream_order::streams::slice::Slice) the bytes alone decide the result of a
-/// call. If all bits of the call are there, it never returns `EndOfInput`, `Stream` or
+/// Over a [`Slice`](bitstream_order::streams::slice::Slice) the result of a call depends only on
+/// the bytes. If all bits of the call are left, it never returns `EndOfInput`, `Stream` or
 /// `OutOfMemory`. If not, it returns `EndOfInput`. (std's contract does not state how a `Read`
 /// refuses.)
 ///
@@ -120,7 +120,7 @@ impl<R: Source, E: Endianness> BitReader<R, E> {
         self.failed = true;
         self.taken.add(queued as u64);
         let more = bits - queued;
-        // Only the bytes of the other bits are needed, by one request.
+        // One request fetches only the bytes of the other bits.
         let (value, left) = take_bits::<R, E, U>(&mut self.port, queue, queued, more, constant)?;
         self.failed = false;
         self.taken.add(more as u64);
@@ -130,8 +130,8 @@ impl<R: Source, E: Endianness> BitReader<R, E> {
         Ok(value)
     }
 
-    /// Reads a word of at most the width of the type: from the queue if that is enough, else by one
-    /// request.
+    /// Reads a word of at most the width of the type. It makes one request, or none if the queue
+    /// has enough bits.
     #[inline(always)]
     fn take_word<U: UnsignedInteger>(&mut self, bits: u32, constant: bool) -> Result<U, Error>
         requires fine { self.old.failed ≡ false }
@@ -229,7 +229,7 @@ impl<R: Source, E: Endianness> BitReader<R, E> {
         let queue = E::first(self.queue, self.queued);
         match self.port.fetch(buf) {
             Ok(()) => {
-                // The queued bits go first, and the last bits, of the same number, are left over.
+                // The queued bits go first, and the same number of last bits is left over.
                 let left = shift::<E>(queue, self.queued, buf);
                 // The queue of a reader is the first bits of its byte.
                 self.queue = E::to_front(left, self.queued);
@@ -256,8 +256,8 @@ impl<R: Source, E: Endianness> BitReader<R, E> {
         // Fills the buffer with the next bytes and takes only them, or returns an error.
         ensures reads { Reads ⟦<Self as BitRead>⟧.source (bytes_decoder E.order (length buf.old))
             self.old (result_map (λ _. buf.new) result) self.new }
-        // If it succeeds, it made one request if no bit was queued, else one for each piece of up
-        // to `most` bytes. For no bytes it made none.
+        // If it succeeds, it made one request if no bit was queued, and otherwise one for each
+        // piece of at most `most` bytes. For no bytes it made none.
         ensures asks { AsksForBytes most (length buf.old) self.old result self.new }
     {
         let mut at = 0;
@@ -270,16 +270,16 @@ impl<R: Source, E: Endianness> BitReader<R, E> {
         Ok(())
     }
 
-    /// Fills a buffer with bytes: by one request if the reader is aligned, else in pieces of at
-    /// most `most` bytes.
+    /// Fills a buffer with bytes: by one request if the reader is aligned, and otherwise in pieces
+    /// of at most `most` bytes.
     #[inline(always)]
     fn fill(&mut self, buf: &mut [u8], most: usize) -> Result<(), Error>
         requires { 1 ≤ most }
         // Fills the buffer with the next bytes and takes only them, or returns an error.
         ensures reads { Reads ⟦<Self as BitRead>⟧.source (bytes_decoder E.order (length buf.old))
             self.old (result_map (λ _. buf.new) result) self.new }
-        // If it succeeds, it made one request if no bit was queued, else one for each piece of up
-        // to `most` bytes. For no bytes it made none.
+        // If it succeeds, it made one request if no bit was queued, and otherwise one for each
+        // piece of at most `most` bytes. For no bytes it made none.
         ensures asks { AsksForBytes most (length buf.old) self.old result self.new }
     {
         if self.failed {
@@ -289,11 +289,11 @@ impl<R: Source, E: Endianness> BitReader<R, E> {
         if self.queued > 0 {
             return self.fetch_pieces(buf, most);
         }
-        // No bytes need no request.
+        // For no bytes no request is needed.
         if buf.is_empty() {
             return Ok(());
         }
-        // At a byte boundary they are the stream's own bytes.
+        // At a byte boundary the bytes are the stream's own bytes.
         self.fetch_aligned(buf)
     }
 
@@ -424,7 +424,8 @@ impl<R: Source, E: Endianness> BitRead for BitReader<R, E> {
         // before it. Or returns an error.
         ensures reads { Reads ⟦<Self as BitRead>⟧.source (unary_decoder (S.BITS == 1))
             self.old result self.new }
-        // If it succeeds, it took one iteration more than the number of bytes that it fetched.
+        // If it succeeds, the number of iterations is one more than the number of bytes that it
+        // fetched.
         ensures turns { TurnsByBytes self.old result self.new }
     {
         if self.failed {
@@ -433,8 +434,8 @@ impl<R: Source, E: Endianness> BitRead for BitReader<R, E> {
         let stop = S::BITS == 1;
         let queue = self.queue;
         let queued = self.queued;
-        // The reader is in the state after a refused request or a run too long: it has failed, and
-        // its queue is empty.
+        // The reader is now in the state after a refused request or a run that is too long: it has
+        // failed, and its queue is empty.
         self.queue = 0;
         self.queued = 0;
         self.failed = true;
@@ -471,8 +472,8 @@ impl<R: Source, E: Endianness> BitRead for BitReader<R, E> {
         let number = self.read_unsigned_var(count_bits(C::MAX))?;
         match C::of(number) {
             Some(count) => Ok(count),
-            // `C::MAX` is 1 less than a power of two, so it is the greatest number of that many
-            // bits.
+            // `C::MAX` is 1 less than a power of two, so it is the greatest number that these bits
+            // hold.
             None => unreachable!(),
         }
     }
@@ -482,8 +483,8 @@ impl<R: Source, E: Endianness> BitRead for BitReader<R, E> {
         // Takes only `V::BYTES` bytes and returns their value in the order E, or returns an error.
         ensures reads { Reads ⟦<Self as BitRead>⟧.source (bytes_decoder E.order V.BYTES) self.old
             (result_map (value_bytes E.order V.be_bytes V.le_bytes) result) self.new }
-        // If it succeeds, it made one request if no bit was queued, else one for each piece of up
-        // to 8 bytes. For no bytes it made none.
+        // If it succeeds, it made one request if no bit was queued, and otherwise one for each
+        // piece of at most 8 bytes. For no bytes it made none.
         ensures asks { AsksForBytes 8 V.BYTES self.old result self.new }
     {
         self.read_as_to::<E, V>()
@@ -494,8 +495,8 @@ impl<R: Source, E: Endianness> BitRead for BitReader<R, E> {
         // Takes only `V::BYTES` bytes and returns their value in the order F, or returns an error.
         ensures reads { Reads ⟦<Self as BitRead>⟧.source (bytes_decoder E.order V.BYTES) self.old
             (result_map (value_bytes F.order V.be_bytes V.le_bytes) result) self.new }
-        // If it succeeds, it made one request if no bit was queued, else one for each piece of up
-        // to 8 bytes. For no bytes it made none.
+        // If it succeeds, it made one request if no bit was queued, and otherwise one for each
+        // piece of at most 8 bytes. For no bytes it made none.
         ensures asks { AsksForBytes 8 V.BYTES self.old result self.new }
     {
         let mut bytes = V::buffer();
@@ -508,8 +509,8 @@ impl<R: Source, E: Endianness> BitRead for BitReader<R, E> {
         // Fills the buffer with the next bytes and takes only them, or returns an error.
         ensures reads { Reads ⟦<Self as BitRead>⟧.source (bytes_decoder E.order (length buf.old))
             self.old (result_map (λ _. buf.new) result) self.new }
-        // If it succeeds, it made one request if no bit was queued, else one for each piece of up
-        // to 1024 bytes. For no bytes it made none.
+        // If it succeeds, it made one request if no bit was queued, and otherwise one for each
+        // piece of at most 1024 bytes. For no bytes it made none.
         ensures asks { AsksForBytes 1024 (length buf.old) self.old result self.new }
     {
         self.fill(buf, PIECE)
@@ -521,7 +522,7 @@ impl<R: Source, E: Endianness> BitRead for BitReader<R, E> {
             let _: u128 = self.read_unsigned_var(bits)?;
             return Ok(());
         }
-        // The queue goes first, so that whole bytes follow.
+        // The queue is skipped first, so that whole bytes follow.
         let first = self.queued;
         let _: u8 = self.read_unsigned_var(first)?;
         let rest = bits - first;

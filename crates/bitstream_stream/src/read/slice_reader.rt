@@ -1,4 +1,4 @@
-//! A reader of the bits of bytes in memory, which knows its place, its rest and its end.
+//! A reader of the bits of bytes in memory, which knows its place, the bytes left and its end.
 ghost use Rattle.std.specs.Prelude.{◌≡◌, ◌+◌, ◌-◌, ◌*◌, ◌<◌, ◌≤◌, ◌^◌, ◌↔◌, IsTrue, false, [], length, min, Some, IfSome};
 ghost use Rattle.bitstream_order.specs.Streaming.Tail.{IsTail};
 ghost use Rattle.bitstream_stream.specs.Reading.Reader.{new_reader_state};
@@ -22,10 +22,10 @@ mod words;
 ///
 /// It has no queue: its place is a bit of the bytes. So it reports the number of bits
 /// [read](SliceReader::bits_read) and [left](SliceReader::bits_left) and the
-/// [rest](SliceReader::rest) of the bytes, and it [goes](SliceReader::seek_bits) to any of their
-/// bits. It fails only at the end of the bytes, with [`EndOfInput`](bitstream_count::error::Error).
-/// A call that is one read takes no bit then. A call that is made of several reads keeps the reads
-/// that were done: the groups of a number of variable width, the items of an array, the bits of a
+/// [rest](SliceReader::rest) of the bytes, and it can [seek](SliceReader::seek_bits) to any bit. It
+/// fails only at the end of the bytes, with [`EndOfInput`](bitstream_count::error::Error). A call
+/// that is a single read takes no bit then. A call that consists of several reads keeps the
+/// completed ones: the groups of a number of variable width, the items of an array, the bits of a
 /// prefix code, pieces of 4096 bytes of [read_to_vec](crate::read::BitRead::read_to_vec), and the
 /// bits up to a whole byte, which [take_bytes](SliceReader::take_bytes) and
 /// [part](SliceReader::part) drop first. The reader has failed then: each later call for a value
@@ -46,9 +46,9 @@ mod words;
 #[derive(Drop)]
 pub struct SliceReader<'a, E> {
     all: &'a [u8],
-    // The bytes from the one that has the next bit.
+    // The bytes from the byte that holds the next bit on.
     bytes: &'a [u8],
-    // The number of bits taken of that byte.
+    // The number of bits already taken from that byte.
     bit: u32,
     failed: bool,
     refusals: GhostRefusals,
@@ -87,16 +87,17 @@ impl<'a, E: Endianness> SliceReader<'a, E> {
         8 * (self.all.len() - self.bytes.len()) as u128 + self.bit as u128
     }
 
-    /// Returns the number of bits read, or 2^64 - 1 if it is more. A call that failed because too few bits
-    /// were left counts only the parts that it had read before.
+    /// Returns the number of bits read, or 2^64 - 1 if that number is greater. A call that failed
+    /// because too few bits were left counts only the parts that it had read before.
     pub fn bits_read(&self) -> u64
         ensures { result ≡ min ((memory_source E.order).state self.now).taken u64.MAX }
     {
         capped(self.taken())
     }
 
-    /// Returns the number of bits left, or 2^64 - 1 if it is more. After a failure these are the bits of
-    /// the slice after the [bits read](SliceReader::bits_read), although no call reads them.
+    /// Returns the number of bits left, or 2^64 - 1 if that number is greater. After a failure
+    /// these are the bits of the slice after the [bits read](SliceReader::bits_read), although no
+    /// call reads them.
     pub fn bits_left(&self) -> u64
         // The bits of all bytes that were not taken, even after a failure.
         ensures all { result

@@ -4,7 +4,7 @@ ghost use Rattle.bitstream_number.specs.Word.{Order, word};
 
 use bitstream_number::number::{Numeric, UnsignedInteger};
 
-/// Returns the number whose n bits are all other than the stop bit.
+/// Returns the number whose n bits all differ from the stop bit.
 #[inline(always)]
 pub(crate) fn run_without_stop<U: UnsignedInteger>(stop: bool, n: u32) -> U
     requires { n ≤ U.BITS_SIZE }

@@ -147,13 +147,13 @@ impl<W: Target, E: Endianness> BitWriter<W, E> {
         requires sound { self.old.failed ≡ false }
         requires queued { 1 ≤ self.old.queued }
         requires some { 1 ≤ length bytes.old }
-        // Writes only the bytes as they came, or a request is refused and the writer fails.
+        // Writes only the bytes as they were, or a request is refused and the writer fails.
         ensures pushes { Pushes (MayRefuseWrite W.stream) E.order (bits E.order bytes.old)
             (writer_state W.stream self.old) result (writer_state W.stream self.new) }
         ensures queued { OnOk result (queued_bits self.new ≡ queued_bits self.old) }
         ensures requests { requests_made self.new ≡ requests_made self.old + 1 }
     {
-        // The queued bits go first, and the last bits, of the same number, are left over.
+        // The queued bits go first, and the same number of last bits is left over.
         let left = shift::<E>(self.queue, self.queued, bytes);
         match self.port.send(bytes) {
             Ok(()) => {
@@ -174,11 +174,11 @@ impl<W: Target, E: Endianness> BitWriter<W, E> {
         // Writes only these bytes, or a request is refused and the writer fails.
         ensures pushes { Pushes (MayRefuseWrite W.stream) E.order (bits E.order bytes.now)
             (writer_state W.stream self.old) result (writer_state W.stream self.new) }
-        // If it succeeds, it made one request if no bit was queued, else one for each piece of up
-        // to N bytes. For no bytes it made none.
+        // If it succeeds, it made one request if no bit was queued, and otherwise one for each
+        // piece of at most N bytes. For no bytes it made none.
         ensures asks { AsksForBytes N (length bytes.now) self.old result self.new }
     {
-        // The caller's bytes are not ours to shift, so a copy is.
+        // The caller's bytes must not change, so a copy is shifted.
         let mut scratch = [0u8; N];
         let mut at = 0;
         while at < bytes.len() {
@@ -191,7 +191,8 @@ impl<W: Target, E: Endianness> BitWriter<W, E> {
         Ok(())
     }
 
-    /// Writes bytes: by one request if the writer is aligned, else in pieces of at most N bytes.
+    /// Writes bytes: by one request if the writer is aligned, and otherwise in pieces of at most N
+    /// bytes.
     #[inline(always)]
     fn push_bytes<const N: usize>(&mut self, bytes: &[u8]) -> Result<(), Error>
         requires sound { self.old.failed ≡ false }
@@ -200,23 +201,23 @@ impl<W: Target, E: Endianness> BitWriter<W, E> {
         // Writes only these bytes, or a request is refused and the writer fails.
         ensures pushes { Pushes (MayRefuseWrite W.stream) E.order (bits E.order bytes.now)
             (writer_state W.stream self.old) result (writer_state W.stream self.new) }
-        // If it succeeds, it made one request if no bit was queued, else one for each piece of up
-        // to N bytes. For no bytes it made none.
+        // If it succeeds, it made one request if no bit was queued, and otherwise one for each
+        // piece of at most N bytes. For no bytes it made none.
         ensures asks { AsksForBytes N (length bytes.now) self.old result self.new }
     {
         // Off a byte boundary, the queued bits have to be put before the bytes.
         if self.queued > 0 {
             return self.send_pieces::<N>(bytes);
         }
-        // No bytes need no request.
+        // For no bytes no request is needed.
         if bytes.is_empty() {
             return Ok(());
         }
-        // At a byte boundary they go as they are.
+        // At a byte boundary the bytes are sent as they are.
         self.send_aligned(bytes)
     }
 
-    /// Writes `bytes` bytes of 0, in pieces.
+    /// Writes `bytes` zero bytes, in pieces.
     fn push_zeros(&mut self, bytes: usize) -> Result<(), Error>
         requires { self.old.failed ≡ false }
         ensures { Pushes (MayRefuseWrite W.stream) E.order (replicate (8 * bytes) false)
@@ -355,7 +356,7 @@ impl<W: Target, E: Endianness> BitWrite for BitWriter<W, E> {
         for _done in 0..value / 64 {
             self.push(run_without_stop::<u64>(stop, 64), 64)?;
         }
-        // The last ones, fewer than 64, and the stop bit are one word.
+        // The last bits before the stop bit, fewer than 64, and the stop bit are one word.
         let last = value % 64;
         self.push(
             E::put::<u64>(run_without_stop(stop, last), last, u64::from(stop), 1),
@@ -391,8 +392,8 @@ impl<W: Target, E: Endianness> BitWrite for BitWriter<W, E> {
         ensures writes { Writes ⟦<Self as BitWrite>⟧.sink
             (buffer E.order (value_bytes E.order V.be_bytes V.le_bytes value))
             self.old result self.new }
-        // If it succeeds, it made one request if no bit was queued, else one for each piece of up
-        // to 8 bytes. For no bytes it made none.
+        // If it succeeds, it made one request if no bit was queued, and otherwise one for each
+        // piece of at most 8 bytes. For no bytes it made none.
         ensures asks { AsksForBytes 8 V.BYTES self.old result self.new }
     {
         self.write_as_from::<E, V>(value)
@@ -404,8 +405,8 @@ impl<W: Target, E: Endianness> BitWrite for BitWriter<W, E> {
         ensures writes { Writes ⟦<Self as BitWrite>⟧.sink
             (buffer E.order (value_bytes F.order V.be_bytes V.le_bytes value))
             self.old result self.new }
-        // If it succeeds, it made one request if no bit was queued, else one for each piece of up
-        // to 8 bytes. For no bytes it made none.
+        // If it succeeds, it made one request if no bit was queued, and otherwise one for each
+        // piece of at most 8 bytes. For no bytes it made none.
         ensures asks { AsksForBytes 8 V.BYTES self.old result self.new }
     {
         let bytes = F::value_to_bytes(value);
@@ -420,8 +421,8 @@ impl<W: Target, E: Endianness> BitWrite for BitWriter<W, E> {
         // Appends only these bytes, or returns an error.
         ensures writes { Writes ⟦<Self as BitWrite>⟧.sink (buffer E.order bytes.now)
             self.old result self.new }
-        // If it succeeds, it made one request if no bit was queued, else one for each piece of up
-        // to 1024 bytes. For no bytes it made none.
+        // If it succeeds, it made one request if no bit was queued, and otherwise one for each
+        // piece of at most 1024 bytes. For no bytes it made none.
         ensures asks { AsksForBytes 1024 (length bytes.now) self.old result self.new }
     {
         if self.failed {

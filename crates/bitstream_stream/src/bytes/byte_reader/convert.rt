@@ -1,4 +1,4 @@
-//! The ways from a reader of bytes to its stream, and to a reader of bits over it.
+//! Conversions of a reader of bytes to its stream, and to a reader of bits over the stream.
 ghost use Rattle.std.specs.Prelude.{◌≡◌, ◌∷◌};
 ghost use Rattle.bitstream_order.specs.Reference.{by_name};
 
@@ -25,7 +25,7 @@ impl<R: Source, E: Endianness> ByteReader<R, E> {
     /// Lends the stream. The reader does not count bytes taken from it meanwhile.
     pub fn reader(&mut self) -> &mut R
         ensures stream { result.now ≡ byte_reader_stream self.old }
-        // When the borrow ends, only the stream may have changed: it is as it was left.
+        // When the borrow ends, only the stream may have changed: it is as the borrower left it.
         ensures* writes_back { sem 𝓛 (Lends (the_row R.row E.row) R.row self.entry result
             (byte_reader_with self.old)) }
     {
@@ -43,20 +43,21 @@ impl<R: Source, E: Endianness> ByteReader<R, E> {
         BitReader::new(self.into_reader())
     }
 
-    /// Returns a new reader of bits over the stream, in the same order. When it is dropped, this
-    /// one continues with the bytes that it left.
+    /// Returns a new reader of bits over the stream, in the same order. When the new reader is
+    /// dropped, this reader continues with the bytes that the new one left.
     ///
     /// # Warning
     ///
-    /// The bits left of a byte that the new reader began are lost when it is dropped: read them first,
-    /// or pass over them by [`byte_align`](BitRead::byte_align).
+    /// If the new reader stops within a byte, the remaining bits of that byte are lost when it is
+    /// dropped: read them first, or skip them with [`byte_align`](BitRead::byte_align).
     pub fn bitreader<'a>(&'a mut self) -> BitReader<Lent<'a, R>, E>
         // Nothing is taken or queued yet, and the bytes left are the stream's, if they are known.
         ensures state { ⟦<BitReader<Lent<'a, R>, E> as BitRead>⟧.source.state result
             ≡ new_reader_state (R.stream.remaining (byte_reader_stream self.old))
             (by_name (reader_name result) ∷ R.stream.references (byte_reader_stream self.old)) }
         ensures requests { requests_made result ≡ 0 }
-        // When the new reader is dropped, only the stream may have changed: it is as it was left.
+        // When the new reader is dropped, only the stream may have changed: it is as the borrower
+        // left it.
         ensures* writes_back { sem 𝓛 (follows (the_row R.row E.row) R.row self.entry.ghost_name
             (reader_name result) (byte_reader_with self.old)) }
     {

@@ -1,4 +1,4 @@
-//! The ways from a writer of bytes to its stream, and to a writer of bits to it.
+//! Conversions of a writer of bytes to its stream, and to a writer of bits to the stream.
 ghost use Rattle.std.specs.Prelude.{◌≡◌, ◌∷◌};
 ghost use Rattle.bitstream_order.specs.Reference.{by_name};
 ghost use Rattle.bitstream_order.specs.Port.{new_port_state};
@@ -25,7 +25,7 @@ impl<W: Target, E: Endianness> ByteWriter<W, E> {
     /// Lends the stream. The writer does not count bytes added to it meanwhile.
     pub fn writer(&mut self) -> &mut W
         ensures stream { result.now ≡ byte_writer_stream self.old }
-        // When the borrow ends, only the stream may have changed: it is as it was left.
+        // When the borrow ends, only the stream may have changed: it is as the borrower left it.
         ensures* writes_back { sem 𝓛 (Lends (the_row W.row E.row) W.row self.entry result
             (byte_writer_with self.old)) }
     {
@@ -52,7 +52,8 @@ impl<W: Target, E: Endianness> ByteWriter<W, E> {
         ensures state { writer_state ⟦<Lent<'a, W> as Target>⟧.stream result
             ≡ new_writer_state (W.stream.contents (byte_writer_stream self.old))
             (by_name (writer_name result) ∷ W.stream.references (byte_writer_stream self.old)) }
-        // When the new writer is dropped, only the stream may have changed: it is as it was left.
+        // When the new writer is dropped, only the stream may have changed: it is as the borrower
+        // left it.
         ensures* writes_back { sem 𝓛 (follows (the_row W.row E.row) W.row self.entry.ghost_name
             (writer_name result) (byte_writer_with self.old)) }
     {

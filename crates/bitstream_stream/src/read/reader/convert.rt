@@ -1,4 +1,4 @@
-//! The ways from a reader of bits to its stream, and to a reader of bytes over it.
+//! Conversions of a reader of bits to its stream, and to a reader of bytes over the stream.
 ghost use Rattle.std.specs.Prelude.{◌≡◌, ◌↔◌, ◌%◌, ◌∷◌, false, Ok, IsSome, IfSome};
 ghost use Rattle.std.specs.Option.{ghost_name_of};
 ghost use Rattle.bitstream_order.specs.Reference.{by_name};
@@ -22,8 +22,9 @@ impl<R: Source, E: Endianness> BitReader<R, E> {
     ///
     /// # Warning
     ///
-    /// The bits left of a byte that was begun are lost, since the stream has given the whole byte: read
-    /// them first, or pass over them by [`byte_align`](BitRead::byte_align).
+    /// If the reader is within a byte, the remaining bits of that byte are lost, since the stream
+    /// has already given the whole byte: read them first, or skip them with
+    /// [`byte_align`](BitRead::byte_align).
     pub fn into_reader(self) -> R
         ensures stream { result ≡ reader_stream self }
         // The bytes left in the stream are the ones that the reader knew to be left.
@@ -40,7 +41,7 @@ impl<R: Source, E: Endianness> BitReader<R, E> {
         ensures there { IsSome result ↔ (((⟦<Self as BitRead>⟧.source.state self.old).failed ≡ false)
             × ((⟦<Self as BitRead>⟧.source.state self.old).taken % 8 ≡ 0)) }
         ensures stream { IfSome result (λ stream. stream.now ≡ reader_stream self.old) }
-        // When the borrow ends, only the stream may have changed: it is as it was left.
+        // When the borrow ends, only the stream may have changed: it is as the borrower left it.
         ensures* writes_back { sem 𝓛 (LendsIf (the_row R.row E.row) R.row self.entry result
             (reader_with self.old) self.old) }
     {
@@ -65,9 +66,10 @@ impl<R: Source, E: Endianness> BitReader<R, E> {
     }
 
     /// Returns a new reader of bytes over the stream, in the same order, if this reader is at a
-    /// byte boundary and has not failed: so no bit is lost. To skip the bits up to a boundary, call
-    /// [`byte_align`](BitRead::byte_align) first. When the new reader is dropped, this one
-    /// continues with the bytes that it left. It does not count the bytes that the new one took.
+    /// byte boundary and has not failed. So no bit is lost. To skip the bits up to a boundary, call
+    /// [`byte_align`](BitRead::byte_align) first. When the new reader is dropped, this reader
+    /// continues with the bytes that the new one left. This reader does not count the bytes that
+    /// the new one took.
     pub fn bytereader<'a>(&'a mut self) -> Option<ByteReader<Lent<'a, R>, E>>
         // The result is `Some` exactly if the reader has not failed and the bits taken are whole
         // bytes.
@@ -78,7 +80,8 @@ impl<R: Source, E: Endianness> BitReader<R, E> {
             ⟦<ByteReader<Lent<'a, R>, E> as ByteRead>⟧.source.state reader
             ≡ byte_reader_state (new_port_state (R.stream.remaining (reader_stream self.old))
             (by_name (byte_reader_name reader) ∷ R.stream.references (reader_stream self.old)))) }
-        // When the new reader is dropped, only the stream may have changed: it is as it was left.
+        // When the new reader is dropped, only the stream may have changed: it is as the borrower
+        // left it.
         ensures* writes_back { sem 𝓛 (follows_if (the_row R.row E.row) R.row self.entry.ghost_name
             (name_if_some byte_reader_name result) (reader_with self.old) self.old) }
     {
@@ -87,7 +90,8 @@ impl<R: Source, E: Endianness> BitReader<R, E> {
 
     /// Returns a new reader of bytes over a stream that was lent, if one was.
     fn byte_reader_of<'a>(stream: Option<&'a mut R>) -> Option<ByteReader<Lent<'a, R>, E>>
-        // There is one exactly if a stream was lent, and it reaches the stream by that reference.
+        // There is one exactly if a stream was lent, and it reaches the stream through that
+        // reference.
         ensures name { name_if_some byte_reader_name result ≡ ghost_name_of stream.entry }
         // The new one has taken nothing, and the bytes left are the stream's, if they are known.
         ensures state { IfSome stream.entry (λ lent. IfSome result (λ reader.
@@ -105,8 +109,9 @@ impl<R: Source, E: Endianness> BitReader<R, E> {
     ///
     /// # Warning
     ///
-    /// The bits left of a byte that was begun are lost, since the stream has given the whole byte: read
-    /// them first, or pass over them by [`byte_align`](BitRead::byte_align).
+    /// If the reader is within a byte, the remaining bits of that byte are lost, since the stream
+    /// has already given the whole byte: read them first, or skip them with
+    /// [`byte_align`](BitRead::byte_align).
     pub fn into_bytereader(self) -> ByteReader<R, E>
         ensures { ⟦<ByteReader<R, E> as ByteRead>⟧.source.state result
             ≡ byte_reader_state (new_port_state (R.stream.remaining (reader_stream self))

@@ -1,4 +1,4 @@
-//! Places in bits of a reader.
+//! The place of a reader in bits, and seeks to a place.
 ghost use Rattle.std.specs.Prelude.{◌≡◌, ◌+◌, false, pos};
 ghost use Rattle.std.specs.declared.io.traits.SeekFrom.TheVariants.{Start, End, Current};
 ghost use Rattle.bitstream_order.specs.Refusal.{MayRefuseSeek};
@@ -16,10 +16,10 @@ impl<R: SeekSource, E: Endianness> BitReader<R, E> {
     ghost use Rattle.bitstream_stream.specs.Reading.Reader.{requests_made, bytes_fetched};
     ghost use Rattle.bitstream_stream.specs.Reading.Seek.{reader_seeker, IsFromHere, IsByteSeek, AsksPlace, GoesTo, SeeksBits, SeeksBytes};
 
-    /// Goes to a place in bits, and returns it: x for `Start(x)`, n bits back from the end of the
-    /// stream for `End(n)` (unlike in std), and d bits after the reader's place for `Current(d)`.
-    /// [`bit_place`] computes it. The counts of bits taken and bytes fetched then start again at
-    /// the byte sought.
+    /// Goes to a place in bits, and returns the place: x for `Start(x)`, n bits before the end of
+    /// the stream for `End(n)` (unlike in std), and d bits after the reader's place for
+    /// `Current(d)`. [`bit_place`] computes the place. The counts of bits taken and bytes fetched
+    /// restart at the byte that holds the place.
     ///
     /// # Errors
     ///
@@ -52,15 +52,16 @@ impl<R: SeekSource, E: Endianness> BitReader<R, E> {
             SeekFrom::Start(place) => self.go_to(place),
             SeekFrom::End(back) => self.go_back(back),
             SeekFrom::Current(on) => {
-                // The place is counted from here, so the stream is asked for its position.
+                // The place is counted from the current place, so the stream is asked for its
+                // position.
                 let place = self.ask_place(SeekFrom::Current(on))?;
                 self.go_to(place)
             }
         }
     }
 
-    /// Returns the place in bits: 8 times the position in bytes that the stream returns, less the
-    /// number of queued bits. The stream is asked by one request, a seek by 0 bytes.
+    /// Returns the place in bits: 8 times the position in bytes that the stream returns, minus the
+    /// number of queued bits. It makes one request to the stream: a seek by 0 bytes.
     ///
     /// # Errors
     ///
@@ -79,7 +80,7 @@ impl<R: SeekSource, E: Endianness> BitReader<R, E> {
         self.ask_place(SeekFrom::Current(0))
     }
 
-    /// Returns the place that `to`, a `Current`, means.
+    /// Returns the place that `to` means. `to` must be a `Current`.
     fn ask_place(&mut self, to: SeekFrom) -> Result<u64, Error>
         requires { IsFromHere to }
         // Asks the stream, changes nothing else and returns the place, or returns an error.
@@ -106,12 +107,12 @@ impl<R: SeekSource, E: Endianness> BitReader<R, E> {
         }
     }
 
-    /// Goes n bits back from the end of the stream.
+    /// Goes to the place `back` bits before the end of the stream.
     fn go_back(&mut self, back: i64) -> Result<u64, Error>
         ensures { SeeksBits (reader_seeker ⟦<Self as BitRead>⟧.source R.position R.bytes
             (MayRefuseSeek R.stream R.refuses_seek)) (End back) self.old result self.new }
     {
-        // Only a seek to the end finds out where it is.
+        // Only a seek to the end returns the position of the end.
         let end = self.seek_bytes(SeekFrom::End(0))?;
         match bit_place(end, 0, SeekFrom::End(back)) {
             Some(place) => self.go_to(place),
@@ -130,22 +131,22 @@ impl<R: SeekSource, E: Endianness> BitReader<R, E> {
             (MayRefuseSeek R.stream R.refuses_seek)) place (bytes_fetched self.old)
             self.old result self.new }
     {
-        // First to the byte that holds the bit, and then over the bits before it.
+        // First seeks to the byte that holds the bit, and then skips the bits before it.
         let _at = self.seek_bytes(SeekFrom::Start(place / 8))?;
         let _skipped: u8 = self.read_unsigned_var((place % 8) as u32)?;
         Ok(place)
     }
 
-    /// Drops the queue, and seeks to a position in bytes. The counts start again there.
+    /// Drops the queue, and seeks to a position in bytes. After a seek the counts restart at 0.
     fn seek_bytes(&mut self, to: SeekFrom) -> Result<u64, Error>
         ensures { SeeksBytes (reader_seeker ⟦<Self as BitRead>⟧.source R.position R.bytes
             (MayRefuseSeek R.stream R.refuses_seek)) to self.old result self.new }
     {
-        // The queued bits are not those at the new place.
+        // The queued bits are not the bits at the new place.
         self.drop_queue();
         match self.port.seek(to) {
             Ok(at) => {
-                // The count of fetched bytes starts again here, so the count of bits taken does,
+                // The count of fetched bytes restarts here, so the count of bits taken restarts,
                 // too.
                 self.taken = GhostCount::new();
                 self.failed = false;

@@ -1,4 +1,4 @@
-//! Bytes of bytes in memory, and parts of them that are lent.
+//! Reads of whole bytes in memory, and loans of parts of them.
 ghost use Rattle.std.specs.Prelude.{◌≡◌, ℕ, ◌+◌, ◌*◌, ◌≤◌, false, [], List, length, take, Some, IfOk};
 ghost use Rattle.bitstream_order.specs.Moving.Gather.{result_map};
 ghost use Rattle.bitstream_stream.specs.Reading.Reads.{Reads};
@@ -33,7 +33,7 @@ impl<'a, E: Endianness> SliceReader<'a, E> {
         Ok(())
     }
 
-    /// Reads bytes off a byte boundary.
+    /// Reads bytes that do not start at a byte boundary.
     pub(super) fn read_shifted(&mut self, buf: &mut [u8]) -> Result<(), Error>
         requires fine { self.old.failed ≡ false }
         requires some { 1 ≤ self.old.bit }
@@ -51,18 +51,20 @@ impl<'a, E: Endianness> SliceReader<'a, E> {
         let queued = 8 - self.bit;
         let queue = E::first(E::rest(bytes[0], self.bit), queued);
         buf.copy_from_slice(&bytes[1..count + 1]);
-        // The bits left over are not taken: the last byte is taken as far as the first one was.
+        // The bits left over are not taken: as many bits are taken of the last byte as were taken
+        // of the first one.
         let _left = shift::<E>(queue, queued, buf);
         self.go_bytes(count);
         Ok(())
     }
 
-    /// Drops the bits up to the next whole byte, as `byte_align` does, and lends the next `count` bytes,
-    /// which are taken. They are not copied.
+    /// Drops the bits up to the next whole byte, as `byte_align` does. Then takes the next `count`
+    /// bytes, and lends them without a copy.
     ///
     /// # Errors
     ///
-    /// `EndOfInput` if fewer are left: the reader has failed. `Failed` if it had failed before.
+    /// `EndOfInput` if fewer bytes are left. The reader has failed then. `Failed` if it had failed
+    /// before.
     pub fn take_bytes(&mut self, count: usize) -> Result<&'a [u8], Error>
         // Takes only the bits up to a whole byte and then `count` bytes, or returns an error.
         ensures reads { Reads (memory_source E.order) (whole_bytes_decoder count) self.old
@@ -75,7 +77,7 @@ impl<'a, E: Endianness> SliceReader<'a, E> {
         if self.failed {
             return Err(Error::Failed);
         }
-        // The bits up to a whole byte are dropped even if the bytes are refused.
+        // The bits up to a whole byte are dropped even if too few bytes are left.
         self.go_on((8 - self.bit) % 8);
         let bytes = self.bytes;
         if bytes.len() < count {
@@ -90,7 +92,8 @@ impl<'a, E: Endianness> SliceReader<'a, E> {
     ///
     /// # Errors
     ///
-    /// `EndOfInput` if fewer are left: this reader has failed. `Failed` if it had failed before.
+    /// `EndOfInput` if fewer bytes are left. This reader has failed then. `Failed` if it had failed
+    /// before.
     pub fn part(&mut self, count: usize) -> Result<SliceReader<'a, E>, Error>
         // Takes only the bits up to a whole byte and then `count` bytes, or returns an error.
         ensures reads { Reads (memory_source E.order) (whole_bytes_decoder count) self.old

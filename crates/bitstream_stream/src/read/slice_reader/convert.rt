@@ -1,4 +1,4 @@
-//! The ways between readers of the bits and of the bytes of bytes in memory.
+//! Conversions between readers of bits and readers of bytes, over bytes in memory.
 ghost use Rattle.std.specs.Prelude.{◌≡◌, []};
 ghost use Rattle.bitstream_order.specs.Port.{new_port_state};
 ghost use Rattle.bitstream_stream.specs.WholeBytes.ByteReader.{byte_reader_state};
@@ -16,8 +16,8 @@ impl<'a, E: Endianness> SliceReader<'a, E> {
     ///
     /// # Warning
     ///
-    /// The bits left of a byte that was begun are lost: read them first, or pass over them by
-    /// [`byte_align`](crate::read::BitRead::byte_align).
+    /// If the reader is within a byte, the remaining bits of that byte are lost: read them first,
+    /// or skip them with [`byte_align`](crate::read::BitRead::byte_align).
     pub fn into_bytereader(self) -> ByteReader<Slice<'a>, E>
         ensures { ⟦<ByteReader<Slice<'a>, E> as ByteRead>⟧.source.state result
             ≡ byte_reader_state (new_port_state ((memory_source E.order).state self.entry).bytes []) }
@@ -32,8 +32,8 @@ impl<'a, E: Endianness> ByteReader<Slice<'a>, E> {
     ghost use Rattle.bitstream_stream.specs.Reading.Reader.{new_reader_state};
     ghost use Rattle.bitstream_stream.specs.Ways.{byte_reader_stream};
 
-    /// Returns a new reader of the bits of the bytes left, in the same order. Its places are counted from
-    /// there.
+    /// Returns a new reader of the bits of the bytes left, in the same order. Its places are
+    /// counted from the first of these bytes.
     pub fn into_slice_reader(self) -> SliceReader<'a, E>
         ensures { (memory_source E.order).state result
             ≡ new_reader_state (slice_remaining (byte_reader_stream self.entry)) [] }

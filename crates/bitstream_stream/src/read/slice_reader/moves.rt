@@ -30,7 +30,7 @@ impl<'a, E: Endianness> SliceReader<'a, E> {
         ((self.bit + bits + 7) / 8) as usize <= self.bytes.len()
     }
 
-    /// Fails at the end.
+    /// Makes the reader fail at the end of its bytes.
     #[inline(never)]
     pub(super) fn refuse(&mut self) -> Error
         ensures error { result ≡ EndOfInput }
@@ -48,7 +48,7 @@ impl<'a, E: Endianness> SliceReader<'a, E> {
         Error::EndOfInput
     }
 
-    /// Goes to some bit, counted from the first byte left.
+    /// Goes to a bit, counted from the first byte left.
     #[inline(always)]
     pub(super) fn go_to(&mut self, total: u64)
         requires forward { self.old.bit ≤ total }
@@ -60,7 +60,7 @@ impl<'a, E: Endianness> SliceReader<'a, E> {
         self.bit = (total % 8) as u32;
     }
 
-    /// Goes on by whole bytes.
+    /// Advances by whole bytes.
     #[inline(always)]
     pub(super) fn go_bytes(&mut self, count: usize)
         requires { self.old.bit + 8 * count ≤ 8 * length self.old.bytes.now }
@@ -70,7 +70,7 @@ impl<'a, E: Endianness> SliceReader<'a, E> {
         self.bytes = &bytes[count..];
     }
 
-    /// Goes on by some bits.
+    /// Advances by a number of bits.
     #[inline(always)]
     pub(super) fn go_on(&mut self, bits: u32)
         requires few { bits ≤ 128 }

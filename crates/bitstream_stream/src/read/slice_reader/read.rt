@@ -109,7 +109,7 @@ impl<'a, E: Endianness> BitRead for SliceReader<'a, E> {
         ensures stays { StaysAtEnd E.order self.old result self.new }
     {
         let stop = S::BITS == 1;
-        // Mostly the stop bit is in the next eight bytes.
+        // Usually the stop bit is in the next eight bytes.
         if !self.failed && self.bytes.len() >= 8 {
             let run = run_in_window::<E>(self.bytes, self.bit, stop);
             if run + self.bit < 64 {
@@ -117,7 +117,7 @@ impl<'a, E: Endianness> BitRead for SliceReader<'a, E> {
                 return Ok(run);
             }
         }
-        // Else the run is long, or near the end.
+        // Otherwise the run is long, or it is near the end.
         self.read_run(stop)
     }
 

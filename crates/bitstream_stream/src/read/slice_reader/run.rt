@@ -1,4 +1,4 @@
-//! Runs of bits of bytes in memory.
+//! Runs of equal bits in memory.
 ghost use Rattle.std.specs.Prelude.{◌≡◌, ◌+◌, ◌*◌, ◌<◌, ◌≤◌, not, drop, length, replicate};
 ghost use Rattle.bitstream_count.specs.Unary.{lead};
 ghost use Rattle.bitstream_number.specs.Word.{bits, word};
@@ -11,14 +11,14 @@ use super::window::load_eight;
 use bitstream_count::error::Error;
 use bitstream_order::order::Endianness;
 
-/// Returns the number of bits other than `stop` that come first after the first `bit` bits, if a
-/// stop bit follows them within the first eight bytes.
+/// Skips the first `bit` bits, and returns the number of bits before the next `stop` bit, if that
+/// stop bit is in the first eight bytes.
 #[inline(always)]
 pub(super) fn run_in_window<E: Endianness>(bytes: &[u8], bit: u32, stop: bool) -> u32
     requires few { bit < 8 }
     requires eight { 8 ≤ length bytes.now }
     ensures most { result ≤ 64 }
-    // If `bit` and the result are less than 64 together, the result is the number of bits before
+    // If the sum of `bit` and the result is less than 64, the result is the number of bits before
     // the stop bit.
     ensures run { result + bit < 64 → result ≡ lead stop (rest_bits E.order bytes.now bit) }
 {
@@ -32,7 +32,7 @@ fn window_without<E: Endianness>(stop: bool) -> u64
     if stop { 0 } else { u64::MAX }
 }
 
-/// Returns the number of first bytes that have no bit equal to `stop`, counted eight at a time.
+/// Returns the number of leading bytes without a `stop` bit, counted eight at a time.
 fn bytes_without<E: Endianness>(bytes: &[u8], stop: bool) -> usize
     ensures within { result ≤ length bytes.now }
     // The bits of these bytes come before the first bit that is `stop`.
@@ -66,8 +66,8 @@ fn run_from<E: Endianness>(bytes: &[u8], first: u32, stop: bool) -> u128
     count
 }
 
-/// Returns the number of bits other than `stop` that come first after the first `bit` bits of some
-/// bytes.
+/// Skips the first `bit` bits of some bytes, and returns the number of bits before the next `stop`
+/// bit, or of all bits left if there is none.
 pub(super) fn run_length<E: Endianness>(bytes: &[u8], bit: u32, stop: bool) -> u128
     requires few { bit < 8 }
     requires some { 0 < bit → 1 ≤ length bytes.now }
@@ -76,7 +76,8 @@ pub(super) fn run_length<E: Endianness>(bytes: &[u8], bit: u32, stop: bool) -> u
     if bit == 0 {
         return run_from::<E>(bytes, 0, stop);
     }
-    // The bits after the rest of the first byte mean nothing, so a stop bit there does not count.
+    // The bits after the rest of the first byte are meaningless, so a stop bit there does not
+    // count.
     let lead = E::run_length(E::rest(bytes[0], bit), stop);
     if lead < 8 - bit {
         return lead as u128;
@@ -88,7 +89,7 @@ impl<'a, E: Endianness> SliceReader<'a, E> {
     ghost use Rattle.bitstream_stream.specs.Reading.MemorySource.{memory_source};
     ghost use Rattle.bitstream_stream.specs.Reading.MemoryTakes.{StaysAtEnd};
 
-    /// Reads a run near the end, or a long one.
+    /// Reads a run that is long or near the end.
     #[inline(never)]
     pub(super) fn read_run(&mut self, stop: bool) -> Result<u32, Error>
         ensures reads { Reads (memory_source E.order) (unary_decoder stop) self.old result self.new }
@@ -99,7 +100,7 @@ impl<'a, E: Endianness> SliceReader<'a, E> {
         }
         let run = run_length::<E>(self.bytes, self.bit, stop);
         let most = 8 * self.bytes.len() as u128 - self.bit as u128;
-        // Just 2^32 bits are taken, as by every reader.
+        // Only 2^32 bits are taken, as in every reader.
         if run > u32::MAX as u128 {
             self.go_to(self.bit as u64 + 4294967296);
             self.failed = true;

@@ -1,4 +1,4 @@
-//! Places in bits of bytes in memory.
+//! The place of a reader of bytes in memory in bits, and seeks to a place.
 ghost use Rattle.std.specs.Prelude.{◌≡◌, ◌+◌, ◌*◌, ◌/◌, ◌<◌, ◌≤◌, ◌^◌, true, false, length, Ok, Err};
 ghost use Rattle.bitstream_count.specs.declared.error.Error.TheVariants.{Failed, Place};
 
@@ -13,10 +13,10 @@ impl<'a, E: Endianness> SliceReader<'a, E> {
     ghost use Rattle.bitstream_stream.specs.Reading.MemorySource.{memory_source};
     ghost use Rattle.bitstream_stream.specs.Reading.MemoryTakes.{IsAt};
 
-    /// Goes to a place in bits, and returns it: x for `Start(x)`, n bits back from the end of the
-    /// bytes for `End(n)` (unlike in std), and d bits after the reader's place for `Current(d)`.
-    /// The end itself is a place. A reader that had failed reads again, but not by `Current`. The
-    /// bits read are still counted from the first byte on.
+    /// Goes to a place in bits, and returns the place: x for `Start(x)`, n bits before the end of
+    /// the bytes for `End(n)` (unlike in std), and d bits after the reader's place for
+    /// `Current(d)`. The end is a valid place. A seek by `Start` or `End` makes a reader that had
+    /// failed read again. The bits read are still counted from the first byte on.
     ///
     /// # Errors
     ///
@@ -71,7 +71,7 @@ impl<'a, E: Endianness> SliceReader<'a, E> {
         ensures place { ((memory_source E.order).state self.now).failed ≡ false
             → ((memory_source E.order).state self.now).taken < 2 ^ 64
             → result ≡ Ok ((memory_source E.order).state self.now).taken }
-        // Else `Place` is returned, if that number is 2^64 or more.
+        // Unless the reader has failed, `Place` is returned if that number is 2^64 or more.
         ensures above { ((memory_source E.order).state self.now).failed ≡ false
             → 2 ^ 64 ≤ ((memory_source E.order).state self.now).taken → result ≡ Err Place }
     {
@@ -114,7 +114,7 @@ impl<'a, E: Endianness> SliceReader<'a, E> {
         }
     }
 
-    /// Goes to a place in bits of all bytes.
+    /// Goes to a place in bits, counted from the first of all bytes.
     fn stand_at(&mut self, place: u64)
         requires { place ≤ 8 * length self.old.all.now }
         ensures { IsAt place self.old self.new }

@@ -1,4 +1,4 @@
-//! The first eight bytes of some as one number.
+//! Loads up to eight bytes as one number.
 ghost use Rattle.std.specs.Prelude.{◌≡◌, ◌*◌, ◌<◌, ◌≤◌, length, take, IfSome, None};
 ghost use Rattle.bitstream_number.specs.Word.{word, bits};
 
@@ -53,8 +53,8 @@ pub(super) fn load_first<const N: usize, E: Endianness>(bytes: &[u8]) -> u64
     E::of_bytes::<u64>(prefix)
 }
 
-/// Returns the first bytes as a number, padded with zeros after them. The number of bytes is mostly
-/// known at compile time.
+/// Returns the first bytes as a number, padded with zeros after them. The number of bytes is
+/// usually known at compile time.
 #[inline(always)]
 fn load_exact<E: Endianness>(bytes: &[u8], need: u32) -> u64
     requires few { need ≤ 8 }
@@ -74,19 +74,21 @@ fn load_exact<E: Endianness>(bytes: &[u8], need: u32) -> u64
     }
 }
 
-/// Returns a number whose word begins with the first `total` bits of some bytes, if there are
-/// enough.
+/// Returns a number whose word begins with the first `total` bits of some bytes, or `None` if there
+/// are fewer bits.
 #[inline(always)]
 pub(super) fn load_bits<E: Endianness>(bytes: &[u8], total: u32, constant: bool) -> Option<u64>
     requires { total ≤ 64 }
-    // If a number is returned, its word begins with the first `total` bits, and there are enough.
+    // If a number is returned, its word begins with the first `total` bits, and there are enough
+    // bits.
     ensures some { IfSome result (λ w. (total ≤ 8 * length bytes.now)
         × (take total (word E.order 64 w) ≡ take total (bits E.order bytes.now))) }
     // If `None` is returned, there are fewer than `total` bits.
     ensures none { result ≡ None → 8 * length bytes.now < total }
 {
     let need = (total + 7) / 8;
-    // Just the bytes needed, so that the tests of several constant widths are compiled to one.
+    // Loads only the bytes needed, so that the tests of several constant widths are compiled to
+    // one.
     if constant {
         if bytes.len() < need as usize {
             return None;

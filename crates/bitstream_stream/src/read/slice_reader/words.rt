@@ -1,4 +1,4 @@
-//! Numbers of bytes in memory: a window of eight bytes serves up to 56 bits.
+//! Reads of numbers from bytes in memory: a window of eight bytes serves up to 56 bits.
 ghost use Rattle.std.specs.Prelude.{◌≡◌, ◌+◌, ◌*◌, ◌<◌, ◌≤◌, false, length};
 ghost use Rattle.bitstream_order.specs.Moving.Gather.{result_map};
 ghost use Rattle.bitstream_stream.specs.Reading.Reads.{Reads};
@@ -35,7 +35,7 @@ impl<'a, E: Endianness> SliceReader<'a, E> {
         requires enough { self.old.bit + bits ≤ 8 * length self.old.bytes.now }
         ensures { TakesNumber E.order bits (U.value result) self.old self.new }
     {
-        // Two words or three, of 56 bits at most.
+        // Two or three words, of at most 56 bits each.
         let first = U::from_u64(self.take_few(56));
         let more = bits - 56;
         if more <= 56 {
@@ -61,7 +61,7 @@ impl<'a, E: Endianness> SliceReader<'a, E> {
         }
     }
 
-    /// Reads a number near the end, or of many bits.
+    /// Reads a number that is near the end or has many bits.
     #[inline(never)]
     fn read_slow<U: UnsignedInteger>(&mut self, bits: u32) -> Result<U, Error>
         requires fine { self.old.failed ≡ false }
@@ -95,7 +95,7 @@ impl<'a, E: Endianness> SliceReader<'a, E> {
         if bits > U::BITS_SIZE {
             return Err(Error::ReadBits);
         }
-        // Eight bytes have 56 bits, at any place in the first one.
+        // Eight bytes hold the next 56 bits, at whatever bit of the first byte they start.
         if bits > 56 {
             return self.read_slow(bits);
         }

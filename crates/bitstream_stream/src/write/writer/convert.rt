@@ -1,4 +1,4 @@
-//! The ways from a writer of bits to its stream, and to a writer of bytes to it.
+//! Conversions of a writer of bits to its stream, and to a writer of bytes to the stream.
 ghost use Rattle.std.specs.Prelude.{◌≡◌, ◌↔◌, ◌%◌, ◌∷◌, false, Ok, IsSome, IfSome, IfOk, OnOk};
 ghost use Rattle.std.specs.Option.{ghost_name_of};
 ghost use Rattle.bitstream_order.specs.Reference.{by_name};
@@ -39,7 +39,7 @@ impl<W: Target, E: Endianness> BitWriter<W, E> {
         ensures there { IsSome result ↔ (((⟦<Self as BitWrite>⟧.sink.failed self.old) ≡ false)
             × (⟦<Self as BitWrite>⟧.sink.len self.old % 8 ≡ 0)) }
         ensures stream { IfSome result (λ stream. stream.now ≡ writer_stream self.old) }
-        // When the borrow ends, only the stream may have changed: it is as it was left.
+        // When the borrow ends, only the stream may have changed: it is as the borrower left it.
         ensures* writes_back { sem 𝓛 (LendsIf (the_row W.row E.row) W.row self.entry result
             (writer_with self.old) self.old) }
     {
@@ -55,13 +55,13 @@ impl<W: Target, E: Endianness> BitWriter<W, E> {
     ///
     /// # Errors
     ///
-    /// As [`byte_align`](BitWrite::byte_align).
+    /// The errors of [`byte_align`](BitWrite::byte_align).
     pub fn aligned_writer(&mut self) -> Result<&mut W, Error>
         // If it succeeds, it lends the stream of the writer after an alignment.
         ensures stream { IfOk result
             (λ stream. IsAlignedStream ⟦<Self as BitWrite>⟧.sink self.old stream.now) }
         // When the borrow ends, the writer is aligned and its stream is as it was left. After an
-        // error it is as the alignment left it.
+        // error the writer is as the alignment left it.
         ensures* writes_back { sem 𝓛 (LendsSoOk (the_row W.row E.row) W.row self.entry result
             (EndsAligned ⟦<Self as BitWrite>⟧.sink self.old)
             (EndsUnaligned ⟦<Self as BitWrite>⟧.sink self.old result)) }
@@ -71,7 +71,7 @@ impl<W: Target, E: Endianness> BitWriter<W, E> {
     }
 
     /// Returns a new writer of bytes to the stream, in the same order, if this writer is at a byte
-    /// boundary and has not failed: so no bit is lost. Call [`byte_align`](BitWrite::byte_align)
+    /// boundary and has not failed. So no bit is lost. Call [`byte_align`](BitWrite::byte_align)
     /// first. This writer does not count the bytes that the new one writes.
     pub fn bytewriter<'a>(&'a mut self) -> Option<ByteWriter<Lent<'a, W>, E>>
         // The result is `Some` exactly if the writer has not failed and the bits written are whole
@@ -83,7 +83,8 @@ impl<W: Target, E: Endianness> BitWriter<W, E> {
             byte_writer_state ⟦<Lent<'a, W> as Target>⟧.stream writer
             ≡ new_port_state (W.stream.contents (writer_stream self.old))
             (by_name (byte_writer_name writer) ∷ W.stream.references (writer_stream self.old))) }
-        // When the new writer is dropped, only the stream may have changed: it is as it was left.
+        // When the new writer is dropped, only the stream may have changed: it is as the borrower
+        // left it.
         ensures* writes_back { sem 𝓛 (follows_if (the_row W.row E.row) W.row self.entry.ghost_name
             (name_if_some byte_writer_name result) (writer_with self.old) self.old) }
     {
@@ -92,7 +93,8 @@ impl<W: Target, E: Endianness> BitWriter<W, E> {
 
     /// Returns a new writer of bytes to a stream that was lent, if one was.
     fn byte_writer_of<'a>(stream: Option<&'a mut W>) -> Option<ByteWriter<Lent<'a, W>, E>>
-        // There is one exactly if a stream was lent, and it reaches the stream by that reference.
+        // There is one exactly if a stream was lent, and it reaches the stream through that
+        // reference.
         ensures name { name_if_some byte_writer_name result ≡ ghost_name_of stream.entry }
         // The new one has sent nothing, and the bytes held are the stream's, if they are known.
         ensures state { IfSome stream.entry (λ lent. IfSome result (λ writer.
@@ -118,13 +120,13 @@ impl<W: Target, E: Endianness> BitWriter<W, E> {
         ByteWriter::new(self.into_writer())
     }
 
-    /// Flushes the stream: it passes on what it has buffered itself. The queued bits stay in the
-    /// writer.
+    /// Flushes the stream: the stream passes on the bytes that it has buffered itself. The queued
+    /// bits stay in the writer.
     ///
     /// # Errors
     ///
-    /// As of the calls of [`BitWrite`]: if the stream refuses, the writer has failed, and its
-    /// queued bits are lost.
+    /// The errors of the calls of [`BitWrite`]. If the stream refuses, the writer has failed, and
+    /// its queued bits are lost.
     pub fn flush(&mut self) -> Result<(), Error>
         // One request is made, and no bit is sent or lost. Or it is refused and the writer fails,
         // or the writer had failed.

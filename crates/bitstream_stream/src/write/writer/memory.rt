@@ -18,9 +18,9 @@ impl<'a, E: Endianness> BitWriter<SliceMut<'a>, E> {
         self.port.stream().as_slice()
     }
 
-    /// Returns the number of bits written, with the bits of the last, unfinished byte: exactly that
-    /// number, or 2^64 - 1 if there are more. A writer that has failed has lost the bits of the
-    /// last byte.
+    /// Returns the number of bits written, including the bits of the last, unfinished byte. Returns
+    /// 2^64 - 1 if that number is greater. A writer that has failed has lost the bits of the last
+    /// byte.
     pub fn bits_written(&self) -> u64
         // The result is at most the number of bits in the bytes written and in the queue.
         ensures most { result
@@ -32,7 +32,8 @@ impl<'a, E: Endianness> BitWriter<SliceMut<'a>, E> {
         capped(8 * self.written().len() as u128 + self.queued as u128)
     }
 
-    /// Returns the number of free bytes. Bits of an unfinished byte will take one of them.
+    /// Returns the number of free bytes. The bits of an unfinished byte will take one of these
+    /// bytes.
     pub fn bytes_left(&self) -> usize
         ensures { result ≡ slice_capacity (writer_stream self.now)
             - length (written_bytes (writer_stream self.now)) }
