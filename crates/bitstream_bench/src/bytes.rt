@@ -1,5 +1,4 @@
-//! The ways between readers and writers of bits and of bytes. Worked rows of bytes are played by
-//! `bitstream_vectors`.
+//! Conversions between readers and writers of bits and of bytes. `bitstream_vectors` plays the test vectors of bytes.
 use crate::asserts::{are, each_holds, ended, gives, holds, same};
 use bitstream_io::{
     BE, BigEndian, BitRead, BitReader, BitWrite, BitWriter, ByteRead, ByteWrite, LE, SeekSource,
@@ -13,7 +12,7 @@ const D: [u8; 4] = [0xb1, 0xed, 0x3b, 0xc1];
 fn goes_from_bits_to_bytes(rt: HostRuntime) {
     let mut reader = BitReader::endian(Slice::new(&D), BigEndian);
     holds(&rt, gives(reader.read_unsigned_var(3), 5u8));
-    // No stream is lent within a byte.
+    // The stream is not lent within a byte.
     holds(
         &rt,
         reader.reader().is_none() & reader.bytereader().is_none(),
@@ -42,13 +41,13 @@ fn lends_the_stream_of_a_reader(rt: HostRuntime) {
     let third = lends_bytes(&mut reader, 0x3b);
     let last = gives(reader.read_unsigned_var(8), 0xc1_u8);
     each_holds(&rt, &[first, lent, second == [0xed], third, last]);
-    // Nothing is lent after the end.
+    // The stream is not lent after the end.
     let end = ended(reader.read_bit());
     holds(&rt, end & reader.reader().is_none());
     same(&rt, reader.into_reader().len(), 0);
 }
 
-/// Checks that a reader that took 12 bits, and one that met the end, seek to the start.
+/// Checks that a reader that took 12 bits, and a reader that met the end, seek to the start.
 fn round_trip<R: SeekSource>(reader: &mut BitReader<R, BE>, bits: u32) -> [bool; 7] {
     [
         gives(reader.read_unsigned_var(bits), 0xb1e_u16),
@@ -61,7 +60,7 @@ fn round_trip<R: SeekSource>(reader: &mut BitReader<R, BE>, bits: u32) -> [bool;
     ]
 }
 
-/// The width of the words is known only as the program runs.
+/// The width of the words, known only at run time.
 #[test]
 fn seeks_in_memory(rt: HostRuntime) {
     each_holds(&rt, &round_trip(&mut BitReader::new(Slice::new(&D)), 12));
@@ -85,7 +84,7 @@ fn lends_the_stream_of_a_writer(rt: HostRuntime) {
     let mut buffer = [0; 3];
     let mut writer = BitWriter::endian(SliceMut::new(&mut buffer), BigEndian);
     let first = writer.write_unsigned_var(3, 5u8).is_ok();
-    // No stream is lent within a byte.
+    // The stream is not lent within a byte.
     let kept = writer.writer().is_none();
     let aligned = writer.byte_align().is_ok();
     let lent = writes_lent(&mut writer);

@@ -1,4 +1,5 @@
-//! Prefix codes: long chains, words that are made once, and memory that is refused. Worked rows are played by `bitstream_vectors`.
+//! Prefix codes: long chains, precomputed code words, and failed allocations. `bitstream_vectors` plays
+//! the test vectors.
 use crate::asserts::{are, gives, same};
 use bitstream_io::huffman::{HuffmanTree, ToBits};
 use bitstream_io::{BE, BitRead, BitReadExt, BitReader, BitWrite, BitWriteExt, BitWriter, Slice};
@@ -7,8 +8,8 @@ use test_streams::RefuseMemory;
 
 type Tree = HuffmanTree<u16, Global>;
 
-/// Returns the tree of `branches` + 1 symbols, from 0 on, whose words are each a bit longer than
-/// the one before.
+/// Returns the tree of `branches` + 1 symbols, from 0 on, in which each code word is one bit longer
+/// than the one before.
 fn chain(alloc: Global, branches: u16) -> Result<Tree, AllocError> {
     let mut tree = HuffmanTree::leaf(alloc, branches)?;
     for below in 0..branches {
@@ -26,7 +27,7 @@ fn reads<R: BitRead>(reader: &mut R, tree: &Tree, symbols: &[u16]) -> bool {
     same
 }
 
-/// Writes the symbols' words, the last one filled up.
+/// Writes the symbols' code words, and zeros up to the end of the last byte.
 fn writes<W: BitWrite>(writer: &mut W, tree: &Tree, symbols: &[u16]) -> bool {
     let mut written = true;
     for symbol in symbols {
@@ -35,8 +36,8 @@ fn writes<W: BitWrite>(writer: &mut W, tree: &Tree, symbols: &[u16]) -> bool {
     written & writer.byte_align().is_ok()
 }
 
-/// Writes the symbols one after the other and reads them back. Returns the number of bytes that
-/// they take, or none if they are not the same.
+/// Writes the symbols one after the other and reads them back. Returns the number of bytes that they
+/// take, or `None` if other symbols are read.
 fn come_back(alloc: Global, tree: &Tree, symbols: &[u16]) -> Option<usize> {
     let mut writer = BitWriter::<_, BE>::new(Vec::new(alloc));
     let written = writes(&mut writer, tree, symbols);
@@ -65,12 +66,12 @@ fn r12_flat_trees(rt: HostRuntime) {
 #[test]
 fn r12_long_chain(rt: HostRuntime) {
     let tree = chain(rt.alloc(), 16000).expect(&rt, "memory is left");
-    // The words have 1, 16000, 8001, 2 and 16000 bits.
+    // The code words have 1, 16000, 8001, 2 and 16000 bits.
     let bytes = come_back(rt.alloc(), &tree, &[0, 16000, 8000, 1, 15999]);
     same(&rt, bytes, Some(5001));
 }
 
-/// Returns the tree of 20 symbols whose nodes have memory for `served` blocks.
+/// Returns the tree of 20 symbols, if memory serves `served` allocations for each node.
 fn grown(alloc: Global, served: u32) -> Result<HuffmanTree<u16, RefuseMemory<Global>>, AllocError> {
     let mut tree = HuffmanTree::leaf(RefuseMemory::new(alloc, served), 0)?;
     for symbol in 1..20 {
@@ -88,7 +89,7 @@ fn each_growth_of_a_tree_may_lack_memory(rt: HostRuntime) {
     }
 }
 
-/// The bytes that a code makes of one symbol.
+/// Returns the bytes of one symbol in a code.
 fn bytes_of<T: ToBits<Symbol = u16>>(alloc: Global, code: &T, symbol: u16) -> Vec<u8> {
     let mut writer = BitWriter::<_, BE>::new(Vec::new(alloc));
     let _ = writer.write_huffman(code, symbol);

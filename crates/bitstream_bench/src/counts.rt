@@ -5,10 +5,10 @@ use bitstream_io::{
 };
 use std::alloc::Global;
 
-/// The sum of 5 bits and a number, and their difference, without a sign bit and with one.
+/// The sum of 5 bits and a number, their difference, and their difference with a sign bit.
 type Sums = (Option<u32>, Option<u32>, Option<u32>);
 
-/// Returns the sum and the differences of 5 bits and `number`, of at most 16, 3 and 8 bits.
+/// Returns the sum, the difference and the signed difference of 5 bits and `number`, of at most 16, 3 and 8 bits.
 fn sums(number: u32) -> Sums {
     let five = BitCount::<8>::new::<5>();
     let signed = SignedBitCount::<8>::new::<5>();
@@ -72,7 +72,7 @@ fn are_ranges(rows: &[(u32, Ranges)]) -> bool {
     right
 }
 
-/// The high part of a number, and the count and the value of the low one, if there is such a count.
+/// The high part of a number, the count of the low part, and the value of the low part, if there is such a count.
 type Parts = Option<(u8, u32, u8)>;
 
 /// Returns the parts of 222 at `bits` bits.
@@ -105,12 +105,12 @@ fn refused(bits: u32, value: i8) -> Option<CheckedError> {
     CheckedSigned::new(count, value).err()
 }
 
-/// Returns true if a signed value of `bits` bits is refused as too great or too small.
+/// Returns true if a signed value of `bits` bits is rejected as too great or too small.
 fn is_excessive(bits: u32, value: i8) -> bool {
     refused(bits, value) == Some(CheckedError::ExcessiveValue)
 }
 
-/// Widths, and the least and the greatest number that each holds.
+/// Widths, with the least and the greatest number of each.
 const ENDS: [(u32, i8, i8); 7] = [
     (1, -1, 0),
     (2, -2, 1),
@@ -132,8 +132,8 @@ fn are_ends(rows: &[(u32, i8, i8)]) -> bool {
     right
 }
 
-/// Checks the errors for the width of the type and for one bit more; and that in four bits 5 after
-/// a sign bit of 1 is -3.
+/// Checks the errors for the width of the type and for one bit more. Also checks that 5 after a sign
+/// bit of 1 is -3 in four bits.
 fn whole_widths_and_signs() -> bool {
     refused(8, -128).is_none()
         & (refused(9, 0) == Some(CheckedError::ExcessiveBits))

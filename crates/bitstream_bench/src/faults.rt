@@ -1,4 +1,4 @@
-//! Readers and writers after a request that was refused.
+//! Readers and writers after a failed request.
 use crate::asserts::{are, each_holds, ended, failed, gives, holds, same};
 use bitstream_io::{
     BE, BitRead, BitReadExt, BitReader, BitWrite, BitWriteExt, BitWriter, Bits, ByteRead,
@@ -8,13 +8,13 @@ use std::alloc::Global;
 use std::io::ErrorKind;
 use test_streams::{Count, Endless, Refuse};
 
-/// Returns true if a call returns that its stream refused with this kind.
+/// Returns true if a call returns an I/O error of this kind.
 fn refused<T: Drop>(answer: Result<T, Error>, wanted: ErrorKind) -> bool {
     matches!(answer, Err(Error::Stream(kind)) if kind == wanted)
 }
 
-/// Returns true if a writer whose second byte is refused has failed, even for values of 0 bits,
-/// while an array of no items makes no call.
+/// Returns true if a writer whose second byte fails has failed, even for values of 0 bits, and an array
+/// of no items makes no call.
 fn fails_to_write<W: BitWrite>(writer: &mut W) -> bool {
     writer.write::<Bits<8>, u8>(1).is_ok()
         & refused(writer.write::<Bits<8>, u8>(2), ErrorKind::BrokenPipe)
@@ -22,7 +22,7 @@ fn fails_to_write<W: BitWrite>(writer: &mut W) -> bool {
         & writer.write::<Bits<8>, [u8; 0]>([]).is_ok()
 }
 
-/// Returns true if a reader whose second byte is refused has failed, and is at no byte boundary.
+/// Returns true if a reader whose second byte fails has failed, and is not at a byte boundary.
 fn fails_to_read<R: BitRead>(alloc: Global, reader: &mut R) -> bool {
     gives(reader.read::<Bits<4>, u8>(), 11)
         & refused(reader.read::<Bits<8>, u8>(), ErrorKind::ConnectionReset)
@@ -50,7 +50,7 @@ fn r13_faults(rt: HostRuntime) {
     holds(&rt, fails_to_read(rt.alloc(), &mut reader));
 }
 
-/// A refused flush fails the writer, and its queued bits are lost. The first flush is served.
+/// A failed flush fails the writer, and its queued bits are lost. The first flush succeeds.
 #[test]
 fn a_refused_flush_fails_the_writer(rt: HostRuntime) {
     let mut writer = BitWriter::<_, BE>::new(Refuse {
@@ -68,7 +68,7 @@ fn a_refused_flush_fails_the_writer(rt: HostRuntime) {
     are(&rt, &writer.into_writer().inner, &[]);
 }
 
-/// A length that no stream has ends with the bytes: a reader of bits has failed then, and a reader
+/// A length that no stream has ends at the end of input. A reader of bits has failed then, and a reader
 /// of bytes returns the same for each call.
 #[test]
 fn r14_hostile(rt: HostRuntime) {
@@ -81,7 +81,7 @@ fn r14_hostile(rt: HostRuntime) {
     holds(&rt, whole.read_to_vec(rt.alloc(), 0).is_ok());
 }
 
-/// A call of several reads keeps the reads that were done: a group of 8 bits, 4096 bytes.
+/// A call of several reads keeps the reads that succeeded: a group of 8 bits, or 4096 bytes.
 #[test]
 fn keeps_the_reads_before_a_failure(rt: HostRuntime) {
     let mut groups = SliceReader::<BE>::over(&[0x80]);
@@ -96,7 +96,7 @@ fn keeps_the_reads_before_a_failure(rt: HostRuntime) {
     );
 }
 
-/// A reader of one byte for ever, whose requests are counted.
+/// Returns a reader over an endless stream of one byte, which counts its requests.
 fn endless(byte: u8) -> BitReader<Count<Endless>, BE> {
     BitReader::new(Count {
         inner: Endless { byte },
@@ -105,8 +105,8 @@ fn endless(byte: u8) -> BitReader<Count<Endless>, BE> {
     })
 }
 
-/// Returns true if a read stopped after the group that passes its type, at a byte boundary, with
-/// one request for each byte.
+/// Returns true if a read stopped at a byte boundary, after the group that overflows its type, with one
+/// request for each byte.
 fn stopped<U: Drop>(
     answer: Result<U, Error>,
     reader: BitReader<Count<Endless>, BE>,
@@ -129,7 +129,7 @@ fn r14_groups_that_never_end(rt: HostRuntime) {
     holds(&rt, stopped(answer, reader, 32));
 }
 
-/// A run of 2^32 zeros is too long. Each of its bytes takes a request of its own.
+/// A run of 2^32 zeros is too long. The reader makes one request for each of its bytes.
 #[test]
 fn r14_a_run_that_never_ends(rt: HostRuntime) {
     let mut reader = endless(0);

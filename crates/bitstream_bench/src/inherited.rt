@@ -1,5 +1,5 @@
-//! A reader, a writer and a reader of bytes of a user's own with only the required calls: each
-//! other call has the body of the trait.
+//! A user's own reader, writer and reader of bytes with only the required calls: each other call has
+//! the default body of the trait.
 ghost use Rattle.bitstream_io.specs.ByteReads.{inner_byte_source};
 ghost use Rattle.bitstream_io.specs.Reads.{inner_source};
 ghost use Rattle.bitstream_io.specs.Sink.{inner_sink};
@@ -11,7 +11,7 @@ use bitstream_io::{
 };
 use std::alloc::Global;
 
-/// A reader before another, to which it hands each required call.
+/// A reader that passes each required call to another reader.
 #[derive(Drop)]
 struct OwnReader<R> {
     inner: R,
@@ -52,7 +52,7 @@ impl<R: BitRead> BitRead for OwnReader<R> {
     }
 }
 
-/// A sink before another, to which it hands each required call.
+/// A sink that passes each required call to another sink.
 #[derive(Drop)]
 struct OwnWriter<W> {
     inner: W,
@@ -94,7 +94,7 @@ impl<W: BitWrite> BitWrite for OwnWriter<W> {
     }
 }
 
-/// A reader of bytes before another, to which it hands each required call.
+/// A reader of bytes that passes each required call to another one.
 #[derive(Drop)]
 struct OwnBytes<R> {
     inner: R,
@@ -116,7 +116,7 @@ impl<R: ByteRead> ByteRead for OwnBytes<R> {
     }
 }
 
-/// Words, whole bytes after a bit, and codes, big-endian, each to the end of a byte.
+/// Words, whole bytes after a bit, and codes, big-endian, each filled up to the end of a byte.
 const WRITTEN: [u8; 35] = [
     0xce, 0x75, 0xaf, 0x00, 0x8f, 0x69, 0x9d, 0x80, 0, 0, 0, 0, 0, 0, 0, 0, 0, 0, 0, 0, 0, 0, 0,
     0x06, 0x82, 0x40, 0xa0, 0xc0, 0x81, 0x81, 0xff, 0x3f, 0xf3, 0xe0, 0x40,
@@ -134,7 +134,7 @@ fn writes_words<W: BitWrite>(writer: &mut W) -> bool {
         & writer.byte_align().is_ok()
 }
 
-/// Writes the bytes, and zeros among them.
+/// Writes the bytes, with zeros among them.
 fn writes_bytes<W: BitWrite>(writer: &mut W) -> bool {
     writer.write_bit(true).is_ok()
         & writer.write_bytes(&[0x1e, 0xd3, 0x3b]).is_ok()
@@ -144,7 +144,7 @@ fn writes_bytes<W: BitWrite>(writer: &mut W) -> bool {
         & writer.byte_align().is_ok()
 }
 
-/// Writes numbers of variable width, each twice, and unary ones.
+/// Writes numbers of variable width, each twice, and unary numbers.
 fn writes_codes<W: BitWrite>(writer: &mut W) -> bool {
     writer.write_unsigned_vbr::<Bits<4>, u8>(8).is_ok()
         & writer.write_unsigned_vbr::<Bits<4>, u8>(8).is_ok()
@@ -206,7 +206,7 @@ fn reads_bytes<R: BitRead>(alloc: Global, reader: &mut R) -> bool {
     same & (bytes == [0x1e])
 }
 
-/// Returns true if the numbers of variable width and the unary ones are read.
+/// Returns true if the numbers of variable width and the unary numbers are read.
 fn reads_codes<R: BitRead>(reader: &mut R) -> bool {
     let same = gives(reader.read_unsigned_vbr::<Bits<4>, u8>(), 8)
         & gives(reader.read_unsigned_vbr_any::<Bits<4>, u8>(), 8)

@@ -1,5 +1,5 @@
-//! Readers and writers that are lent to a function which takes one by value: the bytes that they
-//! move, that the lender continues after them, and that many bytes are one request.
+//! Readers and writers lent to a function that takes one by value. Checks the bytes that they move,
+//! that the lender continues after these bytes, and that many bytes are one request.
 use crate::asserts::{are, each_holds, gives};
 use bitstream_io::{
     BE, BitRead, BitReader, BitWrite, BitWriter, ByteRead, ByteReader, ByteWrite, ByteWriter,
@@ -11,7 +11,7 @@ const D: [u8; 4] = [0xb1, 0xed, 0x3b, 0xc1];
 /// Many bytes.
 const MANY: [u8; 4096] = [0xa5; 4096];
 
-/// A stream whose requests are counted.
+/// A stream that counts its requests.
 fn counted<S>(inner: S) -> Count<S> {
     Count {
         inner,
@@ -67,7 +67,7 @@ fn reads_whole<R: ByteRead + Drop>(mut reader: R, byte: u8, buf: &mut [u8]) -> b
     gives(reader.read(), byte) & reader.read_bytes(buf).is_ok()
 }
 
-/// Takes a writer of bytes by value, and returns true if it writes this byte, and these.
+/// Takes a writer of bytes by value, and returns true if it writes this byte, and then these bytes.
 fn writes_whole<W: ByteWrite + Drop>(mut writer: W, byte: u8, bytes: &[u8]) -> bool {
     writer.write(byte).is_ok() & writer.write_bytes(bytes).is_ok()
 }

@@ -1,5 +1,5 @@
-//! The facts that no clause of the library states on the ten integer types: std's `default`, and
-//! std's operators on the bits of signed numbers.
+//! Facts about the ten integer types that no clause of the library states: std's `default`, and std's
+//! operators on the bits of signed numbers.
 use crate::asserts::each_holds;
 use bitstream_io::Numeric;
 

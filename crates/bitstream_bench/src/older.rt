@@ -1,9 +1,9 @@
-//! The older names of the calls. That each is the call of today is proved; the examples have two rows more.
+//! The older names of the calls. A proof shows that each equals the call of today; the examples have two more rows.
 use crate::asserts::{gives, holds};
 use bitstream_io::{BE, BitRead2, BitReader, Bits, Slice};
 
-/// Returns true if two numbers, a signed one, and the ones before a 0 are read from the bits 1010
-/// 1011 1110.
+/// Returns true if two numbers, a signed number, and the number of ones before a 0 are read from the
+/// bits 1010 1011 1110.
 fn reads_values<R: BitRead2>(reader: &mut R) -> bool {
     gives(reader.read_in::<Bits<4>, u8>(), 10)
         & gives(reader.read::<u8>(2), 2)

@@ -1,4 +1,4 @@
-//! A prefix code of a user's own.
+//! A user's own prefix code.
 use crate::asserts::{gives, holds};
 use crate::sign_code::{read_sign, write_sign};
 use bitstream_io::{BitRead, BitReader, BitWrite, BitWriter, LE, Slice, SliceMut};

@@ -1,5 +1,4 @@
-//! Whole calls of the program, from bytes to bytes, over streams that count their requests and may
-//! refuse one of them.
+//! Whole calls of the program, from bytes to bytes, over streams that count their requests and may fail one of them.
 use crate::asserts::{each_holds, holds, holds_of, same};
 use crate::program_rows::{
     BYTES, CONSTANTS, D, HEADLINE, PACKED, PIPELINES, REDUNDANT, REPACKED, REPACKINGS, ROWS, Row,
@@ -11,8 +10,7 @@ use std::io::ErrorKind;
 use std::process::Abort;
 use test_streams::{Count, Refuse, Short};
 
-/// The request of each stream that is refused, if any, counted from 0. Each later one is served
-/// again.
+/// The request of each stream that fails, if any, counted from 0. Each later request succeeds again.
 #[derive(Clone, Copy, Drop)]
 struct Refused {
     input: Option<u32>,
@@ -36,14 +34,14 @@ struct Ended {
     faults: Vec<u8>,
     /// The number of bytes of the input left.
     left: usize,
-    /// The number of requests made of the input, of the output and of the stream for faults.
+    /// The number of requests made to the input, to the output and to the stream for faults.
     requests: (u64, u64, u64),
 }
 
 /// The text on the stream for faults before a call.
 const BEFORE: &str = "before\n";
 
-/// The words of a text, or fewer if memory is refused.
+/// Returns the words of a text, or fewer if an allocation fails.
 fn split(alloc: Global, text: &str) -> Vec<String> {
     let mut words = Vec::new(alloc);
     for word in text.split(' ') {
@@ -54,7 +52,7 @@ fn split(alloc: Global, text: &str) -> Vec<String> {
     words
 }
 
-/// The bytes of a text, or none if memory is refused.
+/// Returns the bytes of a text, or none if an allocation fails.
 fn bytes_of(alloc: Global, text: &str) -> Vec<u8> {
     match String::from_str(alloc, text) {
         Ok(text) => text.into_bytes(),
@@ -76,7 +74,7 @@ fn stream<S>(inner: S, left: Option<u32>, kind: ErrorKind) -> Count<Refuse<S>> {
     }
 }
 
-/// Runs a call over an input that returns its bytes at once, or in short reads.
+/// Runs a call over an input that returns all its bytes at once, or in short reads.
 fn play(alloc: Global, words: &str, bytes: &[u8], short: bool, refused: Refused) -> Ended {
     let words = split(alloc, words);
     let short_stream = Short {
@@ -96,8 +94,8 @@ fn play(alloc: Global, words: &str, bytes: &[u8], short: bool, refused: Refused)
     }
 }
 
-/// Returns the text on the stream for faults after the line of this fault, or with no line if it is
-/// empty.
+/// Returns the text on the stream for faults: the text before the call, and the line of this fault
+/// unless it is empty.
 fn faults_of(alloc: Global, fault: &str) -> Result<String, AllocError> {
     if fault.is_empty() {
         String::from_str(alloc, BEFORE)
@@ -116,8 +114,8 @@ fn ends(alloc: Global, ended: &Ended, status: u8, output: &[u8], fault: &str) ->
     told & (ended.status == status) & (ended.output.as_slice() == output)
 }
 
-/// Returns true if a row ends as it should, over an input that returns its bytes at once, over one
-/// with short reads, and if one request is refused.
+/// Returns true if a row ends as it should, over an input that returns all its bytes at once, over an
+/// input with short reads, and if one request fails.
 fn is_right(alloc: Global, row: &Row) -> bool {
     let at_once = play(alloc, row.0, row.1, false, NONE);
     let short_reads = play(alloc, row.0, row.1, true, NONE);
@@ -174,7 +172,7 @@ fn moves_records_of_other_formats(rt: HostRuntime) {
     are_right(&rt, rt.alloc(), &PIPELINES);
 }
 
-/// Returns a text and `times` copies of another after it, or fewer if memory is refused.
+/// Returns a text and then `times` copies of another text, or fewer if an allocation fails.
 fn repeated(alloc: Global, first: &str, next: &str, times: usize) -> String {
     let mut text = String::new(alloc);
     let _ = text.push_str(first);
@@ -199,14 +197,13 @@ fn has_too_many_fields(alloc: Global, text: &str) -> bool {
 fn layouts_have_256_fields_at_most(rt: HostRuntime) {
     let most = repeated(rt.alloc(), "u1", ",u1", 255);
     holds(&rt, has_256_fields(rt.alloc(), most.as_str()));
-    // Their number is checked before their spelling.
+    // The number of fields is checked before their spelling.
     let past = repeated(rt.alloc(), "x", ",u1", 256);
     holds(&rt, has_too_many_fields(rt.alloc(), past.as_str()));
 }
 
-/// A large call: a field, alone and after another, the number of times that a layout has it, the
-/// number of bytes of each, and the number of bits in all, as `size` prints it. Each byte is 122, a
-/// `z`.
+/// A large call: a field, the same field after a comma, the number of these fields in a layout, the
+/// number of bytes of each, and the total number of bits, as `size` prints it. Each byte is 122, a `z`.
 #[derive(Drop)]
 struct Large(&'static str, &'static str, usize, usize, &'static str);
 
@@ -245,29 +242,29 @@ fn moves(alloc: Global, large: &Large) -> [bool; 4] {
     ]
 }
 
-/// Asserts that each command moves each of these.
+/// Asserts that each command moves each of these large inputs.
 fn move_each(rt: &impl Abort, alloc: Global, rows: &[Large]) {
     for row in rows {
         each_holds(rt, &moves(alloc, row));
     }
 }
 
-/// A body that reports refused memory from some size on meets the contracts.
+/// A body that reports a failed allocation above some size would meet the contracts, so large inputs are tested.
 #[test]
 fn moves_large_inputs(rt: HostRuntime) {
     move_each(&rt, rt.alloc(), &LARGE);
 }
 
-/// The stream that refuses a request, and the index of the request, from 0.
+/// The stream that fails a request, and the index of the request, from 0.
 #[derive(Clone, Copy, Drop)]
 enum Refusing {
     Input(u32),
     Output(u32),
 }
 
-/// A refused request of the input or of the output: its stream and index, the field of the call's
-/// fault, the number of its bytes sent before, and the number of requests made of the input, of the
-/// output and of the stream for faults.
+/// A failed request of the input or of the output: its stream and index, the field of the call's fault,
+/// the number of bytes written before, and the number of requests made to the input, to the output and
+/// to the stream for faults.
 #[derive(Drop)]
 struct Refusal(Refusing, usize, usize, (u64, u64, u64));
 
@@ -275,7 +272,7 @@ const OF_PACK: [Refusal; 5] = [
     // Reading to the end takes one request for the bytes and one that finds the end.
     Refusal(Refusing::Input(0), 0, 0, (1, 0, 1)),
     Refusal(Refusing::Input(1), 0, 0, (2, 0, 1)),
-    // The first byte is full at the third field, the others at the last, and a flush follows.
+    // The first byte is complete at the third field, the others at the last field, and a flush follows.
     Refusal(Refusing::Output(0), 0, 0, (2, 1, 1)),
     Refusal(Refusing::Output(1), 0, 1, (2, 2, 1)),
     Refusal(Refusing::Output(2), 0, 4, (2, 3, 1)),
@@ -300,7 +297,7 @@ const OF_SIZE: [Refusal; 4] = [
 ];
 
 const OF_REPACK: [Refusal; 7] = [
-    // The fields are read, then one byte more is asked for, and nothing was written before.
+    // The fields are read, and then one more byte is requested. Nothing is written before.
     Refusal(Refusing::Input(0), 1, 0, (1, 0, 1)),
     Refusal(Refusing::Input(1), 3, 0, (2, 0, 1)),
     Refusal(Refusing::Input(2), 5, 0, (3, 0, 1)),
@@ -310,7 +307,7 @@ const OF_REPACK: [Refusal; 7] = [
     Refusal(Refusing::Output(2), 0, 4, (4, 3, 1)),
 ];
 
-/// The kinds of refusals that are tried, with their reason.
+/// The error kinds that are tried, with the reasons that the program prints.
 const KINDS: [(ErrorKind, &str); 2] = [
     (ErrorKind::ConnectionReset, "stream fault"),
     (ErrorKind::OutOfMemory, "out of memory"),
@@ -331,8 +328,8 @@ fn refused_at(refusing: Refusing, kind: ErrorKind) -> Refused {
     }
 }
 
-/// Returns true if the refused request was the last one made, with no output asked for after one of
-/// the input's; `None` if the call never made it.
+/// Returns true if the failed request was the last one made, and no output was requested after a failed
+/// input; `None` if the call never made it.
 fn is_last(ended: &Ended, refusing: Refusing) -> Option<bool> {
     let (input, output, _) = ended.requests;
     match refusing {
@@ -342,10 +339,10 @@ fn is_last(ended: &Ended, refusing: Refusing) -> Option<bool> {
     }
 }
 
-/// Returns true if a row ends as it should if a request is refused. If the call makes it, the last
-/// line of its faults is a stream fault, nothing more is asked, and only a beginning of the row's
-/// bytes is written. If it was the input's request, none at all is written. If the call does not
-/// make it, the row ends as usual.
+/// Returns true if a row ends as it should if a request fails. If the call makes it, the last line of
+/// its faults is a stream fault, it makes no further request, and it writes only a prefix of the row's
+/// bytes. If the request is one of the input, it writes nothing. If the call does not make it, the row
+/// ends as usual.
 fn ends_at(alloc: Global, row: &Row, refusing: Refusing) -> bool {
     let refused = refused_at(refusing, ErrorKind::ConnectionReset);
     let ended = play(alloc, row.0, row.1, false, refused);
@@ -360,7 +357,7 @@ fn ends_at(alloc: Global, row: &Row, refusing: Refusing) -> bool {
         & ended.faults.ends_with(b": stream fault\n")
 }
 
-/// Returns true if a row ends as it should if a request is refused with this kind.
+/// Returns true if a row ends as it should if a request fails with this kind.
 fn ends_refused(
     alloc: Global,
     row: &Row,
@@ -379,7 +376,7 @@ fn ends_refused(
     }
 }
 
-/// Returns true if a row ends as it should if a request is refused with either kind.
+/// Returns true if a row ends as it should if a request fails with either kind.
 fn ends_refused_by_each(alloc: Global, row: &Row, refusal: &Refusal) -> bool {
     let mut right = true;
     for (kind, reason) in KINDS {
@@ -388,7 +385,7 @@ fn ends_refused_by_each(alloc: Global, row: &Row, refusal: &Refusal) -> bool {
     right
 }
 
-/// Asserts that a row ends as it should if one of these requests is refused.
+/// Asserts that a row ends as it should if one of these requests fails.
 fn are_refused(rt: &impl Abort, alloc: Global, row: &Row, refusals: &[Refusal]) {
     for (at, refusal) in refusals.iter().enumerate() {
         same(
@@ -408,7 +405,7 @@ fn asks_nothing_more_after_a_refusal(rt: HostRuntime) {
 }
 
 /// Returns true if a row ends as it should if one of the first `requests` requests of its input or
-/// output is refused, and if the next one is.
+/// output fails, and if the next request would fail.
 fn ends_at_each(alloc: Global, row: &Row, requests: u64) -> bool {
     let mut right = true;
     for at in 0..=u32::try_from(requests).unwrap_or(0) {
@@ -436,8 +433,8 @@ fn an_end_is_no_stream_fault(rt: HostRuntime) {
     holds(&rt, ends_at_an_end(rt.alloc(), 2, "5: bits ended"));
 }
 
-/// The call and the input of a row, the number of bytes of the input left, and the number of
-/// requests made of the input, of the output and of the stream for faults.
+/// The call and the input of a row, the number of bytes of the input left, and the number of requests
+/// made to the input, to the output and to the stream for faults.
 #[derive(Drop)]
 struct Demand(Row, usize, (u64, u64, u64));
 
@@ -453,14 +450,13 @@ const DEMANDS: [Demand; 9] = [
     Demand(Row("repack be u7", D, b"", "", 4), 3, (1, 0, 1)),
 ];
 
-/// Returns true if a call leaves the number of bytes and makes the number of requests of the
-/// demand.
+/// Returns true if a call leaves this number of bytes, and makes these numbers of requests.
 fn asks_for(alloc: Global, demand: &Demand) -> bool {
     let ended = play(alloc, demand.0.0, demand.0.1, false, NONE);
     (ended.left == demand.1) & (ended.requests == demand.2)
 }
 
-/// Asserts that each of these calls asks only for the bytes and requests that it needs.
+/// Asserts that each of these calls takes only the bytes and makes only the requests that it needs.
 fn ask_for(rt: &impl Abort, alloc: Global, demands: &[Demand]) {
     for demand in demands {
         holds_of(rt, asks_for(alloc, demand), demand.0.0);

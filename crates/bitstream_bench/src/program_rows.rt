@@ -1,7 +1,7 @@
 //! Test vectors of calls of the program: the input, and the results.
 
-/// A call, its input, the output that it must write, the field and reason of its fault (none:
-/// empty), and its status.
+/// A call, its input, the output that it must write, the field and reason of its fault (empty if there
+/// is none), and its status.
 #[derive(Drop)]
 pub(crate) struct Row(
     pub(crate) &'static str,
@@ -250,13 +250,13 @@ pub(crate) const BYTES: [Row; 28] = [
     Row("pack be b2", b"01 2", b"", "1: value misspelt", 3),
     Row("pack be b2", b"1 -2", b"", "1: value misspelt", 3),
     Row("pack be b1", b"\n", b"", "1: value misspelt", 3),
-    // Another number of decimals, or a part that is none, comes before a number that does not fit.
+    // A wrong number of decimals, or a part that is not a number, is reported before a number that does not fit.
     Row("pack be b2", b"256", b"", "1: value misspelt", 3),
     Row("pack be b2", b"256 x", b"", "1: value misspelt", 3),
     Row("pack be b2", b"1 2\n3", b"", "0: value left over", 3),
 ];
 
-/// Constants: no line spells their number, and other bits are a fault.
+/// Constants: no line spells their number, and wrong bits are a fault.
 pub(crate) const CONSTANTS: [Row; 23] = [
     Row("unpack be u2,c3=5", &[0xb1], b"", "2: constant differs", 4),
     Row("unpack be u2,c3=6", &[0xb1], b"2\n", "", 0),
@@ -329,8 +329,8 @@ pub(crate) const SIZES: [Row; 25] = [
     Row("size be p8", b"\n", b"", "0: value left over", 3),
 ];
 
-/// The STREAMINFO block of a FLAC file: the least and the greatest block and frame, the rate, the
-/// channels and the bits of a sample, each less 1, and the samples.
+/// The STREAMINFO block of a FLAC file: the least and the greatest block and frame, the sample rate,
+/// the number of channels and of bits of a sample, each less 1, and the number of samples.
 const STREAM_INFO: &[u8] = &[
     0x10, 0x00, 0x10, 0x00, 0x00, 0x06, 0x06, 0x00, 0x21, 0x62, 0x0a, 0xc4, 0x42, 0xf0, 0x00, 0x04,
     0xa6, 0xcc,
@@ -355,7 +355,7 @@ const SEGMENT: &[u8] = &[
     0x00, 0x00, 0x00, 0x00,
 ];
 
-/// The same, with reserved bits that are not 0.
+/// The same header, with reserved bits that are not 0.
 const MARKED_SEGMENT: &[u8] = &[
     0x01, 0xbb, 0xc0, 0x00, 0x00, 0x00, 0x00, 0x01, 0x00, 0x00, 0x00, 0x00, 0x5e, 0x02, 0xff, 0xff,
     0x00, 0x00, 0x00, 0x00,
@@ -442,8 +442,8 @@ pub(crate) const PIPELINES: [Row; 12] = [
     ),
 ];
 
-/// Numbers that end in a group of 0: strict fields refuse them, lenient ones read them and are packed
-/// by the shortest word.
+/// Numbers that end in a group of 0: strict fields reject them, lenient fields read them and are packed
+/// with the shortest encoding.
 pub(crate) const REDUNDANT: [Row; 16] = [
     Row("unpack be v4", &[0x80], b"", "1: limit passed", 4),
     Row("unpack be l4", &[0x80], b"0\n", "", 0),
@@ -520,7 +520,7 @@ pub(crate) const REPACKINGS: [Row; 34] = [
     Row("repack be u4", &[0x1f], b"", "0: padding not zero", 4),
     Row("repack le u4,a", &[0xf1], b"", "2: padding not zero", 4),
     Row("repack le u4", &[0x0f], &[0x0f], "", 0),
-    // A padding that is not zero comes before the byte left over, and after bits that ended.
+    // Padding that is not zero is reported before the byte left over, and after bits that ended.
     Row("repack be u7", &[0x01, 0x00], b"", "0: padding not zero", 4),
     Row("repack be p9", &[0x80], b"", "1: bits ended", 4),
     Row("repack be p130,u6", &[0x00; 17], &[0x00; 17], "", 0),

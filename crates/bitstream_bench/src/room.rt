@@ -1,16 +1,15 @@
-//! Bytes in memory as a target: the place where a request is refused, and the bytes written until
-//! then.
+//! Bytes in memory as a target: the request that fails, and the bytes written before it.
 use crate::asserts::{each_holds, failed, same};
 use bitstream_io::{BE, BitWrite, BitWriter, ByteWrite, ByteWriter, Endianness, Error, LE};
 use std::io::ErrorKind;
 use std::process::Abort;
 
-/// Returns true if a request was refused as there was no room for it.
+/// Returns true if a request failed because there was no room for it.
 fn lacks_room(answer: Result<(), Error>) -> bool {
     matches!(answer, Err(Error::Stream(ErrorKind::WriteZero)))
 }
 
-/// Returns a result, or the one before it if that is an error.
+/// Returns a result, or the earlier result if that is an error.
 fn first_error(before: Result<(), Error>, answer: Result<(), Error>) -> Result<(), Error> {
     match before {
         Ok(()) => answer,
@@ -18,7 +17,7 @@ fn first_error(before: Result<(), Error>, answer: Result<(), Error>) -> Result<(
     }
 }
 
-/// Writes 12 bits, 4 bits, two bytes and 4 bits, and aligns, whatever is refused.
+/// Writes 12 bits, 4 bits, two bytes and 4 bits, and aligns, whichever requests fail.
 fn write_packet<W: BitWrite>(writer: &mut W) -> Result<(), Error> {
     let answer = writer.write_unsigned_var(12, 0xb1e_u16);
     let answer = first_error(answer, writer.write_unsigned_var(4, 0xd_u8));
@@ -27,8 +26,8 @@ fn write_packet<W: BitWrite>(writer: &mut W) -> Result<(), Error> {
     first_error(answer, writer.byte_align())
 }
 
-/// A packet that is written into room for a number of bytes: the number of bytes written, and the
-/// memory after it, which was filled with `ee`, in either order.
+/// A packet written into a number of bytes: the number of bytes written, and all the memory then, in
+/// either order. The memory was filled with `ee` before.
 struct Row {
     room: usize,
     written: usize,
@@ -82,8 +81,9 @@ const ROWS: [Row; 7] = [
     },
 ];
 
-/// Checks one row: with enough room the packet is written, else it is refused for want of room and
-/// the writer fails; the buffer is `wanted`, and the first `written` bytes are reported as written.
+/// Checks one row. With enough room, the packet is written; otherwise a request fails for want of room,
+/// and the writer has failed. The buffer is `wanted`, and the first `written` bytes are reported as
+/// written.
 fn leaves<E: Endianness>(room: usize, written: usize, wanted: [u8; 6]) -> bool {
     let room = room.min(6);
     let mut memory = [0xee_u8; 6];
@@ -115,7 +115,7 @@ fn writes_while_there_is_room(rt: HostRuntime) {
     each_leaves(&rt, &ROWS);
 }
 
-/// Numbers of two bytes are written, and one byte where one of two bytes has no room.
+/// Numbers of two bytes are written, and then one byte after a number of two bytes that has no room.
 #[test]
 fn refuses_the_request_that_has_no_room(rt: HostRuntime) {
     let mut memory = [0u8; 3];

@@ -9,7 +9,8 @@ use std::io::ErrorKind;
 use std::process::Abort;
 use test_streams::{Refuse, Short};
 
-/// A list of calls with a number in more bits than its type has, or fewer calls if memory is refused.
+/// Returns a list of calls, one of them with a number in more bits than its type has. The list is
+/// shorter if an allocation fails.
 fn calls_with_one_too_wide(alloc: Global) -> Vec<WriteCall> {
     let mut calls = Vec::new(alloc);
     let _ = calls.push(WriteCall::Bit(true));
@@ -20,7 +21,7 @@ fn calls_with_one_too_wide(alloc: Global) -> Vec<WriteCall> {
     calls
 }
 
-/// Returns the results of a list of writes, or none of them if memory is refused.
+/// Returns the results of a list of writes, or none of them if an allocation fails.
 fn answers_of<W: BitWrite>(
     alloc: Global,
     writer: &mut W,
@@ -36,7 +37,7 @@ fn answers_of<W: BitWrite>(
     answers
 }
 
-/// Makes that list of calls, and returns true if only the second of the five is refused.
+/// Makes that list of calls, and returns true if only the second of the five fails.
 fn refuses_one<W: BitWrite>(alloc: Global, writer: &mut W) -> bool {
     let calls = calls_with_one_too_wide(alloc);
     match answers_of(alloc, writer, &calls).as_slice() {
@@ -102,7 +103,7 @@ fn is_error(error: &Error, want: Want) -> bool {
     }
 }
 
-/// Returns true if a call returned the wanted result.
+/// Returns true if a call returned the expected result.
 fn is_wanted(answer: &Option<Result<Answer, Error>>, want: Want) -> bool {
     match answer {
         Some(Ok(value)) => is_value(value, want),
@@ -111,7 +112,7 @@ fn is_wanted(answer: &Option<Result<Answer, Error>>, want: Want) -> bool {
     }
 }
 
-/// Returns the results of a list of calls, or none of them if memory is refused.
+/// Returns the results of a list of calls, or none of them if an allocation fails.
 fn answers_to<R: BitRead>(
     alloc: Global,
     reader: &mut R,
@@ -127,7 +128,7 @@ fn answers_to<R: BitRead>(
     answers
 }
 
-/// Returns true if the calls of a list return the wanted results.
+/// Returns true if the calls of a list return the expected results.
 fn are_answered<R: BitRead>(
     alloc: Global,
     reader: &mut R,
@@ -166,8 +167,7 @@ const PAST_THE_END_ANSWERS: [Want; 8] = [
     Want::Failed,
 ];
 
-/// A list that reads 1 in two groups by each call for numbers of variable width. Only the lenient
-/// calls return it.
+/// A list that reads 1 in two groups with each call for numbers of variable width. Only the lenient calls return it.
 const GROUPS: [ReadCall; 6] = [
     ReadCall::Vbr4,
     ReadCall::AnyVbr4,
@@ -186,7 +186,7 @@ const GROUPS_ANSWERS: [Want; 6] = [
     Want::Redundant,
 ];
 
-/// A number, two bytes after it, a number from the next byte and one bit more.
+/// A number, two bytes after it, a number at the next byte, and one more bit.
 const PACKET: [ReadCall; 5] = [
     ReadCall::U8(4),
     ReadCall::Bytes(2),
@@ -195,7 +195,7 @@ const PACKET: [ReadCall; 5] = [
     ReadCall::Bit,
 ];
 
-/// The results of these calls up to one whose request is refused.
+/// The results of these calls up to the one whose request fails.
 const PACKET_REFUSED: [[Want; 5]; 4] = [
     [
         Want::Refused,
@@ -227,7 +227,7 @@ const PACKET_REFUSED: [[Want; 5]; 4] = [
     ],
 ];
 
-/// The results of these calls if only the end refuses.
+/// The results of these calls if only the end of input is an error.
 const PACKET_ANSWERS: [Want; 5] = [
     Want::Number(11),
     Want::Bytes([0x1e, 0xd3]),
@@ -258,8 +258,7 @@ fn lists_of_reads_answer_each_call(rt: HostRuntime) {
     each_holds(&rt, &[past, groups, short_reads]);
 }
 
-/// Returns true if the packet has the wanted results over a stream that refuses after `left`
-/// requests.
+/// Returns true if the packet has the expected results over a stream that fails after `left` requests.
 fn is_answered(alloc: Global, left: usize, wanted: &[Want]) -> bool {
     let mut reader = BitReader::<_, BE>::new(Refuse {
         inner: D.as_slice(),
@@ -270,8 +269,7 @@ fn is_answered(alloc: Global, left: usize, wanted: &[Want]) -> bool {
     are_answered(alloc, &mut reader, &PACKET, wanted)
 }
 
-/// Asserts that the packet has these results over a stream that refuses its first request, its
-/// second, and so on.
+/// Asserts that the packet has these results over a stream that fails at its first request, at its second, and so on.
 fn each_is_answered(rt: &impl Abort, alloc: Global, refused: &[[Want; 5]]) {
     for (left, wanted) in refused.iter().enumerate() {
         holds(rt, is_answered(alloc, left, wanted));

@@ -1,4 +1,4 @@
-//! A prefix code of a user's own, whose contract states its words: signs of numbers.
+//! A user's own prefix code, whose contract states its code words: signs of numbers.
 ghost use Rattle.bitstream_io.specs.Reads.{Reads};
 ghost use Rattle.bitstream_io.specs.Sink.{WritesAll};
 ghost use Rattle.bitstream_io.specs.Tree.{bit_by_bit};
@@ -42,7 +42,7 @@ impl ToBits for SignCode {
     }
 }
 
-/// Reads a sign, by whatever reads bits.
+/// Reads a sign from any reader of bits.
 ///
 /// # Errors
 ///
@@ -53,11 +53,11 @@ pub fn read_sign<R: BitRead>(reader: &mut R) -> Result<Option<bool>, Error>
     reader.read_huffman(&SignCode)
 }
 
-/// Writes a sign, to whatever takes bits.
+/// Writes a sign to any sink of bits.
 ///
 /// # Errors
 ///
-/// The errors of the sink. The bits before a refused one stay written.
+/// The errors of the sink. The bits before the error stay written.
 pub fn write_sign<W: BitWrite>(writer: &mut W, sign: Option<bool>) -> Result<(), Error>
     ensures writes { WritesAll W.sink (bit_by_bit (sign_word sign)) writer.old result writer.new }
 {

@@ -1,15 +1,15 @@
-//! Counters and recorders: memory that is refused, a length that the counter's type does not hold, and a
-//! candidate that has failed. Lists of calls are rows of `bitstream_vectors`.
+//! Counters and recorders: failed allocations, a length that overflows the counter's type, and a failed
+//! candidate. `bitstream_vectors` plays lists of calls.
 use crate::asserts::{each_holds, failed, gives, holds};
 use bitstream_io::write::{Overflowed, Recorder};
 use bitstream_io::{BE, BitRecorder, BitWrite, BitWriteExt, BitWriter, Bits, Error, Growing};
 use std::alloc::{Allocator, Global};
 use test_streams::RefuseMemory;
 
-/// A recorder in memory that can be refused.
+/// A recorder in memory whose allocations can fail.
 type Refused = BitRecorder<u32, BE, RefuseMemory<Global>>;
 
-/// Returns true if a recorder that has failed plays nothing.
+/// Returns true if a failed recorder plays nothing.
 fn plays_nothing(alloc: Global, recorder: &mut Refused) -> bool {
     let mut writer = BitWriter::<_, BE>::new(Vec::new(alloc));
     failed(recorder.playback(&mut writer)) & writer.into_writer().is_empty()
@@ -63,8 +63,7 @@ fn ample_memory_is_never_refused(rt: HostRuntime) {
     each_holds(&rt, &take(rt.alloc()));
 }
 
-/// A recorder with a capacity asks for memory once: it takes the bytes of its capacity, and only
-/// these if its memory refuses to grow.
+/// A recorder with a capacity allocates once. If its memory cannot grow, it takes only the bytes of its capacity.
 #[test]
 fn capacities_are_kept(rt: HostRuntime) {
     let recorder = Refused::with_capacity(RefuseMemory::new(rt.alloc(), 1), 4096);
@@ -74,8 +73,7 @@ fn capacities_are_kept(rt: HostRuntime) {
     holds(&rt, taken & matches!(more, Err(Error::OutOfMemory)));
 }
 
-/// A recorder of a byte is the better of it and one that fails while it is given more than its memory
-/// holds.
+/// Of a recorder of one byte and a candidate that fails for lack of memory, the recorder is the better one.
 #[test]
 fn failed_candidates_are_not_given(rt: HostRuntime) {
     let mut recorder: Refused = BitRecorder::new(RefuseMemory::new(rt.alloc(), 1));
@@ -92,8 +90,8 @@ fn failed_candidates_are_not_given(rt: HostRuntime) {
     holds(&rt, plays);
 }
 
-/// Checks that a recorder of 31 bytes reports its length, and one of 32 reports that its
-/// counter's type does not hold it, and takes more.
+/// Checks that a recorder reports its length after 31 bytes. Checks that after 32 bytes it reports that
+/// its length overflows the counter's type, and still takes more bits.
 fn passes<A: Allocator>(recorder: &mut BitRecorder<u8, BE, A>) -> [bool; 5] {
     [
         recorder.write_bytes(&[0x5a; 31]).is_ok(),

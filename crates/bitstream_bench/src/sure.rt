@@ -1,5 +1,4 @@
-//! The known results of functions that read bytes in memory: their contracts have no premise on a
-//! stream.
+//! Functions whose results on bytes in memory are known: their contracts have no premise about a stream.
 ghost use Rattle.std.specs.Prelude.{◌≡◌, ◌+◌, ◌*◌, ◌<◌, ◌≤◌, length, map, take, Ok, Err, IsOkAnd};
 ghost use Rattle.std.specs.Int.NonZero.{non_zero_u8_get};
 ghost use Rattle.bitstream_io.specs.Array.{words};
@@ -14,7 +13,7 @@ use std::num::NonZero;
 ///
 /// # Errors
 ///
-/// `EndOfInput` where there are fewer.
+/// `EndOfInput` for fewer bits.
 pub fn first_word(bytes: &[u8]) -> Result<u16, Error>
     ensures there { 12 ≤ 8 * length bytes.now
         → result ≡ Ok (number High (take 12 (bits High bytes.now))) }
@@ -28,7 +27,7 @@ pub fn first_word(bytes: &[u8]) -> Result<u16, Error>
 ///
 /// # Errors
 ///
-/// `EndOfInput` where there are fewer.
+/// `EndOfInput` for fewer bits.
 pub fn first_track(bytes: &[u8]) -> Result<NonZero<u8>, Error>
     ensures there { 4 ≤ 8 * length bytes.now
         → IsOkAnd result
@@ -43,7 +42,7 @@ pub fn first_track(bytes: &[u8]) -> Result<NonZero<u8>, Error>
 ///
 /// # Errors
 ///
-/// `EndOfInput` where there are fewer.
+/// `EndOfInput` for fewer bits.
 pub fn first_words(bytes: &[u8]) -> Result<[u16; 3], Error>
     ensures there { 27 ≤ 8 * length bytes.now
         → result ≡ Ok (map (number High) (words 9 3 (bits High bytes.now))) }

@@ -1,5 +1,5 @@
-//! Whole bytes: the number of requests of primitives and long vectors, and memory that is refused.
-//! Long skips and pads are test vectors of `bitstream_vectors`.
+//! Whole bytes: the number of requests for primitives and long vectors, and failed allocations. Long
+//! skips and pads are test vectors of `bitstream_vectors`.
 use crate::asserts::{failed, gives, same};
 use bitstream_io::{
     BE, BitRead, BitReader, BitWrite, BitWriter, ByteRead, ByteReader, Endianness, Error, LE,
@@ -8,7 +8,7 @@ use std::alloc::Global;
 use std::process::Abort;
 use test_streams::{Count, Endless, RefuseMemory};
 
-/// Returns `len` bytes, of which neighbours differ, or fewer if memory is refused.
+/// Returns `len` bytes, of which neighbors differ, or fewer if an allocation fails.
 fn pattern(alloc: Global, len: usize) -> Vec<u8> {
     let mut bytes = Vec::new(alloc);
     let mut next = 0x5au8;
@@ -26,16 +26,16 @@ fn writes_behind<W: BitWrite>(writer: &mut W, place: u32, bytes: &[u8]) -> bool 
         & writer.byte_align().is_ok()
 }
 
-/// The forms in which bytes are read.
+/// The ways in which bytes are read.
 #[derive(Clone, Copy, Drop)]
 enum Form {
-    /// A primitive of 20 bytes, and then a buffer of none.
+    /// A primitive of 20 bytes, and then an empty buffer.
     Primitive,
     /// A vector.
     Vector,
 }
 
-/// Returns true if these bytes are read as a primitive of 20 bytes, and then a buffer of none.
+/// Returns true if these bytes are read as a primitive of 20 bytes, and then an empty buffer.
 fn reads_primitive<R: BitRead>(reader: &mut R, bytes: &[u8]) -> bool {
     let same = matches!(reader.read_to::<[u8; 20]>(), Ok(read) if read.as_slice() == bytes);
     same & reader.read_bytes(&mut []).is_ok()
@@ -46,8 +46,7 @@ fn reads_vector<R: BitRead>(alloc: Global, reader: &mut R, bytes: &[u8]) -> bool
     matches!(reader.read_to_vec(alloc, bytes.len()), Ok(read) if read.as_slice() == bytes)
 }
 
-/// Returns true if `place` bits and the bytes after them are read as they were written, by
-/// `requests` requests.
+/// Returns true if `place` bits and the bytes after them are read as they were written, with `requests` requests.
 fn goes_in<E: Endianness + Drop>(
     alloc: Global,
     form: Form,
@@ -71,8 +70,7 @@ fn goes_in<E: Endianness + Drop>(
     written & prefix & same & (reader.into_reader().requests == requests)
 }
 
-/// The form in which bytes are read, the number of bits before them, their number, and the number
-/// of requests.
+/// The form in which bytes are read, the number of bits before them, the number of bytes, and the number of requests.
 const PIECES: [(Form, u32, usize, u64); 4] = [
     (Form::Primitive, 0, 20, 1),
     (Form::Primitive, 1, 20, 1 + 3),
@@ -80,7 +78,7 @@ const PIECES: [(Form, u32, usize, u64); 4] = [
     (Form::Vector, 3, 9000, 1 + 4 + 4 + 1),
 ];
 
-/// Asserts that each of these is read back, in either order.
+/// Asserts that the bytes of each row are read back, in either order of bits.
 fn each_goes_in(rt: &impl Abort, alloc: Global, rows: &[(Form, u32, usize, u64)]) {
     for (form, place, len, requests) in rows {
         let bytes = pattern(alloc, *len);
@@ -95,8 +93,8 @@ fn long_bytes_go_in_pieces(rt: HostRuntime) {
     each_goes_in(&rt, rt.alloc(), &PIECES);
 }
 
-/// Returns true if a vector of 9000 bytes is read when memory serves its three growths, and else a
-/// reader of bits fails.
+/// Returns true if a vector of 9000 bytes is read if memory serves its three growths, and a reader of
+/// bits fails otherwise.
 fn bits_grow<R: BitRead>(alloc: Global, served: u32, reader: &mut R) -> bool {
     let answer = reader.read_to_vec(RefuseMemory::new(alloc, served), 9000);
     let failed = failed(reader.read_bit());
@@ -106,7 +104,7 @@ fn bits_grow<R: BitRead>(alloc: Global, served: u32, reader: &mut R) -> bool {
     }
 }
 
-/// Returns true if a reader of bytes reads one in the same way, and continues in either case.
+/// Returns true if a reader of bytes reads such a vector in the same way, and can continue in either case.
 fn bytes_grow<R: ByteRead>(alloc: Global, served: u32, reader: &mut R) -> bool {
     let answer = reader.read_to_vec(RefuseMemory::new(alloc, served), 9000);
     let goes_on = gives(reader.read(), 0xa5_u8);

@@ -1,5 +1,5 @@
-//! Words of each width and type after each length of a queue, against the same words a bit at a
-//! time.
+//! Words of each width and type, after each number of queued bits. They are compared with the same
+//! words written and read bit by bit.
 use crate::asserts::{gives, same};
 use bitstream_io::{
     BE, BitRead, BitReadExt, BitReader, BitWrite, BitWriteExt, BitWriter, Endianness, Integer, LE,
@@ -7,26 +7,25 @@ use bitstream_io::{
 };
 use std::alloc::Global;
 
-/// The number whose lowest digits the words have, each of them turned once.
+/// The number whose lowest bits are the words. Each word has one of its bits flipped.
 const NUMBER: u128 = 0xd1b5_4a32_d192_ed03_9e37_79b9_7f4a_7c15;
 
-/// The number whose lowest digits come before each word.
+/// The number whose lowest bits come before each word.
 const FRONT: u8 = 0x5b;
 
-/// The layout of words in their bytes: each after the digits before it, with zeros after it up to
-/// the next byte.
+/// The layout of words in their bytes: bits before each word, the word, and zeros up to the next byte.
 #[derive(Clone, Copy, Drop)]
 struct Shape {
-    /// True if the highest digit of a word comes first.
+    /// True if the highest bit of a word comes first.
     high_first: bool,
-    /// The number of digits before it.
+    /// The number of bits before it.
     queued: u32,
     /// The number of bits of the word.
     width: u32,
 }
 
 impl Shape {
-    /// Returns the lowest digits of a number.
+    /// Returns the lowest bits of a number.
     fn lowest(number: u128, digits: u32) -> u128 {
         number
             & u128::MAX
@@ -34,17 +33,17 @@ impl Shape {
                 .unwrap_or(0)
     }
 
-    /// Returns the digits before the word.
+    /// Returns the bits before the word.
     fn prefix(self) -> u128 {
         Shape::lowest(u128::from(FRONT), self.queued)
     }
 
-    /// Returns the word with one of its digits turned, where it has the digit.
+    /// Returns the word with this bit flipped, if it has the bit.
     fn turned(self, digit: u32) -> u128 {
         Shape::lowest(NUMBER ^ 1u128.checked_shl(digit).unwrap_or(0), self.width)
     }
 
-    /// Returns that word with its highest digit, a sign, in each place above it too.
+    /// Returns that word, sign-extended from its highest bit.
     fn extended(self, digit: u32) -> u128 {
         let word = self.turned(digit);
         if word > Shape::lowest(u128::MAX, self.width.saturating_sub(1)) {
@@ -63,7 +62,7 @@ impl Shape {
         }
     }
 
-    /// Returns whether a type has values of the width.
+    /// Returns true if a type has values of the width.
     fn fits<N: Numeric>(self) -> bool {
         let least = if has_sign::<N>() { 1 } else { 0 };
         least <= self.width && self.width <= N::BITS_SIZE
@@ -80,12 +79,12 @@ impl Shape {
     }
 }
 
-/// Returns whether a type has numbers below 0.
+/// Returns true if a type has numbers below 0.
 fn has_sign<N: Numeric>() -> bool {
     !N::ZERO < N::ZERO
 }
 
-/// Returns the value that has the lowest digits of a number.
+/// Returns the value that has the lowest bits of a number.
 fn number<N: Numeric>(digits: u128) -> N {
     let mut buffer = N::buffer();
     let bytes = N::as_bytes_mut(&mut buffer);
@@ -110,7 +109,7 @@ fn write_words<N: Numeric + Integer, W: BitWrite>(writer: &mut W, shape: Shape) 
     written
 }
 
-/// Writes the lowest digits of a number, each by one call.
+/// Writes the lowest bits of a number, each by one call.
 fn write_bits<W: BitWrite>(writer: &mut W, shape: Shape, number: u128, bits: u32) -> bool {
     let mut written = true;
     for at in 0..bits {
@@ -119,7 +118,7 @@ fn write_bits<W: BitWrite>(writer: &mut W, shape: Shape, number: u128, bits: u32
     written
 }
 
-/// Writes the words of a shape a bit at a time.
+/// Writes the words of a shape bit by bit.
 fn write_singly<W: BitWrite>(writer: &mut W, shape: Shape) -> bool {
     let mut written = true;
     for digit in 0..shape.width.saturating_add(1) {
@@ -139,7 +138,7 @@ fn has_bits<R: BitRead>(reader: &mut R, shape: Shape, number: u128, bits: u32) -
     same
 }
 
-/// Reads the words of a shape a bit at a time, and returns true if they are the words written.
+/// Reads the words of a shape bit by bit, and returns true if they are the words written.
 fn reads_singly<R: BitRead>(reader: &mut R, shape: Shape) -> bool {
     let mut same = true;
     for digit in 0..shape.width.saturating_add(1) {
@@ -178,8 +177,8 @@ fn agrees<E: Endianness + Drop, N: Numeric + Integer>(
     written & reads_words::<N, _>(&mut reader, shape) & (writer.into_writer().as_slice() == singly)
 }
 
-/// Returns true if the words of a shape are, a bit at a time, the same bytes and the same numbers:
-/// the bits that are read, and the values of each type.
+/// Returns true if the words of a shape, written bit by bit, are read back bit by bit, and if the calls for each
+/// type write the same bytes and read the same numbers.
 fn each_agrees<E: Endianness + Drop>(alloc: Global, shape: Shape) -> bool {
     let mut writer = BitWriter::<_, E>::new(Vec::new(alloc));
     let written = write_singly(&mut writer, shape);

@@ -1,4 +1,4 @@
-//! A header that is appended to a sink, and its length.
+//! A header that is appended to a sink, with its length.
 ghost use Rattle.std.specs.Prelude.{◌≡◌, ◌⊎◌, ◌+◌, ◌%◌, Ok, Err, IfErr, IfOk};
 ghost use Rattle.bitstream_io.specs.Callers.{WritesAll};
 ghost use Rattle.bitstream_callers.specs.BlockHeader.{block_header_writes};
@@ -6,13 +6,13 @@ ghost use Rattle.bitstream_callers.specs.BlockHeader.{block_header_writes};
 use crate::block_header::BlockHeader;
 use bitstream_io::{BitWrite, BitWriteExt, Error, ToBitStream};
 
-/// Writes a header, and returns its number of bits: exactly the bits written, if the sink was at
-/// the end of a byte.
+/// Writes a header, and returns its number of bits. This is the number of bits written if the sink was
+/// at the end of a byte.
 ///
 /// # Errors
 ///
-/// `Checked` for a field that does not fit its bits. Nothing is written then. Else the errors of
-/// the sink: the fields before the refused one stay written.
+/// `Checked` for a field that does not fit its bits. Nothing is written then. Otherwise the errors of
+/// the sink: the fields before the error stay written.
 pub fn append<W: BitWrite>(writer: &mut W, header: &BlockHeader) -> Result<u32, Error>
     // If it succeeds, only the header's words were written.
     ensures writes { IfOk result (λ bits. WritesAll W.sink

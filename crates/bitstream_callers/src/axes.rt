@@ -1,4 +1,4 @@
-//! Numbers of a known length: one test of the bits left shows that they are there.
+//! Numbers of a known length: one check of the bits left shows that they are there.
 ghost use Rattle.std.specs.Prelude.{◌≡◌, ◌≤◌, false, length, IfSome, IsOk};
 ghost use Rattle.bitstream_io.specs.Callers.{Reads, High, bits_left, memory_source};
 ghost use Rattle.bitstream_callers.specs.Axes.{axes_decoder};
@@ -8,15 +8,15 @@ use bitstream_io::{BE, BitRead, Error, SliceReader};
 /// The measurement of an accelerometer: three numbers of 12 bits.
 #[derive(Clone, Copy, Debug, PartialEq)]
 pub struct Axes {
-    /// To the right.
+    /// The acceleration to the right.
     pub x: u16,
-    /// To the front.
+    /// The acceleration to the front.
     pub y: u16,
-    /// Up.
+    /// The acceleration upwards.
     pub z: u16,
 }
 
-/// Reads what an accelerometer measured. Whoever has tested that 36 bits are left gets no error.
+/// Reads the measurement of an accelerometer. A caller that has checked that 36 bits are left gets no error.
 ///
 /// # Errors
 ///

@@ -28,7 +28,7 @@ pub struct BlockHeader {
     pub last: bool,
     /// The kind of the block. Below 2^7.
     pub kind: u8,
-    /// The bytes of the block. Below 2^24.
+    /// The number of bytes of the block. Below 2^24.
     pub size: u32,
 }
 
@@ -40,7 +40,7 @@ impl BlockHeader {
     ///
     /// # Errors
     ///
-    /// The errors of the reader: after each of them it has failed.
+    /// The reader's errors, after which it has failed.
     pub fn read<R: BitRead>(reader: &mut R) -> Result<BlockHeader, Error>
         ensures { Reads R.source (block_header_decoder R.source.order) reader.old result reader.new }
     {
@@ -72,7 +72,7 @@ impl BlockHeader {
     /// # Errors
     ///
     /// `Checked` for a field that does not fit its bits. The fields before it are written then.
-    /// Else the errors of the sink.
+    /// Otherwise the sink's errors.
     pub fn write<W: BitWrite>(&self, writer: &mut W) -> Result<(), Error>
         ensures { WritesAll W.sink (block_header_writes W.sink.order self.now) writer.old result writer.new }
     {
@@ -83,7 +83,7 @@ impl BlockHeader {
     }
 
     /// Writes the fields to the first bytes of a buffer, and returns what was written. The other bytes
-    /// stay as they were. No memory is asked for.
+    /// stay as they were. Does not allocate.
     ///
     /// # Errors
     ///

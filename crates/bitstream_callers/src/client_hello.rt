@@ -49,15 +49,15 @@ use std::marker::Model;
 /// ```
 #[derive(Debug, Drop)]
 pub struct ClientHello {
-    /// The bytes of the message that follow. Below 2^24.
+    /// The number of bytes that follow in the message. Below 2^24.
     pub size: u32,
     /// The version, which is 0x0303 since TLS 1.2.
     pub version: u16,
     /// Random bytes.
     pub random: [u8; 32],
-    /// The session that is to go on. Fewer than 2^8.
+    /// The session to resume. Fewer than 2^8.
     pub session: Vec<u8>,
-    /// The cipher suites, of two bytes each. Fewer than 2^16.
+    /// The bytes of the cipher suites, two for each. Fewer than 2^16.
     pub suites: Vec<u8>,
     /// The compression methods that are offered. Fewer than 2^8.
     pub compressions: Vec<Compression>,
@@ -153,8 +153,8 @@ impl<T: Drop> From<AllocFailed<T>> for ClientHelloError {
     }
 }
 
-/// Reads `count` items of `compressions`. If memory for one is refused, it is the last one read.
-/// A refused one is the last one read, too.
+/// Reads `count` items of `compressions`. It stops after an item whose allocation fails.
+/// It stops after a refused item, too.
 fn read_compressions<R: BitRead>(
     reader: &mut R,
     alloc: Global,
@@ -186,9 +186,10 @@ impl ClientHello {
     ///
     /// # Errors
     ///
-    /// `OtherMessage`, `NoCompression`, after the bits that are refused.
-    /// `Reader(OutOfMemory)` if memory for a list is refused, after the items before.
-    /// Else the errors of the reader: after each of them it has failed.
+    /// `OtherMessage`, `NoCompression`.
+    /// The refused bits are read then.
+    /// `Reader(OutOfMemory)` if the allocation for a list fails, after the items before.
+    /// Otherwise the reader's errors, after which it has failed.
     pub fn read<R: BitRead>(reader: &mut R, alloc: Global) -> Result<ClientHello, ClientHelloError>
         ensures { GrowsOwn R.source becomes_client_hello (client_hello_decoder R.source.order) reader.old result reader.new }
     {
@@ -220,7 +221,7 @@ impl ClientHello {
     /// # Errors
     ///
     /// `OtherMessage`, `NoCompression`, `Reader(EndOfInput)` if the bytes end before the fields do.
-    /// `Reader(OutOfMemory)` if memory for an item of a list is refused.
+    /// `Reader(OutOfMemory)` if the allocation for an item of a list fails.
     pub fn parse(packet: &[u8], alloc: Global) -> Result<ClientHello, ClientHelloError>
         ensures answer { (OwnAnswer becomes_client_hello (λ answer. answer)
             (sure_answer ((client_hello_decoder High).reads 0 (bits High packet.now))) result)
@@ -240,7 +241,7 @@ impl ClientHello {
     /// # Errors
     ///
     /// `Checked` for a field that does not fit its bits. The fields before it are written then.
-    /// Else the errors of the sink.
+    /// Otherwise the sink's errors.
     pub fn write<W: BitWrite>(&self, writer: &mut W) -> Result<(), Error>
         ensures { WritesAll W.sink (client_hello_writes W.sink.order self.now) writer.old result writer.new }
     {
@@ -260,7 +261,7 @@ impl ClientHello {
     }
 
     /// Writes the fields to the first bytes of a buffer, and returns what was written. The other bytes
-    /// stay as they were. No memory is asked for.
+    /// stay as they were. Does not allocate.
     ///
     /// # Errors
     ///

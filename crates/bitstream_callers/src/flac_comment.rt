@@ -1,5 +1,5 @@
-//! The Vorbis comment of a FLAC file again, read from bits, with its texts as strings: as the Rust
-//! crate's own example has it, but for the allocator.
+//! The Vorbis comment of a FLAC file, read from bits, with its texts as strings. It is the example of
+//! the Rust crate, except for the allocator.
 ghost use Rattle.std.specs.Prelude.{true};
 ghost use Rattle.std.specs.String.{string_bytes};
 ghost use Rattle.bitstream_io.specs.Callers.{GrowsOwn, result_map};
@@ -30,11 +30,11 @@ impl Model for VorbisComment {
     ghost view = { λ c. record { vendor = string_bytes c.vendor; comments = map string_bytes c.comment.items } };
 }
 
-/// Reads a text, after its length in four bytes.
+/// Reads a text and the four bytes before it, which state its length in bytes.
 ///
 /// # Errors
 ///
-/// The errors of the reader, or an error for bytes that are not UTF-8. They are read then.
+/// The errors of the reader, or an error for bytes that are not UTF-8. These bytes have been read then.
 fn read_entry<R: BitRead>(reader: &mut R, alloc: Global) -> Result<String, CommentError>
     ensures reads { GrowsOwn R.source becomes_reader (text_reads R.source.order)
         reader.old (result_map string_bytes result) reader.new }

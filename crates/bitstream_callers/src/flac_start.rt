@@ -60,8 +60,9 @@ impl FlacStart {
     ///
     /// # Errors
     ///
-    /// `NoFlac`, after the bits that are refused.
-    /// Else the errors of the reader: after each of them it has failed.
+    /// `NoFlac`.
+    /// The refused bits are read then.
+    /// Otherwise the reader's errors, after which it has failed.
     pub fn read<R: BitRead>(reader: &mut R) -> Result<FlacStart, FlacStartError>
         ensures { ReadsOwn R.source becomes_flac_start (flac_start_decoder R.source.order) reader.old result reader.new }
     {
@@ -97,7 +98,7 @@ impl FlacStart {
     /// # Errors
     ///
     /// `Checked` for a field that does not fit its bits. The fields before it are written then.
-    /// Else the errors of the sink.
+    /// Otherwise the sink's errors.
     pub fn write<W: BitWrite>(&self, writer: &mut W) -> Result<(), Error>
         ensures { WritesAll W.sink (flac_start_writes W.sink.order self.now) writer.old result writer.new }
     {
@@ -107,7 +108,7 @@ impl FlacStart {
     }
 
     /// Writes the fields to the first bytes of a buffer, and returns what was written. The other bytes
-    /// stay as they were. No memory is asked for.
+    /// stay as they were. Does not allocate.
     ///
     /// # Errors
     ///

@@ -18,8 +18,7 @@
 //! - [`samples`]: samples of 12 bits, in a vector
 //! - [`sensor`]: a measurement: a unary number, numbers of variable width, and a prefix code
 //! - [`sps`]: the beginning of a sequence parameter set of H.264, with errors of its own
-//! - [`tcp_options`]: the options of a TCP header, by a parser with its reader and the options that
-//!   it fills
+//! - [`tcp_options`]: the options of a TCP header, by a parser that holds its reader and the options that it fills in
 //! - [`telemetry`]: samples of telemetry in vectors: plain, or in frames that begin with their length
 //! - [`vorbis_comment`]: types that own memory, read from whole bytes: a FLAC file's comment
 #![tactic(auto)]

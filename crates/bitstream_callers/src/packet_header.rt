@@ -7,7 +7,7 @@ use bitstream_io::{ByteRead, ByteWrite, Error, FromByteStream, ToByteStream};
 /// The header before a packet's bytes, after a byte that states version 1.
 #[derive(Clone, Copy, Debug, PartialEq)]
 pub struct PacketHeader {
-    /// The bytes that follow.
+    /// The number of bytes that follow.
     pub length: u16,
 }
 
@@ -16,7 +16,7 @@ pub struct PacketHeader {
 pub enum PacketError {
     /// An error of the reader.
     Stream(Error),
-    /// The packet states another version than 1. The byte that states it is read.
+    /// The packet states a version other than 1. The byte that states it has been read.
     UnsupportedVersion,
 }
 

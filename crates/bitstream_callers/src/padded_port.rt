@@ -7,7 +7,7 @@ use bitstream_io::{
     ToByteStreamUsing, ToByteStreamWith,
 };
 
-/// A port, which is read and written with a number of bytes of padding from its context.
+/// A port. It is read and written with padding: its context is the number of bytes of padding.
 #[derive(Clone, Copy, Debug, PartialEq)]
 pub struct PaddedPort {
     /// The number of the port.

@@ -1,5 +1,5 @@
 //! The picture of a FLAC file, as types that own memory and have reads and writes of their own.
-//! Their calls are made one after the other.
+//! Their reads and writes are called one after the other.
 ghost use Rattle.std.specs.Prelude.{◌≡◌, ◌++◌, true, ℕ, Bool, List, length, Ok};
 ghost use Rattle.bitstream_io.specs.Callers.{same_error, WritesAll, Order, Done, write_sequence};
 ghost use Rattle.bitstream_callers.specs.Picture.{counted_reads, counted_writes, picture_reads, picture_writes, size_reads, size_writes, IsPicture};
@@ -49,7 +49,7 @@ impl FromBitStreamUsing for CountedBytes {
 ///
 /// # Errors
 ///
-/// `Checked` for 2^32 bytes or more. Nothing is written then. Else the errors of the sink.
+/// `Checked` for 2^32 bytes or more. Nothing is written then. Otherwise the errors of the sink.
 pub fn write_counted_bytes<W: BitWrite>(writer: &mut W, bytes: &[u8]) -> Result<(), Error>
     ensures { WritesAll W.sink (counted_writes W.sink.order bytes.now) writer.old result writer.new }
 {
@@ -76,9 +76,9 @@ pub struct PictureSize {
     pub width: u32,
     /// The height in pixels.
     pub height: u32,
-    /// The bits of a pixel.
+    /// The number of bits of a pixel.
     pub depth: u32,
-    /// The number of its colors, or 0 if it has no list of them.
+    /// The number of colors in its palette, or 0 if it has none.
     pub colors: u32,
 }
 
@@ -119,7 +119,7 @@ impl ToBitStream for PictureSize {
 pub struct Picture {
     /// The kind of picture: 3 for a front cover.
     pub kind: u32,
-    /// The name of its format, as `image/png`.
+    /// The name of its format, such as `image/png`.
     pub media: CountedBytes,
     /// A text in UTF-8.
     pub description: CountedBytes,

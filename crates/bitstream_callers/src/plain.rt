@@ -1,11 +1,11 @@
 //! Parsers without contracts: of unary numbers, variable widths, constants, prefix codes and bytes,
-//! with sums on the values read.
+//! with sums of the values read.
 use bitstream_io::huffman::HuffmanTree;
 use bitstream_io::{BE, BitRead, BitReadExt, BitReader, Bits, Error, LE, LittleEndian};
 use std::alloc::Global;
 use std::io::Read;
 
-/// Returns the samples a second of a STREAMINFO block.
+/// Returns the number of samples a second from a STREAMINFO block.
 ///
 /// # Errors
 ///
@@ -47,8 +47,8 @@ pub fn parse_turn(packet: &[u8]) -> Result<Turn, Error> {
     })
 }
 
-/// Returns the width and the height of a picture of WebP's lossless format, in pixels. Its header has a byte of
-/// signature, and then each less 1 in 14 bits, least significant bit first.
+/// Returns the width and the height of a picture in WebP's lossless format, in pixels. Its header has a
+/// signature of one byte, and then each number, less 1, in 14 bits, least significant bit first.
 ///
 /// # Errors
 ///
@@ -61,8 +61,8 @@ pub fn picture_size(header: &[u8]) -> Result<(u16, u16), Error> {
     Ok((width, height))
 }
 
-/// Returns a temperature in tenths of a degree, and how far it is above the one that is set. The first has 12 bits, the
-/// one that is set 8, in whole degrees.
+/// Returns a temperature in tenths of a degree, and its difference from the set temperature. The packet
+/// has the first in 12 bits, and then the set temperature in 8 bits, in whole degrees.
 ///
 /// # Errors
 ///
@@ -87,7 +87,7 @@ pub fn direction(alloc: Global, packet: &[u8]) -> Result<char, Error> {
     BitReader::<_, BE>::new(packet).read_huffman(&code)
 }
 
-/// Returns the data of a chunk. Its length comes first, in 4 bytes, and then its kind in 4 more.
+/// Returns the data of a chunk, after 4 bytes for its length and 4 bytes for its kind.
 ///
 /// # Errors
 ///
@@ -99,7 +99,7 @@ pub fn chunk<I: Read + Drop>(alloc: Global, input: I) -> Result<Vec<u8>, Error> 
     reader.read_to_vec(alloc, length as usize)
 }
 
-/// The reasons that a file is no FLAC file.
+/// The reasons that a file is not a FLAC file.
 #[derive(Debug, Drop)]
 pub enum FlacError {
     /// An error of the reader.

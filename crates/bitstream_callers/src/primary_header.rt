@@ -69,8 +69,9 @@ impl PrimaryHeader {
     ///
     /// # Errors
     ///
-    /// `WrongVersion`, after the bits that are refused.
-    /// Else the errors of the reader: after each of them it has failed.
+    /// `WrongVersion`.
+    /// The refused bits are read then.
+    /// Otherwise the reader's errors, after which it has failed.
     pub fn read<R: BitRead>(reader: &mut R) -> Result<PrimaryHeader, PrimaryHeaderError>
         ensures { ReadsOwn R.source becomes_primary_header (primary_header_decoder R.source.order) reader.old result reader.new }
     {
@@ -120,7 +121,7 @@ impl PrimaryHeader {
     /// # Errors
     ///
     /// `Checked` for a field that does not fit its bits. The fields before it are written then.
-    /// Else the errors of the sink.
+    /// Otherwise the sink's errors.
     pub fn write<W: BitWrite>(&self, writer: &mut W) -> Result<(), Error>
         ensures { WritesAll W.sink (primary_header_writes W.sink.order self.now) writer.old result writer.new }
     {
@@ -135,7 +136,7 @@ impl PrimaryHeader {
     }
 
     /// Writes the fields to the first bytes of a buffer, and returns what was written. The other bytes
-    /// stay as they were. No memory is asked for.
+    /// stay as they were. Does not allocate.
     ///
     /// # Errors
     ///

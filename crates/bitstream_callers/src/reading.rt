@@ -7,19 +7,19 @@ use bitstream_io::{
     ToBitStreamUsing, ToBitStreamWith,
 };
 
-/// The measurement of a sensor. A bit before the value is 1 if there is a value.
+/// The measurement of a sensor. The bit before the value is 1 if there is a value.
 #[derive(Clone, Copy, Debug, PartialEq)]
 pub struct Reading {
     /// The value.
     pub value: u32,
 }
 
-/// The reasons that a reading is not read.
+/// The reasons that a read fails.
 #[derive(Debug, Drop)]
 pub enum ReadingError {
     /// An error of the reader.
     Reader(Error),
-    /// The sensor measured nothing. The bit for that is read.
+    /// The sensor measured nothing. The bit that states this has been read.
     Missing,
 }
 

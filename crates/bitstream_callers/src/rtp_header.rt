@@ -40,7 +40,7 @@ pub struct RtpHeader {
     pub padding: bool,
     /// True if one extension of the header follows.
     pub extension: bool,
-    /// A mark of the profile's own, as the end of a frame.
+    /// A mark that the profile defines, such as the end of a frame.
     pub marker: bool,
     /// The type of the payload. Below 2^7.
     pub payload_type: u8,
@@ -50,7 +50,7 @@ pub struct RtpHeader {
     pub timestamp: u32,
     /// The source that the packet is synchronized to.
     pub ssrc: u32,
-    /// The sources that a mixer made the payload of. Fewer than 2^4.
+    /// The sources from which a mixer made the payload. Fewer than 2^4.
     pub csrc: Vec<u32>,
 }
 
@@ -90,7 +90,7 @@ impl From<Error> for RtpError {
     }
 }
 
-/// Reads `count` items of `csrc`. If memory for one is refused, it is the last one read.
+/// Reads `count` items of `csrc`. It stops after an item whose allocation fails.
 fn read_csrc<R: BitRead>(reader: &mut R, alloc: Global, count: u64) -> Result<Vec<u32>, Error>
     ensures { GrowingOutcome R.source (items_decoder (list_item (unsigned_decoder R.source.order 32 32)) count)
         reader.old (result_map (λ found. found.items) result) reader.new }
@@ -121,9 +121,10 @@ impl RtpHeader {
     ///
     /// # Errors
     ///
-    /// `WrongVersion`, after the bits that are refused.
-    /// `Reader(OutOfMemory)` if memory for a list is refused, after the items before.
-    /// Else the errors of the reader: after each of them it has failed.
+    /// `WrongVersion`.
+    /// The refused bits are read then.
+    /// `Reader(OutOfMemory)` if the allocation for a list fails, after the items before.
+    /// Otherwise the reader's errors, after which it has failed.
     pub fn read<R: BitRead>(reader: &mut R, alloc: Global) -> Result<RtpHeader, RtpError>
         ensures { GrowsOwn R.source becomes_rtp_header (rtp_header_decoder R.source.order) reader.old result reader.new }
     {
@@ -154,7 +155,7 @@ impl RtpHeader {
     /// # Errors
     ///
     /// `WrongVersion`, `Reader(EndOfInput)` if the bytes end before the fields do.
-    /// `Reader(OutOfMemory)` if memory for an item of a list is refused.
+    /// `Reader(OutOfMemory)` if the allocation for an item of a list fails.
     pub fn parse(packet: &[u8], alloc: Global) -> Result<RtpHeader, RtpError>
         ensures answer { (OwnAnswer becomes_rtp_header (λ answer. answer)
             (sure_answer ((rtp_header_decoder High).reads 0 (bits High packet.now))) result)
@@ -174,7 +175,7 @@ impl RtpHeader {
     /// # Errors
     ///
     /// `Checked` for a field that does not fit its bits. The fields before it are written then.
-    /// Else the errors of the sink.
+    /// Otherwise the sink's errors.
     pub fn write<W: BitWrite>(&self, writer: &mut W) -> Result<(), Error>
         ensures { WritesAll W.sink (rtp_header_writes W.sink.order self.now) writer.old result writer.new }
     {
@@ -192,7 +193,7 @@ impl RtpHeader {
     }
 
     /// Writes the fields to the first bytes of a buffer, and returns what was written. The other bytes
-    /// stay as they were. No memory is asked for.
+    /// stay as they were. Does not allocate.
     ///
     /// # Errors
     ///

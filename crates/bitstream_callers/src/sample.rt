@@ -44,7 +44,7 @@ impl Sample {
     ///
     /// # Errors
     ///
-    /// The errors of the reader: after each of them it has failed.
+    /// The reader's errors, after which it has failed.
     pub fn read<R: BitRead>(reader: &mut R) -> Result<Sample, Error>
         ensures { Reads R.source (sample_decoder R.source.order) reader.old result reader.new }
     {
@@ -81,7 +81,7 @@ impl Sample {
     /// # Errors
     ///
     /// `Checked` for a field that does not fit its bits. The fields before it are written then.
-    /// Else the errors of the sink.
+    /// Otherwise the sink's errors.
     pub fn write<W: BitWrite>(&self, writer: &mut W) -> Result<(), Error>
         ensures { WritesAll W.sink (sample_writes W.sink.order self.now) writer.old result writer.new }
     {
@@ -93,7 +93,7 @@ impl Sample {
     }
 
     /// Writes the fields to the first bytes of a buffer, and returns what was written. The other bytes
-    /// stay as they were. No memory is asked for.
+    /// stay as they were. Does not allocate.
     ///
     /// # Errors
     ///

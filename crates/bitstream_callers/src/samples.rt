@@ -11,8 +11,8 @@ use std::alloc::Global;
 ///
 /// # Errors
 ///
-/// The errors of the reader; and `OutOfMemory` if the vector is refused memory. Some of the samples
-/// are read then, and the reader continues.
+/// The errors of the reader, and `OutOfMemory` if an allocation for the vector fails. Some of the
+/// samples have been read then, and the reader can continue.
 pub fn read_samples<R: BitRead>(
     alloc: Global,
     reader: &mut R,
@@ -29,11 +29,11 @@ pub fn read_samples<R: BitRead>(
     Ok(samples)
 }
 
-/// Returns the samples that bytes begin with.
+/// Parses the samples at the start of some bytes.
 ///
 /// # Errors
 ///
-/// `EndOfInput` for too few bytes, and `OutOfMemory`.
+/// `EndOfInput` for too few bytes, or `OutOfMemory`.
 pub fn parse_samples(alloc: Global, bytes: &[u8], count: usize) -> Result<Vec<u16>, Error>
     ensures there { count * 12 ≤ 8 * length bytes.now
         → (result ≡ Err OutOfMemory)
@@ -48,8 +48,7 @@ pub fn parse_samples(alloc: Global, bytes: &[u8], count: usize) -> Result<Vec<u1
 ///
 /// # Errors
 ///
-/// `Checked` for a sample of 2^12 or more. The samples before it are written then. Else the errors
-/// of the sink.
+/// `Checked` for a sample of 2^12 or more. The samples before it are written then. Otherwise the errors of the sink.
 pub fn write_samples<W: BitWrite>(writer: &mut W, samples: &[u16]) -> Result<(), Error>
     ensures { WritesAll W.sink (samples_writes W.sink.order samples.now)
         writer.old result writer.new }

@@ -12,37 +12,37 @@ use std::alloc::{AllocError, Global};
 /// The motion of a wheel.
 #[derive(Clone, Copy, Debug, PartialEq, Eq)]
 pub enum State {
-    /// Not at all.
+    /// It does not turn.
     Idle,
-    /// Forwards.
+    /// It turns forwards.
     Forward,
-    /// Backwards.
+    /// It turns backwards.
     Backward,
-    /// Slower and slower.
+    /// It slows down.
     Braking,
 }
 
-/// A code of the states.
+/// A prefix code of the motions.
 pub type StateCode = HuffmanTree<State, Global>;
 
 /// A measurement at one time.
 #[derive(Clone, Copy, Debug, PartialEq)]
 pub struct Measurement {
-    /// The measurements that were lost before this one.
+    /// The number of measurements lost before this one.
     pub missed: u32,
     /// The distance since the start.
     pub distance: u32,
-    /// The turn since the last measurement, negative if backwards.
+    /// The turn since the last measurement. It is negative if the wheel turned backwards.
     pub turn: i16,
     /// The motion of the wheel.
     pub state: State,
 }
 
-/// Makes the code of the states. The more often a state is met, the shorter is its word.
+/// Makes the code of the motions. The more frequent motions have the shorter code words.
 ///
 /// # Errors
 ///
-/// If memory is refused.
+/// If an allocation fails.
 pub fn state_code(alloc: Global) -> Result<StateCode, AllocError>
     ensures { IfOk result (λ code. tree_of code ≡ state_tree) }
 {
@@ -59,8 +59,8 @@ impl Measurement {
     ///
     /// # Errors
     ///
-    /// The errors of the reader. `VariableWidthOverflow` and `RedundantGroup` for numbers in
-    /// another form.
+    /// The errors of the reader. `VariableWidthOverflow` for a number that is too large for its type,
+    /// and `RedundantGroup` for a number with a redundant group.
     pub fn read<R: BitRead>(code: &StateCode, reader: &mut R) -> Result<Measurement, Error>
         requires { tree_of code.now ≡ state_tree }
         ensures { Reads R.source (measurement_decoder R.source.order) reader.old result reader.new }
@@ -73,11 +73,11 @@ impl Measurement {
         })
     }
 
-    /// Returns the measurement that a packet begins with.
+    /// Parses the measurement at the start of a packet.
     ///
     /// # Errors
     ///
-    /// The errors of `read`: `EndOfInput` is the only one of the stream.
+    /// The errors of `read`. `EndOfInput` is the only error of the stream.
     pub fn parse(code: &StateCode, packet: &[u8]) -> Result<Measurement, Error>
         requires { tree_of code.now ≡ state_tree }
         ensures answer { result

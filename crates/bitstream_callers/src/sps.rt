@@ -5,37 +5,37 @@ ghost use Rattle.bitstream_callers.specs.Sps.{becomes_sps, sps_decoder};
 use bitstream_io::golomb::read_ue;
 use bitstream_io::{BE, BitRead, BitReadExt, BitReader, Bits, Error};
 
-/// The fields of a parameter set on the frames, up to their size.
+/// The fields of a parameter set that describe the frames, up to their size.
 #[derive(Clone, Copy, Debug, PartialEq)]
 pub struct Sps {
     /// The profile.
     pub profile: u8,
-    /// The bits that constrain the stream further, and two that are reserved.
+    /// The bits of further constraints on the stream, and two reserved bits.
     pub constraints: u8,
-    /// Ten times the level.
+    /// The level, times ten.
     pub level: u8,
-    /// The number by which slices name the set.
+    /// The number of the set, by which slices refer to it.
     pub id: u32,
-    /// The bits of a frame's number, less 4.
+    /// The number of bits of a frame number, less 4.
     pub frame_number_bits: u32,
-    /// The frames that are kept for reference.
+    /// The number of frames that are kept for reference.
     pub reference_frames: u32,
-    /// True if frame numbers may be left out.
+    /// True if gaps between frame numbers are allowed.
     pub gaps: bool,
-    /// The macroblocks in a row.
+    /// The number of macroblocks in a row.
     pub width: u32,
-    /// The macroblocks in a column, or pairs of them.
+    /// The number of macroblocks in a column, or of pairs of them.
     pub height: u32,
 }
 
-/// The reasons that a parameter set is not read.
+/// The reasons that a read fails.
 #[derive(Debug, Drop)]
 pub enum SpsError {
     /// An error of the reader.
     Reader(Error),
-    /// The unit is no sequence parameter set. Its first byte is read.
+    /// The unit is not a sequence parameter set. Its first byte has been read.
     OtherUnit,
-    /// The type of the picture order count is not 2, the order of decoding. The type is read.
+    /// The type of the picture order count is not 2, the order of decoding. The type has been read.
     UnsupportedOrder,
 }
 
@@ -83,8 +83,7 @@ impl Sps {
     ///
     /// # Errors
     ///
-    /// `OtherUnit`, `UnsupportedOrder`, and the errors of the reader: `EndOfInput` is the only one
-    /// of the stream.
+    /// `OtherUnit`, `UnsupportedOrder`, and the errors of the reader. `EndOfInput` is the only error of the stream.
     pub fn parse(unit: &[u8]) -> Result<Sps, SpsError>
         ensures { OwnAnswer becomes_sps (λ answer. answer)
             (sure_answer ((sps_decoder High).reads 0 (bits High unit.now))) result }

@@ -1,4 +1,4 @@
-//! The options of a TCP header, by a parser with its reader and the options that it fills.
+//! The options of a TCP header, by a parser that holds its reader and the options that it fills in.
 ghost use Rattle.bitstream_io.specs.Callers.{Reads, High, memory_source};
 ghost use Rattle.bitstream_callers.specs.TcpOptions.{option_decoder};
 
@@ -7,7 +7,7 @@ use bitstream_io::{BE, BitRead, BitReadExt, Bits, Error, SliceReader};
 /// The options that are known here.
 #[derive(Clone, Copy, Debug, PartialEq)]
 pub struct TcpOptions {
-    /// The most bytes of a segment.
+    /// The greatest number of bytes of a segment.
     pub maximum_segment: Option<u16>,
     /// The number of bits by which the window is shifted.
     pub window_scale: Option<u8>,
@@ -15,7 +15,7 @@ pub struct TcpOptions {
     pub selective: bool,
 }
 
-/// Goes from option to option.
+/// A parser that reads one option after the other.
 #[derive(Drop)]
 struct Parser<'a, 'b> {
     reader: SliceReader<'a, BE>,
@@ -23,8 +23,7 @@ struct Parser<'a, 'b> {
 }
 
 impl Parser<'_, '_> {
-    /// Reads an option, and returns true if another one may follow. An option of a length below 2
-    /// is the last.
+    /// Reads an option, and returns true if another one may follow. No option follows one of a length below 2.
     fn next(&mut self) -> Result<bool, Error>
         ensures { Reads (memory_source High) option_decoder self.old.reader result self.new.reader }
     {

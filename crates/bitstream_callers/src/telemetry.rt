@@ -9,7 +9,7 @@ use crate::sample::Sample;
 use bitstream_io::{BE, BitWrite, BitWriteExt, BitWriter, Bits, BitsWritten, Error, Growing, Lent};
 use std::alloc::Global;
 
-/// Returns the byte of a heartbeat: its number, and whether all is well.
+/// Returns the byte of a heartbeat: its number, and a bit that is 1 if all is well.
 ///
 /// # Errors
 ///
@@ -43,7 +43,7 @@ impl Sample {
         Ok(writer.into_writer().into_vec())
     }
 
-    /// Returns the number of bits that a sample takes. Nothing is written for it.
+    /// Returns the number of bits of a sample, without writing it.
     ///
     /// # Errors
     ///
@@ -60,8 +60,7 @@ impl Sample {
         Ok(counter.into_written())
     }
 
-    /// Returns the bytes of a frame: the number of bits that the sample takes, as one byte, and then
-    /// the sample.
+    /// Returns the bytes of a frame: one byte for the number of bits of the sample, and then the sample.
     ///
     /// # Errors
     ///

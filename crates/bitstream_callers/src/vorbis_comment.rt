@@ -1,5 +1,4 @@
-//! The Vorbis comment of a FLAC file, as types that own memory and have reads of their own, of
-//! whole bytes.
+//! The Vorbis comment of a FLAC file, as types that own memory and implement reads of whole bytes.
 ghost use Rattle.std.specs.Prelude.{◌≡◌, ◌++◌, true, ℕ, List, length, Ok};
 ghost use Rattle.bitstream_io.specs.Callers.{OutOfMemory, Done};
 ghost use Rattle.bitstream_callers.specs.VorbisComment.{becomes_reader, comment_bytes, comment_reads, IsComment, text_reads};
@@ -10,12 +9,12 @@ use bitstream_io::{ByteRead, ByteReadExt, Error, FromByteStreamUsing, LE};
 use std::alloc::{AllocFailed, Global};
 use std::marker::Model;
 
-/// The reasons that a comment is not read.
+/// The reasons that a read fails.
 #[derive(Debug, Drop)]
 pub enum CommentError {
-    /// An error of the reader; `OutOfMemory` also if memory for the list of texts is refused.
+    /// An error of the reader, or `OutOfMemory` if an allocation for the list of texts fails.
     Reader(Error),
-    /// The bytes of a text are not UTF-8. They are read.
+    /// The bytes of a text are not UTF-8. These bytes have been read.
     NotText,
 }
 
@@ -35,7 +34,7 @@ impl<T: Drop> From<AllocFailed<T>> for CommentError {
     }
 }
 
-/// A text, after its length in four bytes.
+/// A text. The four bytes before it state its length in bytes.
 #[derive(Drop)]
 pub struct Text {
     /// The text.
@@ -114,8 +113,8 @@ impl FromByteStreamUsing for VorbisComment {
     }
 }
 
-/// A comment whose texts are UTF-8 and whose lengths fit their four bytes is read back from the
-/// bytes that the format has for it. The read takes only these bytes.
+/// A comment whose texts are UTF-8 and whose lengths fit their four bytes is read back from the bytes
+/// that encode it. The read takes only these bytes.
 pub fn comments_round_trip()
     ensures { (comment : Comment) (more : List ℕ) → IsComment comment
         → comment_reads.reads (comment_bytes comment ++ more)

@@ -38,19 +38,18 @@ impl<'a> Frames<'a> {
         }
     }
 
-    /// Returns the bytes of the frames that were not read yet.
+    /// Returns the bytes from the next frame on.
     pub fn rest(&self) -> &'a [u8] {
         self.reader.rest()
     }
 
-    /// Reads a frame, and appends the elements of its header, with a checksum also the places of its raw data
-    /// blocks. Returns its header, or `None` at the end.
+    /// Reads a frame, and appends the elements of its header. If the header has a checksum, these
+    /// include the places of the raw data blocks. Returns the header, or `None` at the end.
     ///
     /// # Errors
     ///
-    /// The errors of [`AdtsError`]: `FrameTooShort` for a frame that is shorter than its header,
-    /// with the checksum and the elements before it. The elements that were read before are
-    /// appended.
+    /// The errors of [`AdtsError`]. The elements read before the error are appended: before
+    /// `FrameTooShort`, they include the checksum.
     pub fn next_frame(
         &mut self,
         elements: &mut Vec<Element>,
@@ -109,8 +108,8 @@ fn header_bytes(header: &AdtsHeader) -> usize
     }
 }
 
-/// Reads the checksum of a header, after the places of all raw data blocks but the first one. There are
-/// `blocks` such blocks.
+/// Reads the checksum of a header, after the places of all raw data blocks but the first. `blocks` is
+/// the number of places.
 fn read_checksum(syntax: &mut Syntax<'_, '_, '_, BE>, blocks: u8) -> Result<(), Error> {
     for at in 0..blocks as u32 {
         syntax.index = Some(Index::One(at.saturating_add(1)));

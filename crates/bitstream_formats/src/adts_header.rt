@@ -36,7 +36,7 @@ pub struct AdtsHeader {
     pub profile: u8,
     /// The index of the sampling frequency. Below 2^4.
     pub frequency: u8,
-    /// A bit of private use.
+    /// A bit for private use.
     pub private: bool,
     /// The channel configuration. Below 2^3.
     pub channels: u8,
@@ -48,11 +48,11 @@ pub struct AdtsHeader {
     pub copyright_id: bool,
     /// True if that number starts here.
     pub copyright_start: bool,
-    /// The bytes of the frame with this header. Below 2^13.
+    /// The number of bytes of the frame, including this header. Below 2^13.
     pub frame_length: u16,
     /// The fullness of the buffer. Below 2^11.
     pub fullness: u16,
-    /// The blocks of the frame but one. Below 2^2.
+    /// The frame's blocks, less 1. Below 2^2.
     pub blocks: u8,
 }
 
@@ -86,8 +86,9 @@ impl AdtsHeader {
     ///
     /// # Errors
     ///
-    /// `NoSync`, `UnknownLayer`, after the bits that are refused.
-    /// Else the errors of the reader: after each of them it has failed.
+    /// `NoSync`, `UnknownLayer`.
+    /// The refused bits are read then.
+    /// Otherwise the reader's errors, after which it has failed.
     pub fn read<R: BitRead>(reader: &mut R) -> Result<AdtsHeader, AdtsHeaderError>
         ensures { ReadsOwn R.source becomes_adts_header (adts_header_decoder R.source.order) reader.old result reader.new }
     {
@@ -154,7 +155,7 @@ impl AdtsHeader {
     /// # Errors
     ///
     /// `Checked` for a field that does not fit its bits. The fields before it are written then.
-    /// Else the errors of the sink.
+    /// Otherwise the sink's errors.
     pub fn write<W: BitWrite>(&self, writer: &mut W) -> Result<(), Error>
         ensures { WritesAll W.sink (adts_header_writes W.sink.order self.now) writer.old result writer.new }
     {
@@ -177,7 +178,7 @@ impl AdtsHeader {
     }
 
     /// Writes the fields to the first bytes of a buffer, and returns what was written. The other bytes
-    /// stay as they were. No memory is asked for.
+    /// stay as they were. Does not allocate.
     ///
     /// # Errors
     ///

@@ -1,6 +1,6 @@
 //! The place of an error.
 
-/// An error, and the bit at which the reader stood, counted from the start of the bytes.
+/// An error, and the place of the reader, counted in bits from the start of the bytes.
 #[derive(Debug, Drop)]
 pub struct At<E> {
     /// The place of the reader, in bits.

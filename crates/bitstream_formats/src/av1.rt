@@ -64,7 +64,7 @@ impl<'a> Obus<'a> {
         }
     }
 
-    /// Returns the OBUs of a frame, of which the last one may have no size: it ends with the frame.
+    /// Returns the OBUs of a frame. The last one may have no size: it ends with the frame.
     pub fn of_frame(bytes: &'a [u8]) -> Obus<'a> {
         Obus {
             reader: SliceReader::over(bytes),
@@ -72,7 +72,7 @@ impl<'a> Obus<'a> {
         }
     }
 
-    /// Returns the bytes of the OBUs that were not read yet.
+    /// Returns the bytes from the next OBU on.
     pub fn rest(&self) -> &'a [u8] {
         self.reader.rest()
     }
@@ -82,9 +82,9 @@ impl<'a> Obus<'a> {
     ///
     /// # Errors
     ///
-    /// The errors of [`Av1Error`]. The elements that were read before are appended. After an error
-    /// in a sequence header the next call reads the next OBU. After an error in the header of an
-    /// OBU no later one is found.
+    /// The errors of [`Av1Error`]. The elements read before the error are appended. After an error in a
+    /// sequence header, the next call reads the next OBU. After an error in the header of an OBU, no
+    /// later OBU is found.
     pub fn next_obu(&mut self, elements: &mut Vec<Element>) -> Result<bool, At<Av1Error>> {
         if self.reader.is_at_end() {
             return Ok(false);
@@ -125,7 +125,7 @@ impl<'a> Obus<'a> {
         }
     }
 
-    /// Returns a reader of the contents of an OBU: of its size, or of all that is left of a frame.
+    /// Returns a reader of the contents of an OBU, which has a size or takes the rest of a frame.
     fn contents(&mut self, size: Option<u32>) -> Result<SliceReader<'a, BE>, Av1Error> {
         let size = match size {
             Some(size) => size as usize,
@@ -156,7 +156,7 @@ fn read_whole_sequence(syntax: &mut Obu<'_, '_, '_>) -> Result<(), Av1Error> {
     Ok(())
 }
 
-/// Reads the header of an OBU. Returns its type, and the number of bytes after it if it has one.
+/// Reads the header of an OBU. Returns its type, and the number of bytes after the header if it states one.
 fn read_header(syntax: &mut Obu<'_, '_, '_>) -> Result<(u32, Option<u32>), Av1Error> {
     if syntax.flag("obu_forbidden_bit")? {
         return Err(Av1Error::Forbidden);

@@ -1,6 +1,6 @@
 //! The CRC-32 of pages of Ogg and of sections of MPEG transport streams.
 
-/// Goes on with a checksum by a byte, by the polynomial 0x04c11db7, from the highest bit on.
+/// Advances a checksum by a byte, with the polynomial 0x04c11db7, highest bit first.
 pub(crate) fn crc_byte(crc: u32, byte: u8) -> u32 {
     let mut crc = crc ^ ((byte as u32) << 24);
     for _ in 0..8 {

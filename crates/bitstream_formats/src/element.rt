@@ -1,10 +1,10 @@
-//! Elements of a format, which are read one by one.
+//! Elements of a format, read one by one.
 ghost use Rattle.std.specs.Prelude.{◌<◌, ◌^◌, IfOk};
 
 use bitstream_io::{BitRead, BitReadExt, Endianness, Error, SliceReader};
 use std::fmt;
 
-/// The indexes of an element of a list, or of a list of lists. They are displayed in brackets.
+/// The indexes of an element of a list or of nested lists. They are displayed in brackets.
 #[derive(Clone, Copy, Debug, PartialEq)]
 pub enum Index {
     /// The index in a list.
@@ -30,11 +30,11 @@ impl fmt::Display for Index {
 pub struct Element {
     /// The place of its first bit.
     pub place: u64,
-    /// The name in the format's document.
+    /// The name in the format's specification.
     pub name: &'static str,
     /// The indexes among elements of the same name.
     pub index: Option<Index>,
-    /// The value. For an unsigned number of 64 bits, the signed number with the same bits.
+    /// The value. An unsigned number of 64 bits is stored as the signed number with the same bits.
     pub value: i64,
 }
 
@@ -95,7 +95,7 @@ impl<E: Endianness> Syntax<'_, '_, '_, E> {
         Ok(value)
     }
 
-    /// Reads a number of up to 64 bits, and notes nothing.
+    /// Reads a number of up to 64 bits without noting an element.
     pub(crate) fn bits(&mut self, bits: u32) -> Result<u64, Error>
         ensures { IfOk result (λ value. value < 2 ^ bits) }
     {

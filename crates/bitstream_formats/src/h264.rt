@@ -1,6 +1,6 @@
-//! H.264 (ITU-T H.264, ISO/IEC 14496-10): the units of a byte stream, and the elements of its
-//! sequence and picture parameter sets and of the headers of slices. [`Stream`] reads a whole
-//! stream, and continues after a unit that it refuses.
+//! H.264 (ITU-T H.264, ISO/IEC 14496-10): the units of a byte stream, and the elements of its sequence
+//! and picture parameter sets and of its slice headers. [`Stream`] reads a whole stream, and continues
+//! after a refused unit.
 
 ghost use Rattle.std.specs.Prelude.{◌≡◌, IsErr};
 
@@ -94,7 +94,7 @@ pub enum Unit {
     Sequence,
     /// A picture parameter set.
     Picture,
-    /// A slice, of which the header is read.
+    /// A slice, of which only the header is read.
     Slice,
     /// Supplemental enhancement information: the types and the sizes of its messages are read.
     Supplement,
@@ -104,21 +104,22 @@ pub enum Unit {
     Other,
 }
 
-/// Reads a unit without its start code, and appends the elements of its header and of what [`Unit`]
-/// names. Their places are counted in bits of the unit without its bytes against emulation, as the
-/// standard counts them.
+/// Reads a unit without its start code, and appends the elements of its header and of the contents that
+/// [`Unit`] names. Their places are counted in bits of the unit without its emulation prevention bytes,
+/// as the standard counts them.
 ///
-/// A parameter set that was read whole is kept in `sets`, and replaces the one of its number. A
-/// picture parameter set and a slice are read with the sets of `sets` that they name. The header of a
-/// slice is read in units of type 1 and 5. Slices of other layers and auxiliary ones count as other units.
+/// Stores a parameter set in `sets` once all of it is read, in place of an earlier set with the same
+/// number. Uses `sets` to read a picture parameter set or a slice, which name the sets that they need.
+/// Reads the header of a slice in units of type 1 and 5. Slices of other layers and auxiliary slices
+/// count as other units.
 ///
-/// The end of a unit is checked: the stop bit is 1 and the bits after it are 0. The data of slices and what the
-/// other units hold are not read, so their last 1 counts as the stop bit. It must come after the header.
+/// Checks the end of the unit: the stop bit is 1 and the bits after it are 0. The data of slices and
+/// the contents of other units are not read, so the last 1 of such a unit counts as its stop bit. It
+/// must come after the header.
 ///
 /// # Errors
 ///
-/// The errors of [`H264Error`]: `sets` are unchanged, and the elements that were read before are
-/// appended.
+/// The errors of [`H264Error`]. `sets` is unchanged then, and the elements read before the error are appended.
 pub fn read_unit(
     alloc: Global,
     sets: &mut ParameterSets,
@@ -151,7 +152,7 @@ pub fn read_unit(
     }
 }
 
-/// Reads the header of a unit, and what is read after it. The last 1 of the unit is at `last`.
+/// Reads the header of a unit, and the part of its contents that is read. The last 1 of the unit is at `last`.
 fn read_set(
     syntax: &mut Syntax<'_, '_, '_, BE>,
     sets: &mut ParameterSets,
@@ -183,7 +184,7 @@ fn read_set(
     }
 }
 
-/// Reads what is read of a unit with no parameter set. If its contents end in trailing bits, a 1
+/// Reads the known part of a unit without a parameter set. If its contents end in trailing bits, a 1
 /// follows the header: the last 1 of the unit, at `last`, is the stop bit, and zeros follow it.
 fn read_other(
     syntax: &mut Syntax<'_, '_, '_, BE>,

@@ -1,6 +1,6 @@
 //! H.265 (ITU-T H.265, ISO/IEC 23008-2): the units of a byte stream, and the elements of its video,
-//! sequence and picture parameter sets. [`Stream`] reads a whole stream, and continues after a unit
-//! that it refuses.
+//! sequence and picture parameter sets. [`Stream`] reads a whole stream, and continues after a refused
+//! unit.
 
 ghost use Rattle.std.specs.Prelude.{◌≡◌, IsErr};
 
@@ -123,19 +123,20 @@ pub enum Unit {
 /// A reader of the bits of a unit, with the elements read.
 type Nal<'r, 'a, 'b> = Syntax<'r, 'a, 'b, BE>;
 
-/// Reads a unit without its start code, and appends the elements of its header and of a parameter set. Their
-/// places are counted in bits of the unit without its bytes against emulation, as the standard counts them.
+/// Reads a unit without its start code, and appends the elements of its header and of a parameter set.
+/// Their places are counted in bits of the unit without its emulation prevention bytes, as the standard
+/// counts them.
 ///
-/// A video parameter set that was read whole is kept in `sets`, and replaces the one of its number.
-/// A sequence parameter set of another layer may get its number of sub-layers from it.
+/// Stores a video parameter set in `sets` once all of it is read, in place of an earlier set with the
+/// same number. A sequence parameter set of another layer may take its number of sub-layers from there.
 ///
-/// The end of a unit is checked: the stop bit is 1 and the bits after it are 0. What the other units hold is
-/// not read, so their last 1 counts as the stop bit. It must come after the header.
+/// Checks the end of the unit: the stop bit is 1 and the bits after it are 0. The contents of other
+/// units are not read, so the last 1 of such a unit counts as its stop bit. It must come after the
+/// header.
 ///
 /// # Errors
 ///
-/// The errors of [`H265Error`]: `sets` are unchanged, and the elements that were read before are
-/// appended.
+/// The errors of [`H265Error`]. `sets` is unchanged then, and the elements read before the error are appended.
 pub fn read_unit(
     alloc: Global,
     sets: &mut ParameterSets,
@@ -209,9 +210,9 @@ fn read_set(
     }
 }
 
-/// Checks the end of a unit of a type with only its header read. If its contents end in trailing
-/// bits, a 1 follows the header: the last 1 of the unit, at `last`, is the stop bit, and zeros
-/// follow it.
+/// Checks the end of a unit of which only the header is read. If contents of its type end in trailing
+/// bits, a 1 follows the header: the last 1 of the unit, at `last`, is the stop bit, and zeros follow
+/// it.
 fn check_end(syntax: &mut Nal<'_, '_, '_>, kind: u32, last: u64) -> Result<(), UnitError> {
     match kind {
         35 => check_delimiter(syntax, last),

@@ -1,9 +1,9 @@
 //! Formats of audio, video, transport and compression, read over `bitstream_io`: from bytes in memory, and
 //! by `deflate` from any reader.
 //!
-//! An error in some bytes is an error of the format's own, with the bit at which the reader was
-//! ([`at::At`]). There is no condition on the bytes, and a length or a count in them takes no
-//! memory that they do not fill.
+//! If the bytes are faulty, a function returns an error of the format's own, with the bit at which the
+//! reader was ([`at::At`]). Any bytes are accepted as input. A length or a count in them allocates no
+//! memory beyond what the bytes that are there fill.
 //!
 //! [`flac`] and [`deflate`] decode. The others read headers, element by element ([`element::Element`]).
 //!
@@ -12,7 +12,7 @@
 //! - [`at`]: the places of errors
 //! - [`av1`]: AV1: the headers of OBUs, and sequence headers
 //! - [`deflate`]: DEFLATE, and the files of gzip
-//! - [`element`]: elements of a format, which are read one by one
+//! - [`element`]: elements of a format, read one by one
 //! - [`flac`]: FLAC: the metadata of a file, and its samples
 //! - [`h264`]: H.264: the units of a byte stream, and its parameter sets
 //! - [`h265`]: H.265: the units of a byte stream, and its parameter sets

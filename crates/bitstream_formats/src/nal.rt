@@ -1,5 +1,5 @@
-//! NAL units, the parts of a stream of H.264 or H.265: how a byte stream separates them, the bytes
-//! against the emulation of a start code, and the elements that both formats share.
+//! NAL units, the parts of a stream of H.264 or H.265: their separation in a byte stream, emulation
+//! prevention bytes, and the elements that both formats share.
 
 use bitstream_io::Error;
 

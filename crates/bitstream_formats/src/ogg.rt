@@ -29,7 +29,7 @@ impl From<Error> for OggError {
     }
 }
 
-/// Returns the checksum of a page, whose own four bytes, 22 to 25, count as zeros.
+/// Returns the checksum of a page. The page's own checksum, in bytes 22 to 25, counts as zeros.
 pub fn page_checksum(page: &[u8]) -> u32 {
     let mut crc = 0;
     for (at, byte) in page.iter().enumerate() {
@@ -52,18 +52,18 @@ impl<'a> Pages<'a> {
         }
     }
 
-    /// Returns the bytes of the pages that were not read yet.
+    /// Returns the bytes from the next page on.
     pub fn rest(&self) -> &'a [u8] {
         self.reader.rest()
     }
 
-    /// Reads a page, and appends the elements of its header, the length of each packet that ends in
-    /// it, and the first byte of each packet that begins in it as Opus has it. Returns true if
-    /// there was a page.
+    /// Reads a page, and appends the elements of its header, the length of each packet that ends in it,
+    /// and the first byte of each packet that begins in it, read as in Opus. Returns true if there was
+    /// a page.
     ///
     /// # Errors
     ///
-    /// The errors of [`OggError`]. The elements that were read before are appended.
+    /// The errors of [`OggError`]. The elements read before the error are appended.
     pub fn next_page(&mut self, elements: &mut Vec<Element>) -> Result<bool, At<OggError>> {
         if self.reader.is_at_end() {
             return Ok(false);
@@ -112,7 +112,7 @@ fn read_page(
     Ok(())
 }
 
-/// Reads the packets of a page. `goes_on` is true if the first one began in a page before.
+/// Reads the packets of a page. `goes_on` is true if the first one began in an earlier page.
 fn read_packets(
     syntax: &mut Syntax<'_, '_, '_, LE>,
     laces: &[u8],
@@ -137,7 +137,7 @@ fn read_packets(
     Ok(())
 }
 
-/// Notes the first byte of a packet, as Opus has it; nothing of a packet with no byte.
+/// Notes the first byte of a packet, read as in Opus. Notes nothing if the packet has no byte.
 fn note_opus(
     syntax: &mut Syntax<'_, '_, '_, LE>,
     packet: &[u8],

@@ -30,7 +30,7 @@ pub enum TsError {
     /// The checksum of a section differs from its bytes.
     #[error("the checksum of the section is wrong")]
     SectionChecksum,
-    /// A descriptor goes on after the end of its list.
+    /// A descriptor continues after the end of its list.
     #[error("a descriptor goes on after the end of its list")]
     DescriptorTooLong,
     /// A packet before this one is missing, so a section is not whole.
@@ -63,7 +63,7 @@ impl<'a> Packets<'a> {
         }
     }
 
-    /// Returns the bytes of the packets that were not read yet.
+    /// Returns the bytes from the next packet on.
     pub fn rest(&self) -> &'a [u8] {
         self.reader.rest()
     }
@@ -73,7 +73,7 @@ impl<'a> Packets<'a> {
     ///
     /// # Errors
     ///
-    /// The errors of [`TsError`]. The elements that were read before are appended.
+    /// The errors of [`TsError`]. The elements read before the error are appended.
     pub fn next_packet(
         &mut self,
         alloc: Global,
@@ -98,7 +98,7 @@ impl<'a> Packets<'a> {
 
 type Packet<'r, 'a, 'b> = Syntax<'r, 'a, 'b, BE>;
 
-/// The facts of a packet's header on which the reading of its payload depends.
+/// The facts of a packet's header that the read of its payload needs.
 #[derive(Clone, Copy)]
 struct Header {
     id: u32,
@@ -169,7 +169,7 @@ fn read_adaptation(syntax: &mut Packet<'_, '_, '_>) -> Result<(), TsError> {
     Ok(())
 }
 
-/// Reads a clock: 33 bits in units of 300, and 9 bits, of 27 MHz.
+/// Reads a clock of 27 MHz: 33 bits that count units of 300 ticks, and 9 bits that count ticks.
 fn read_clock(field: &mut Packet<'_, '_, '_>, name: &'static str) -> Result<(), TsError> {
     let place = field.place();
     let base = field.bits(33)?;
@@ -184,7 +184,7 @@ fn is_bare(id: u32) -> bool {
     matches!(id, 0xbc | 0xbe | 0xbf | 0xf0 | 0xf1 | 0xf2 | 0xf8 | 0xff)
 }
 
-/// Reads the header of a PES packet, if one begins here and not a section of a table.
+/// Reads the header of a PES packet if a PES packet begins here, and not a section of a table.
 fn read_pes(syntax: &mut Packet<'_, '_, '_>) -> Result<(), TsError> {
     if !syntax.reader.rest().starts_with([0, 0, 1].as_slice()) {
         return Ok(());

@@ -147,7 +147,7 @@ impl What {
     ///
     /// `NoWhat` if no case has the number: nothing is read then.
     /// `InMark` if a `Mark` is refused.
-    /// Else the errors of the reader: after each of them it has failed.
+    /// Otherwise the reader's errors, after which it has failed.
     pub fn read<R: BitRead>(reader: &mut R, number: u8) -> Result<What, EventError>
         ensures { ReadsOwn R.source becomes_event (what_read R.source.order number) reader.old result reader.new }
     {
@@ -168,7 +168,7 @@ impl What {
     /// # Errors
     ///
     /// `Checked` for a field that does not fit its bits. The fields before it are written then.
-    /// Else the errors of the sink.
+    /// Otherwise the sink's errors.
     pub fn write<W: BitWrite>(&self, writer: &mut W) -> Result<(), Error>
         ensures { WritesAll W.sink (what_writes W.sink.order self.now) writer.old result writer.new }
     {
@@ -188,8 +188,9 @@ impl Event {
     ///
     /// # Errors
     ///
-    /// `NoKind`, `NoWhat`, `InMark`, after the bits that are refused.
-    /// Else the errors of the reader: after each of them it has failed.
+    /// `NoKind`, `NoWhat`, `InMark`.
+    /// The refused bits are read then.
+    /// Otherwise the reader's errors, after which it has failed.
     pub fn read<R: BitRead>(reader: &mut R) -> Result<Event, EventError>
         ensures { ReadsOwn R.source becomes_event (event_decoder R.source.order) reader.old result reader.new }
     {
@@ -218,7 +219,7 @@ impl Event {
     /// # Errors
     ///
     /// `Checked` for a field that does not fit its bits. The fields before it are written then.
-    /// Else the errors of the sink.
+    /// Otherwise the sink's errors.
     pub fn write<W: BitWrite>(&self, writer: &mut W) -> Result<(), Error>
         ensures { WritesAll W.sink (event_writes W.sink.order self.now) writer.old result writer.new }
     {
@@ -228,7 +229,7 @@ impl Event {
     }
 
     /// Writes the fields to the first bytes of a buffer, and returns what was written. The other bytes
-    /// stay as they were. No memory is asked for.
+    /// stay as they were. Does not allocate.
     ///
     /// # Errors
     ///

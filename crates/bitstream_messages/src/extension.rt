@@ -66,7 +66,7 @@ impl From<Error> for ExtensionError {
     }
 }
 
-/// A number that is that of no other case of `Body`, and the bytes after it.
+/// A number that no other case of `Body` has, and the bytes after it.
 #[derive(Debug, Drop)]
 pub struct OtherBody {
     /// The number.
@@ -137,7 +137,7 @@ impl Body {
     ///
     /// # Errors
     ///
-    /// The errors of the reader: after each of them it has failed.
+    /// The reader's errors, after which it has failed.
     pub fn read<R: BitRead>(
         reader: &mut R,
         alloc: Global,
@@ -160,7 +160,7 @@ impl Body {
     /// # Errors
     ///
     /// `Checked` for a field that does not fit its bits. The fields before it are written then.
-    /// Else the errors of the sink.
+    /// Otherwise the sink's errors.
     pub fn write<W: BitWrite>(&self, writer: &mut W) -> Result<(), Error>
         ensures { WritesAll W.sink (body_writes W.sink.order self.now) writer.old result writer.new }
     {
@@ -184,7 +184,7 @@ impl ToBitStream for Body {
     }
 }
 
-/// Returns an error inside the bytes of `body`: at their end it is `OtherSize`.
+/// Maps an error inside the bytes of `body`: an error at their end is `OtherSize`.
 fn body_ended(error: ExtensionError) -> ExtensionError
     ensures { result ≡ body_ended error }
 {
@@ -203,7 +203,7 @@ fn body_ended(error: ExtensionError) -> ExtensionError
 ///
 /// # Errors
 ///
-/// `OtherSize` if it does not fill them. Else its errors.
+/// `OtherSize` if it does not fill them. Otherwise its errors.
 fn body_in(bytes: &[u8], alloc: Global, number: u16, size: u64) -> Result<Body, ExtensionError>
     ensures { UnlessMemory (λ error. Reader error)
         (within (body_read High number size) OtherSize (λ error. Reader error) body_ended (bits High bytes.now)) result }
@@ -220,7 +220,7 @@ fn body_in(bytes: &[u8], alloc: Global, number: u16, size: u64) -> Result<Body, 
     }
 }
 
-/// Reads `body`, which has so many bytes. No bit after them is read.
+/// Reads `body`, which has `size` bytes. No bit after them is read.
 fn read_body<R: BitRead>(
     reader: &mut R,
     alloc: Global,
@@ -243,9 +243,10 @@ impl Extension {
     ///
     /// # Errors
     ///
-    /// `OtherSize`, after the bits that are refused.
-    /// `Reader(OutOfMemory)` if memory for a list is refused, after the items before.
-    /// Else the errors of the reader: after each of them it has failed.
+    /// `OtherSize`.
+    /// The refused bits are read then.
+    /// `Reader(OutOfMemory)` if the allocation for a list fails, after the items before.
+    /// Otherwise the reader's errors, after which it has failed.
     pub fn read<R: BitRead>(reader: &mut R, alloc: Global) -> Result<Extension, ExtensionError>
         requires { R.source.order ≡ High }
         ensures { GrowsOwn R.source becomes_extension (extension_decoder R.source.order) reader.old result reader.new }
@@ -261,7 +262,7 @@ impl Extension {
     /// # Errors
     ///
     /// `OtherSize`, `Reader(EndOfInput)` if the bytes end before the fields do.
-    /// `Reader(OutOfMemory)` if memory for an item of a list is refused.
+    /// `Reader(OutOfMemory)` if the allocation for an item of a list fails.
     pub fn parse(packet: &[u8], alloc: Global) -> Result<Extension, ExtensionError>
         ensures answer { (OwnAnswer becomes_extension (λ answer. answer)
             (sure_answer ((extension_decoder High).reads 0 (bits High packet.now))) result)
@@ -281,7 +282,7 @@ impl Extension {
     /// # Errors
     ///
     /// `Checked` for a field that does not fit its bits. The fields before it are written then.
-    /// Else the errors of the sink.
+    /// Otherwise the sink's errors.
     pub fn write<W: BitWrite>(&self, writer: &mut W) -> Result<(), Error>
         ensures { WritesAll W.sink (extension_writes W.sink.order self.now) writer.old result writer.new }
     {
@@ -292,7 +293,7 @@ impl Extension {
     }
 
     /// Writes the fields to the first bytes of a buffer, and returns what was written. The other bytes
-    /// stay as they were. No memory is asked for.
+    /// stay as they were. Does not allocate.
     ///
     /// # Errors
     ///

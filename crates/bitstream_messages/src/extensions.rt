@@ -117,7 +117,7 @@ fn count_items(items: &[Extension]) -> Result<u64, Error>
     Ok(counter.into_written())
 }
 
-/// Returns an error inside the bytes of `items`: at their end it is `Overlong`.
+/// Maps an error inside the bytes of `items`: an error at their end is `Overlong`.
 fn items_ended(error: ExtensionsError) -> ExtensionsError
     ensures { result ≡ items_ended error }
 {
@@ -137,7 +137,7 @@ fn items_ended(error: ExtensionsError) -> ExtensionsError
 ///
 /// # Errors
 ///
-/// `Overlong` if they do not fill them. Else the error of an item.
+/// `Overlong` if they do not fill them. Otherwise the error of an item.
 fn items_in(bytes: &[u8], alloc: Global, size: u64) -> Result<Vec<Extension>, ExtensionsError>
     ensures { UnlessMemory (λ error. Reader error)
         (items_from (extension_here High) Overlong (λ error. Reader error) items_ended 0 (bits High bytes.now) size)
@@ -160,7 +160,7 @@ fn items_in(bytes: &[u8], alloc: Global, size: u64) -> Result<Vec<Extension>, Ex
     Err(ExtensionsError::Overlong)
 }
 
-/// Reads `items`, which has so many bytes. No bit after them is read.
+/// Reads `items`, which has `size` bytes. No bit after them is read.
 fn read_items<R: BitRead>(
     reader: &mut R,
     alloc: Global,
@@ -182,9 +182,10 @@ impl Extensions {
     ///
     /// # Errors
     ///
-    /// `Overlong`, `InExtension`, after the bits that are refused.
-    /// `Reader(OutOfMemory)` if memory for a list is refused, after the items before.
-    /// Else the errors of the reader: after each of them it has failed.
+    /// `Overlong`, `InExtension`.
+    /// The refused bits are read then.
+    /// `Reader(OutOfMemory)` if the allocation for a list fails, after the items before.
+    /// Otherwise the reader's errors, after which it has failed.
     pub fn read<R: BitRead>(reader: &mut R, alloc: Global) -> Result<Extensions, ExtensionsError>
         requires { R.source.order ≡ High }
         ensures { GrowsOwn R.source becomes_extensions (extensions_decoder R.source.order) reader.old result reader.new }
@@ -199,7 +200,7 @@ impl Extensions {
     /// # Errors
     ///
     /// `Overlong`, `InExtension`, `Reader(EndOfInput)` if the bytes end before the fields do.
-    /// `Reader(OutOfMemory)` if memory for an item of a list is refused.
+    /// `Reader(OutOfMemory)` if the allocation for an item of a list fails.
     pub fn parse(packet: &[u8], alloc: Global) -> Result<Extensions, ExtensionsError>
         ensures answer { (OwnAnswer becomes_extensions (λ answer. answer)
             (sure_answer ((extensions_decoder High).reads 0 (bits High packet.now))) result)
@@ -219,7 +220,7 @@ impl Extensions {
     /// # Errors
     ///
     /// `Checked` for a field that does not fit its bits. The fields before it are written then.
-    /// Else the errors of the sink.
+    /// Otherwise the sink's errors.
     pub fn write<W: BitWrite>(&self, writer: &mut W) -> Result<(), Error>
         ensures { WritesAll W.sink (extensions_writes W.sink.order self.now) writer.old result writer.new }
     {
@@ -229,7 +230,7 @@ impl Extensions {
     }
 
     /// Writes the fields to the first bytes of a buffer, and returns what was written. The other bytes
-    /// stay as they were. No memory is asked for.
+    /// stay as they were. Does not allocate.
     ///
     /// # Errors
     ///

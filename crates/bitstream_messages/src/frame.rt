@@ -110,7 +110,7 @@ impl Content {
     /// # Errors
     ///
     /// `NoContent` if no case has the number: nothing is read then.
-    /// Else the errors of the reader: after each of them it has failed.
+    /// Otherwise the reader's errors, after which it has failed.
     pub fn read<R: BitRead>(
         reader: &mut R,
         alloc: Global,
@@ -135,7 +135,7 @@ impl Content {
     /// # Errors
     ///
     /// `Checked` for a field that does not fit its bits. The fields before it are written then.
-    /// Else the errors of the sink.
+    /// Otherwise the sink's errors.
     pub fn write<W: BitWrite>(&self, writer: &mut W) -> Result<(), Error>
         ensures { WritesAll W.sink (content_writes W.sink.order self.now) writer.old result writer.new }
     {
@@ -159,7 +159,7 @@ impl ToBitStream for Content {
     }
 }
 
-/// Returns an error inside the bytes of `body`: at their end it is `OtherBody`.
+/// Maps an error inside the bytes of `body`: an error at their end is `OtherBody`.
 fn body_ended(error: FrameError) -> FrameError
     ensures { result ≡ body_ended error }
 {
@@ -181,7 +181,7 @@ fn body_ended(error: FrameError) -> FrameError
 ///
 /// # Errors
 ///
-/// `OtherBody` if it does not fill them. Else its errors.
+/// `OtherBody` if it does not fill them. Otherwise its errors.
 fn body_in(bytes: &[u8], alloc: Global, number: u8) -> Result<Content, FrameError>
     ensures { UnlessMemory (λ error. Reader error)
         (within (content_read High number) OtherBody (λ error. Reader error) body_ended (bits High bytes.now)) result }
@@ -198,7 +198,7 @@ fn body_in(bytes: &[u8], alloc: Global, number: u8) -> Result<Content, FrameErro
     }
 }
 
-/// Reads `body`, which has so many bytes. No bit after them is read.
+/// Reads `body`, which has `size` bytes. No bit after them is read.
 fn read_body<R: BitRead>(
     reader: &mut R,
     alloc: Global,
@@ -225,7 +225,7 @@ impl From<MessageError> for FrameError {
     }
 }
 
-/// Returns an error inside the bytes of `message`: at their end it is `OtherMessage`.
+/// Maps an error inside the bytes of `message`: an error at their end is `OtherMessage`.
 fn message_ended(error: FrameError) -> FrameError
     ensures { result ≡ message_ended error }
 {
@@ -247,7 +247,7 @@ fn message_ended(error: FrameError) -> FrameError
 ///
 /// # Errors
 ///
-/// `OtherMessage` if it does not fill them. Else its errors.
+/// `OtherMessage` if it does not fill them. Otherwise its errors.
 fn message_in(bytes: &[u8], alloc: Global) -> Result<Message, FrameError>
     ensures { UnlessMemory (λ error. Reader error)
         (within (message_here High) OtherMessage (λ error. Reader error) message_ended (bits High bytes.now)) result }
@@ -264,7 +264,7 @@ fn message_in(bytes: &[u8], alloc: Global) -> Result<Message, FrameError>
     }
 }
 
-/// Reads `message`, which has so many bytes. No bit after them is read.
+/// Reads `message`, which has `size` bytes. No bit after them is read.
 fn read_message<R: BitRead>(reader: &mut R, alloc: Global, size: u64) -> Result<Message, FrameError>
     requires { R.source.order ≡ High }
     ensures { GrowsOwn R.source becomes_frame (message_sized R.source.order size)
@@ -279,9 +279,10 @@ impl Frame {
     ///
     /// # Errors
     ///
-    /// `NoContent`, `OtherBody`, `OtherMessage`, `InMessage`, after the bits that are refused.
-    /// `Reader(OutOfMemory)` if memory for a list is refused, after the items before.
-    /// Else the errors of the reader: after each of them it has failed.
+    /// `NoContent`, `OtherBody`, `OtherMessage`, `InMessage`.
+    /// The refused bits are read then.
+    /// `Reader(OutOfMemory)` if the allocation for a list fails, after the items before.
+    /// Otherwise the reader's errors, after which it has failed.
     pub fn read<R: BitRead>(reader: &mut R, alloc: Global) -> Result<Frame, FrameError>
         requires { R.source.order ≡ High }
         ensures { GrowsOwn R.source becomes_frame (frame_decoder R.source.order) reader.old result reader.new }
@@ -299,7 +300,7 @@ impl Frame {
     /// # Errors
     ///
     /// `NoContent`, `OtherBody`, `OtherMessage`, `InMessage`, `Reader(EndOfInput)` if the bytes end before the fields do.
-    /// `Reader(OutOfMemory)` if memory for an item of a list is refused.
+    /// `Reader(OutOfMemory)` if the allocation for an item of a list fails.
     pub fn parse(packet: &[u8], alloc: Global) -> Result<Frame, FrameError>
         ensures answer { (OwnAnswer becomes_frame (λ answer. answer)
             (sure_answer ((frame_decoder High).reads 0 (bits High packet.now))) result)
@@ -319,7 +320,7 @@ impl Frame {
     /// # Errors
     ///
     /// `Checked` for a field that does not fit its bits. The fields before it are written then.
-    /// Else the errors of the sink.
+    /// Otherwise the sink's errors.
     pub fn write<W: BitWrite>(&self, writer: &mut W) -> Result<(), Error>
         ensures { WritesAll W.sink (frame_writes W.sink.order self.now) writer.old result writer.new }
     {
@@ -332,7 +333,7 @@ impl Frame {
     }
 
     /// Writes the fields to the first bytes of a buffer, and returns what was written. The other bytes
-    /// stay as they were. No memory is asked for.
+    /// stay as they were. Does not allocate.
     ///
     /// # Errors
     ///

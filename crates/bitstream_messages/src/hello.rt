@@ -120,9 +120,10 @@ impl Hello {
     ///
     /// # Errors
     ///
-    /// `OtherMessage`, `InExtensions`, after the bits that are refused.
-    /// `Reader(OutOfMemory)` if memory for a list is refused, after the items before.
-    /// Else the errors of the reader: after each of them it has failed.
+    /// `OtherMessage`, `InExtensions`.
+    /// The refused bits are read then.
+    /// `Reader(OutOfMemory)` if the allocation for a list fails, after the items before.
+    /// Otherwise the reader's errors, after which it has failed.
     pub fn read<R: BitRead>(reader: &mut R, alloc: Global) -> Result<Hello, HelloError>
         requires { R.source.order ≡ High }
         ensures { GrowsOwn R.source becomes_hello (hello_decoder R.source.order) reader.old result reader.new }
@@ -154,7 +155,7 @@ impl Hello {
     /// # Errors
     ///
     /// `OtherMessage`, `InExtensions`, `Reader(EndOfInput)` if the bytes end before the fields do.
-    /// `Reader(OutOfMemory)` if memory for an item of a list is refused.
+    /// `Reader(OutOfMemory)` if the allocation for an item of a list fails.
     pub fn parse(packet: &[u8], alloc: Global) -> Result<Hello, HelloError>
         ensures answer { (OwnAnswer becomes_hello (λ answer. answer)
             (sure_answer ((hello_decoder High).reads 0 (bits High packet.now))) result)
@@ -174,7 +175,7 @@ impl Hello {
     /// # Errors
     ///
     /// `Checked` for a field that does not fit its bits. The fields before it are written then.
-    /// Else the errors of the sink.
+    /// Otherwise the sink's errors.
     pub fn write<W: BitWrite>(&self, writer: &mut W) -> Result<(), Error>
         ensures { WritesAll W.sink (hello_writes W.sink.order self.now) writer.old result writer.new }
     {
@@ -193,7 +194,7 @@ impl Hello {
     }
 
     /// Writes the fields to the first bytes of a buffer, and returns what was written. The other bytes
-    /// stay as they were. No memory is asked for.
+    /// stay as they were. Does not allocate.
     ///
     /// # Errors
     ///

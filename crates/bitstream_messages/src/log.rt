@@ -116,7 +116,7 @@ fn count_acks(items: &[Ack]) -> Result<u64, Error>
     Ok(counter.into_written())
 }
 
-/// Returns an error inside the bytes of `acks`: at their end it is `OddAcks`.
+/// Maps an error inside the bytes of `acks`: an error at their end is `OddAcks`.
 fn acks_ended(error: LogError) -> LogError
     ensures { result ≡ acks_ended error }
 {
@@ -137,7 +137,7 @@ fn acks_ended(error: LogError) -> LogError
 ///
 /// # Errors
 ///
-/// `OddAcks` if they do not fill them. Else the error of an item.
+/// `OddAcks` if they do not fill them. Otherwise the error of an item.
 fn acks_in(bytes: &[u8], alloc: Global, size: u64) -> Result<Vec<Ack>, LogError>
     ensures { UnlessMemory (λ error. Reader error)
         (items_from (plain_reads (ack_decoder High)) OddAcks (λ error. Reader error) acks_ended 0 (bits High bytes.now) size)
@@ -160,7 +160,7 @@ fn acks_in(bytes: &[u8], alloc: Global, size: u64) -> Result<Vec<Ack>, LogError>
     Err(LogError::OddAcks)
 }
 
-/// Reads `acks`, which has so many bytes. No bit after them is read.
+/// Reads `acks`, which has `size` bytes. No bit after them is read.
 fn read_acks<R: BitRead>(reader: &mut R, alloc: Global, size: u64) -> Result<Vec<Ack>, LogError>
     requires { R.source.order ≡ High }
     ensures { GrowsOwn R.source becomes_log (acks_sized R.source.order size)
@@ -206,7 +206,7 @@ fn count_marks(items: &[Mark]) -> Result<u64, Error>
     Ok(counter.into_written())
 }
 
-/// Returns an error inside the bytes of `marks`: at their end it is `OddMarks`.
+/// Maps an error inside the bytes of `marks`: an error at their end is `OddMarks`.
 fn marks_ended(error: LogError) -> LogError
     ensures { result ≡ marks_ended error }
 {
@@ -227,7 +227,7 @@ fn marks_ended(error: LogError) -> LogError
 ///
 /// # Errors
 ///
-/// `OddMarks` if they do not fill them. Else the error of an item.
+/// `OddMarks` if they do not fill them. Otherwise the error of an item.
 fn marks_in(bytes: &[u8], alloc: Global, size: u64) -> Result<Vec<Mark>, LogError>
     ensures { UnlessMemory (λ error. Reader error)
         (items_from (mark_here High) OddMarks (λ error. Reader error) marks_ended 0 (bits High bytes.now) size)
@@ -250,7 +250,7 @@ fn marks_in(bytes: &[u8], alloc: Global, size: u64) -> Result<Vec<Mark>, LogErro
     Err(LogError::OddMarks)
 }
 
-/// Reads `marks`, which has so many bytes. No bit after them is read.
+/// Reads `marks`, which has `size` bytes. No bit after them is read.
 fn read_marks<R: BitRead>(reader: &mut R, alloc: Global, size: u64) -> Result<Vec<Mark>, LogError>
     requires { R.source.order ≡ High }
     ensures { GrowsOwn R.source becomes_log (marks_sized R.source.order size)
@@ -265,9 +265,10 @@ impl Log {
     ///
     /// # Errors
     ///
-    /// `OddAcks`, `OddMarks`, `InMark`, after the bits that are refused.
-    /// `Reader(OutOfMemory)` if memory for a list is refused, after the items before.
-    /// Else the errors of the reader: after each of them it has failed.
+    /// `OddAcks`, `OddMarks`, `InMark`.
+    /// The refused bits are read then.
+    /// `Reader(OutOfMemory)` if the allocation for a list fails, after the items before.
+    /// Otherwise the reader's errors, after which it has failed.
     pub fn read<R: BitRead>(reader: &mut R, alloc: Global) -> Result<Log, LogError>
         requires { R.source.order ≡ High }
         ensures { GrowsOwn R.source becomes_log (log_decoder R.source.order) reader.old result reader.new }
@@ -284,7 +285,7 @@ impl Log {
     /// # Errors
     ///
     /// `OddAcks`, `OddMarks`, `InMark`, `Reader(EndOfInput)` if the bytes end before the fields do.
-    /// `Reader(OutOfMemory)` if memory for an item of a list is refused.
+    /// `Reader(OutOfMemory)` if the allocation for an item of a list fails.
     pub fn parse(packet: &[u8], alloc: Global) -> Result<Log, LogError>
         ensures answer { (OwnAnswer becomes_log (λ answer. answer)
             (sure_answer ((log_decoder High).reads 0 (bits High packet.now))) result)
@@ -304,7 +305,7 @@ impl Log {
     /// # Errors
     ///
     /// `Checked` for a field that does not fit its bits. The fields before it are written then.
-    /// Else the errors of the sink.
+    /// Otherwise the sink's errors.
     pub fn write<W: BitWrite>(&self, writer: &mut W) -> Result<(), Error>
         ensures { WritesAll W.sink (log_writes W.sink.order self.now) writer.old result writer.new }
     {
@@ -316,7 +317,7 @@ impl Log {
     }
 
     /// Writes the fields to the first bytes of a buffer, and returns what was written. The other bytes
-    /// stay as they were. No memory is asked for.
+    /// stay as they were. Does not allocate.
     ///
     /// # Errors
     ///

@@ -57,8 +57,9 @@ impl Mark {
     ///
     /// # Errors
     ///
-    /// `NoMark`, after the bits that are refused.
-    /// Else the errors of the reader: after each of them it has failed.
+    /// `NoMark`.
+    /// The refused bits are read then.
+    /// Otherwise the reader's errors, after which it has failed.
     pub fn read<R: BitRead>(reader: &mut R) -> Result<Mark, MarkError>
         ensures { ReadsOwn R.source becomes_mark (mark_decoder R.source.order) reader.old result reader.new }
     {
@@ -94,7 +95,7 @@ impl Mark {
     /// # Errors
     ///
     /// `Checked` for a field that does not fit its bits. The fields before it are written then.
-    /// Else the errors of the sink.
+    /// Otherwise the sink's errors.
     pub fn write<W: BitWrite>(&self, writer: &mut W) -> Result<(), Error>
         ensures { WritesAll W.sink (mark_writes W.sink.order self.now) writer.old result writer.new }
     {
@@ -104,7 +105,7 @@ impl Mark {
     }
 
     /// Writes the fields to the first bytes of a buffer, and returns what was written. The other bytes
-    /// stay as they were. No memory is asked for.
+    /// stay as they were. Does not allocate.
     ///
     /// # Errors
     ///

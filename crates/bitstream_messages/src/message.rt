@@ -120,7 +120,7 @@ impl Body {
     ///
     /// `NoBody` if no case has the number: nothing is read then.
     /// `InMark` if a `Mark` is refused.
-    /// Else the errors of the reader: after each of them it has failed.
+    /// Otherwise the reader's errors, after which it has failed.
     pub fn read<R: BitRead>(reader: &mut R, alloc: Global, number: u8) -> Result<Body, MessageError>
         ensures { GrowsOwn R.source becomes_message (body_read R.source.order number) reader.old result reader.new }
     {
@@ -144,7 +144,7 @@ impl Body {
     /// # Errors
     ///
     /// `Checked` for a field that does not fit its bits. The fields before it are written then.
-    /// Else the errors of the sink.
+    /// Otherwise the sink's errors.
     pub fn write<W: BitWrite>(&self, writer: &mut W) -> Result<(), Error>
         ensures { WritesAll W.sink (body_writes W.sink.order self.now) writer.old result writer.new }
     {
@@ -162,9 +162,10 @@ impl Message {
     ///
     /// # Errors
     ///
-    /// `NoBody`, `InMark`, after the bits that are refused.
-    /// `Reader(OutOfMemory)` if memory for a list is refused, after the items before.
-    /// Else the errors of the reader: after each of them it has failed.
+    /// `NoBody`, `InMark`.
+    /// The refused bits are read then.
+    /// `Reader(OutOfMemory)` if the allocation for a list fails, after the items before.
+    /// Otherwise the reader's errors, after which it has failed.
     pub fn read<R: BitRead>(reader: &mut R, alloc: Global) -> Result<Message, MessageError>
         ensures { GrowsOwn R.source becomes_message (message_decoder R.source.order) reader.old result reader.new }
     {
@@ -185,7 +186,7 @@ impl Message {
     /// # Errors
     ///
     /// `NoBody`, `InMark`, `Reader(EndOfInput)` if the bytes end before the fields do.
-    /// `Reader(OutOfMemory)` if memory for an item of a list is refused.
+    /// `Reader(OutOfMemory)` if the allocation for an item of a list fails.
     pub fn parse(packet: &[u8], alloc: Global) -> Result<Message, MessageError>
         ensures answer { (OwnAnswer becomes_message (λ answer. answer)
             (sure_answer ((message_decoder High).reads 0 (bits High packet.now))) result)
@@ -205,7 +206,7 @@ impl Message {
     /// # Errors
     ///
     /// `Checked` for a field that does not fit its bits. The fields before it are written then.
-    /// Else the errors of the sink.
+    /// Otherwise the sink's errors.
     pub fn write<W: BitWrite>(&self, writer: &mut W) -> Result<(), Error>
         ensures { WritesAll W.sink (message_writes W.sink.order self.now) writer.old result writer.new }
     {
@@ -218,7 +219,7 @@ impl Message {
     }
 
     /// Writes the fields to the first bytes of a buffer, and returns what was written. The other bytes
-    /// stay as they were. No memory is asked for.
+    /// stay as they were. Does not allocate.
     ///
     /// # Errors
     ///

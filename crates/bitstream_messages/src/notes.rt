@@ -47,7 +47,7 @@ impl Model for Notes {
     } };
 }
 
-/// Reads `count` items of `levels`. If memory for one is refused, it is the last one read.
+/// Reads `count` items of `levels`. It stops after an item whose allocation fails.
 fn read_levels<R: BitRead>(reader: &mut R, alloc: Global, count: u64) -> Result<Vec<u16>, Error>
     ensures { GrowingOutcome R.source (items_decoder (list_item (unsigned_decoder R.source.order 16 16)) count)
         reader.old (result_map (λ found. found.items) result) reader.new }
@@ -78,8 +78,8 @@ impl Notes {
     ///
     /// # Errors
     ///
-    /// `OutOfMemory` if memory for a list is refused, after the items before.
-    /// Else the errors of the reader: after each of them it has failed.
+    /// `OutOfMemory` if the allocation for a list fails, after the items before.
+    /// Otherwise the reader's errors, after which it has failed.
     pub fn read<R: BitRead>(reader: &mut R, alloc: Global) -> Result<Notes, Error>
         ensures { GrowsOwn R.source same_error (notes_decoder R.source.order) reader.old result reader.new }
     {
@@ -94,7 +94,7 @@ impl Notes {
     /// # Errors
     ///
     /// `EndOfInput` if the bytes end before the fields do.
-    /// `OutOfMemory` if memory for an item of a list is refused.
+    /// `OutOfMemory` if the allocation for an item of a list fails.
     pub fn parse(packet: &[u8], alloc: Global) -> Result<Notes, Error>
         ensures answer { (OwnAnswer same_error (λ answer. answer)
             (sure_answer ((notes_decoder High).reads 0 (bits High packet.now))) result)
@@ -114,7 +114,7 @@ impl Notes {
     /// # Errors
     ///
     /// `Checked` for a field that does not fit its bits. The fields before it are written then.
-    /// Else the errors of the sink.
+    /// Otherwise the sink's errors.
     pub fn write<W: BitWrite>(&self, writer: &mut W) -> Result<(), Error>
         ensures { WritesAll W.sink (notes_writes W.sink.order self.now) writer.old result writer.new }
     {
@@ -125,7 +125,7 @@ impl Notes {
     }
 
     /// Writes the fields to the first bytes of a buffer, and returns what was written. The other bytes
-    /// stay as they were. No memory is asked for.
+    /// stay as they were. Does not allocate.
     ///
     /// # Errors
     ///

@@ -83,7 +83,7 @@ impl From<Error> for PacketError {
     }
 }
 
-/// Returns an error inside the bytes of `notes`: at their end it is `OtherNotes`.
+/// Maps an error inside the bytes of `notes`: an error at their end is `OtherNotes`.
 fn notes_ended(error: PacketError) -> PacketError
     ensures { result ≡ notes_ended error }
 {
@@ -103,7 +103,7 @@ fn notes_ended(error: PacketError) -> PacketError
 ///
 /// # Errors
 ///
-/// `OtherNotes` if it does not fill them. Else its errors.
+/// `OtherNotes` if it does not fill them. Otherwise its errors.
 fn notes_in(bytes: &[u8], alloc: Global) -> Result<Notes, PacketError>
     ensures { UnlessMemory (λ error. Reader error)
         (within (notes_here High) OtherNotes (λ error. Reader error) notes_ended (bits High bytes.now)) result }
@@ -120,7 +120,7 @@ fn notes_in(bytes: &[u8], alloc: Global) -> Result<Notes, PacketError>
     }
 }
 
-/// Reads `notes`, which has so many bytes. No bit after them is read.
+/// Reads `notes`, which has `size` bytes. No bit after them is read.
 fn read_notes<R: BitRead>(reader: &mut R, alloc: Global, size: u64) -> Result<Notes, PacketError>
     requires { R.source.order ≡ High }
     ensures { GrowsOwn R.source becomes_packet (notes_sized R.source.order size)
@@ -130,7 +130,7 @@ fn read_notes<R: BitRead>(reader: &mut R, alloc: Global, size: u64) -> Result<No
     notes_in(&bytes, alloc)
 }
 
-/// Returns an error inside the bytes of `ack`: at their end it is `OtherAck`.
+/// Maps an error inside the bytes of `ack`: an error at their end is `OtherAck`.
 fn ack_ended(error: PacketError) -> PacketError
     ensures { result ≡ ack_ended error }
 {
@@ -150,7 +150,7 @@ fn ack_ended(error: PacketError) -> PacketError
 ///
 /// # Errors
 ///
-/// `OtherAck` if it does not fill them. Else its errors.
+/// `OtherAck` if it does not fill them. Otherwise its errors.
 fn ack_in(bytes: &[u8]) -> Result<Ack, PacketError>
     ensures { UnlessMemory (λ error. Reader error)
         (within (plain_reads (ack_decoder High)) OtherAck (λ error. Reader error) ack_ended (bits High bytes.now)) result }
@@ -167,7 +167,7 @@ fn ack_in(bytes: &[u8]) -> Result<Ack, PacketError>
     }
 }
 
-/// Reads `ack`, which has so many bytes. No bit after them is read.
+/// Reads `ack`, which has `size` bytes. No bit after them is read.
 fn read_ack<R: BitRead>(reader: &mut R, alloc: Global, size: u64) -> Result<Ack, PacketError>
     requires { R.source.order ≡ High }
     ensures { GrowsOwn R.source becomes_packet (ack_sized R.source.order size)
@@ -182,9 +182,10 @@ impl Packet {
     ///
     /// # Errors
     ///
-    /// `OtherNotes`, `OtherAck`, after the bits that are refused.
-    /// `Reader(OutOfMemory)` if memory for a list is refused, after the items before.
-    /// Else the errors of the reader: after each of them it has failed.
+    /// `OtherNotes`, `OtherAck`.
+    /// The refused bits are read then.
+    /// `Reader(OutOfMemory)` if the allocation for a list fails, after the items before.
+    /// Otherwise the reader's errors, after which it has failed.
     pub fn read<R: BitRead>(reader: &mut R, alloc: Global) -> Result<Packet, PacketError>
         requires { R.source.order ≡ High }
         ensures { GrowsOwn R.source becomes_packet (packet_decoder R.source.order) reader.old result reader.new }
@@ -202,7 +203,7 @@ impl Packet {
     /// # Errors
     ///
     /// `OtherNotes`, `OtherAck`, `Reader(EndOfInput)` if the bytes end before the fields do.
-    /// `Reader(OutOfMemory)` if memory for an item of a list is refused.
+    /// `Reader(OutOfMemory)` if the allocation for an item of a list fails.
     pub fn parse(packet: &[u8], alloc: Global) -> Result<Packet, PacketError>
         ensures answer { (OwnAnswer becomes_packet (λ answer. answer)
             (sure_answer ((packet_decoder High).reads 0 (bits High packet.now))) result)
@@ -222,7 +223,7 @@ impl Packet {
     /// # Errors
     ///
     /// `Checked` for a field that does not fit its bits. The fields before it are written then.
-    /// Else the errors of the sink.
+    /// Otherwise the sink's errors.
     pub fn write<W: BitWrite>(&self, writer: &mut W) -> Result<(), Error>
         ensures { WritesAll W.sink (packet_writes W.sink.order self.now) writer.old result writer.new }
     {
@@ -235,7 +236,7 @@ impl Packet {
     }
 
     /// Writes the fields to the first bytes of a buffer, and returns what was written. The other bytes
-    /// stay as they were. No memory is asked for.
+    /// stay as they were. Does not allocate.
     ///
     /// # Errors
     ///

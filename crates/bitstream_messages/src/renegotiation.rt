@@ -50,8 +50,8 @@ impl Renegotiation {
     ///
     /// # Errors
     ///
-    /// `OutOfMemory` if memory for a list is refused, after the items before.
-    /// Else the errors of the reader: after each of them it has failed.
+    /// `OutOfMemory` if the allocation for a list fails, after the items before.
+    /// Otherwise the reader's errors, after which it has failed.
     pub fn read<R: BitRead>(reader: &mut R, alloc: Global) -> Result<Renegotiation, Error>
         ensures { GrowsOwn R.source same_error (renegotiation_decoder R.source.order) reader.old result reader.new }
     {
@@ -65,7 +65,7 @@ impl Renegotiation {
     /// # Errors
     ///
     /// `EndOfInput` if the bytes end before the fields do.
-    /// `OutOfMemory` if memory for an item of a list is refused.
+    /// `OutOfMemory` if the allocation for an item of a list fails.
     pub fn parse(packet: &[u8], alloc: Global) -> Result<Renegotiation, Error>
         ensures answer { (OwnAnswer same_error (λ answer. answer)
             (sure_answer ((renegotiation_decoder High).reads 0 (bits High packet.now))) result)
@@ -85,7 +85,7 @@ impl Renegotiation {
     /// # Errors
     ///
     /// `Checked` for a field that does not fit its bits. The fields before it are written then.
-    /// Else the errors of the sink.
+    /// Otherwise the sink's errors.
     pub fn write<W: BitWrite>(&self, writer: &mut W) -> Result<(), Error>
         ensures { WritesAll W.sink (renegotiation_writes W.sink.order self.now) writer.old result writer.new }
     {
@@ -95,7 +95,7 @@ impl Renegotiation {
     }
 
     /// Writes the fields to the first bytes of a buffer, and returns what was written. The other bytes
-    /// stay as they were. No memory is asked for.
+    /// stay as they were. Does not allocate.
     ///
     /// # Errors
     ///

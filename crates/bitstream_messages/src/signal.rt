@@ -44,7 +44,7 @@ pub enum Reply {
     Ack(Ack),
     /// 7.
     Stop,
-    /// Another number, which nothing follows.
+    /// Another number, with nothing after it.
     Other(u8),
 }
 
@@ -64,7 +64,7 @@ impl Reply {
     ///
     /// # Errors
     ///
-    /// The errors of the reader: after each of them it has failed.
+    /// The reader's errors, after which it has failed.
     pub fn read<R: BitRead>(reader: &mut R, number: u8) -> Result<Reply, Error>
         ensures { Reads R.source (reply_read R.source.order number) reader.old result reader.new }
     {
@@ -82,7 +82,7 @@ impl Reply {
     /// # Errors
     ///
     /// `Checked` for a field that does not fit its bits. The fields before it are written then.
-    /// Else the errors of the sink.
+    /// Otherwise the sink's errors.
     pub fn write<W: BitWrite>(&self, writer: &mut W) -> Result<(), Error>
         ensures { WritesAll W.sink (reply_writes W.sink.order self.now) writer.old result writer.new }
     {
@@ -118,7 +118,7 @@ impl Tail {
     ///
     /// # Errors
     ///
-    /// The errors of the reader: after each of them it has failed.
+    /// The reader's errors, after which it has failed.
     pub fn read<R: BitRead>(reader: &mut R, number: u8) -> Result<Tail, Error>
         ensures { Reads R.source (tail_read R.source.order number) reader.old result reader.new }
     {
@@ -133,7 +133,7 @@ impl Tail {
     /// # Errors
     ///
     /// `Checked` for a field that does not fit its bits. The fields before it are written then.
-    /// Else the errors of the sink.
+    /// Otherwise the sink's errors.
     pub fn write<W: BitWrite>(&self, writer: &mut W) -> Result<(), Error>
         ensures { WritesAll W.sink (tail_writes W.sink.order self.now) writer.old result writer.new }
     {
@@ -149,7 +149,7 @@ impl Signal {
     ///
     /// # Errors
     ///
-    /// The errors of the reader: after each of them it has failed.
+    /// The reader's errors, after which it has failed.
     pub fn read<R: BitRead>(reader: &mut R) -> Result<Signal, Error>
         ensures { Reads R.source (signal_decoder R.source.order) reader.old result reader.new }
     {
@@ -180,7 +180,7 @@ impl Signal {
     /// # Errors
     ///
     /// `Checked` for a field that does not fit its bits. The fields before it are written then.
-    /// Else the errors of the sink.
+    /// Otherwise the sink's errors.
     pub fn write<W: BitWrite>(&self, writer: &mut W) -> Result<(), Error>
         ensures { WritesAll W.sink (signal_writes W.sink.order self.now) writer.old result writer.new }
     {
@@ -193,7 +193,7 @@ impl Signal {
     }
 
     /// Writes the fields to the first bytes of a buffer, and returns what was written. The other bytes
-    /// stay as they were. No memory is asked for.
+    /// stay as they were. Does not allocate.
     ///
     /// # Errors
     ///

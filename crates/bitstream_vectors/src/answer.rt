@@ -37,7 +37,7 @@ fn checked_name(error: CheckedError) -> &'static str {
     }
 }
 
-/// The kinds of refusals of the player's streams, as the errors of their calls are spelled.
+/// The error kinds of the player's streams, as the rows spell the errors of their calls.
 const KINDS: [(ErrorKind, &str); 3] = [
     (ErrorKind::BrokenPipe, "Stream(BrokenPipe)"),
     (ErrorKind::ConnectionReset, "Stream(ConnectionReset)"),
@@ -88,7 +88,7 @@ pub fn is_optional<T: FromStr<Err = ParseIntError> + PartialEq + Drop>(
     }
 }
 
-/// The bytes that hexadecimal digits spell, two a byte; `-` spells none.
+/// Returns the bytes that hexadecimal digits spell, two digits a byte; `-` spells none.
 pub fn bytes_of(alloc: Global, text: &str) -> Result<Vec<u8>, Objection> {
     let mut bytes = Vec::new(alloc);
     if text == "-" {
@@ -125,7 +125,7 @@ fn byte_of(pair: &[u8]) -> Option<u8> {
     }
 }
 
-/// The number of a hexadecimal digit.
+/// Returns the number of a hexadecimal digit.
 fn digit_of(digit: u8) -> Option<u8> {
     match digit {
         b'0'..=b'9' => Some(digit - b'0'),

@@ -6,24 +6,24 @@ use bitstream_io::{BE, BitRead, BitReader, BitWrite, BitWriter, Endianness, LE};
 use std::alloc::{AllocError, Global};
 use std::io;
 
-/// The number of lengths, from 0 on: the longest is two of the pieces in which long buffers are
-/// moved, and two bytes.
+/// The number of lengths, from 0 on. The longest buffer has two bytes more than two of the pieces in
+/// which long buffers are moved.
 const LENGTHS: usize = 2051;
 
-/// Returns the byte of each buffer at an index. Neighbours differ, and so do the first and the last
-/// bit of a byte, so that no byte equals its own reversed bits.
+/// Returns the byte at an index, which is the same in each buffer. Neighboring bytes differ, and the
+/// first and the last bit of each byte differ, so no byte equals its own reversed bits.
 pub fn byte_at(index: usize) -> u8 {
     let low = ((index % 127).wrapping_mul(37) % 127) as u8;
     if low % 2 == 0 { low | 0x80 } else { low }
 }
 
-/// A place in a byte, of bits in an order.
+/// A place in a byte, in an order of bits.
 #[derive(Clone, Copy, Drop)]
 struct Place {
     order: Order,
     /// The number of bits before, each of them 1.
     bits: u32,
-    /// The number of these bits.
+    /// These bits as a number.
     lead: u8,
 }
 
@@ -62,7 +62,7 @@ impl Place {
     }
 }
 
-/// Buffers that are used again and again.
+/// Buffers that are reused.
 #[derive(Drop)]
 struct Scratch {
     written: Vec<u8>,
@@ -87,7 +87,7 @@ impl Scratch {
     }
 }
 
-/// Returns the number of lengths that differ at a place. A call that is refused differs too.
+/// Returns the number of lengths that differ at a place. A length whose call fails differs too.
 fn differing<E: Endianness>(alloc: Global, place: Place) -> Result<u32, AllocError> {
     let mut scratch = Scratch {
         written: Vec::new(alloc),

@@ -9,18 +9,18 @@ use std::str::FromStr;
 /// A call with the result that a row wants.
 #[derive(Clone, Copy, Drop)]
 pub struct Call<'a> {
-    /// The form of the call: what it reads, writes or asks.
+    /// The form of the call: the kind of value that it reads, writes or asks for.
     pub form: Form,
     /// The number of bits or bytes, or the greatest number of a count.
     pub bits: u32,
-    /// The value that it writes, the number of a constant, or the calls that a recorder is given.
+    /// The value that it writes, the number of a constant, or the calls that are made on a recorder.
     pub value: &'a str,
     /// The expected result.
     pub answer: &'a str,
 }
 
 impl<'a> Call<'a> {
-    /// The call of a row that a text spells.
+    /// Parses a call of a row.
     pub fn parse(alloc: Global, kind: Kind, spelled: &'a str) -> Result<Call<'a>, Objection> {
         let (call, answer) = match spelled.split_once("=>") {
             Some((call, answer)) => (call, Some(answer.trim())),
@@ -56,7 +56,7 @@ impl<'a> Call<'a> {
         }
     }
 
-    /// The call of this name that is given calls, which end with a bracket.
+    /// Returns the call of this name with a list of calls for a recorder, which ends with a bracket.
     fn of_calls(name: &str, calls: &'a str, answer: &'a str) -> Result<Call<'a>, Objection> {
         match calls.strip_suffix(']') {
             Some(value) => Ok(Call {
@@ -69,7 +69,7 @@ impl<'a> Call<'a> {
         }
     }
 
-    /// Returns the call that reads one bit, with this result.
+    /// Returns the call that reads one bit and expects this result.
     pub fn reads_bit(answer: &'static str) -> Call<'static> {
         Call {
             form: Form::Bit,
@@ -79,7 +79,7 @@ impl<'a> Call<'a> {
         }
     }
 
-    /// The call that asks whether the place in bits is this one.
+    /// Returns the call that asks whether the reader is at this place, in bits.
     pub fn asks_place(place: u64) -> Call<'static> {
         Call {
             form: Form::PlaceIs(place),
@@ -89,7 +89,7 @@ impl<'a> Call<'a> {
         }
     }
 
-    /// The call that writes zeros up to the end of a byte.
+    /// Returns the call that writes zeros up to the end of a byte.
     pub fn aligns() -> Call<'static> {
         Call {
             form: Form::Align,
@@ -99,7 +99,7 @@ impl<'a> Call<'a> {
         }
     }
 
-    /// Returns true if the word of the symbol that it writes has a bit.
+    /// Returns true if the code word of the symbol that it writes has a bit.
     fn has_bits(&self) -> bool {
         match self.form {
             Form::Limited(_, most) => match self.value.parse::<u32>() {
@@ -111,8 +111,7 @@ impl<'a> Call<'a> {
         }
     }
 
-    /// Returns true if a call for whole bytes has any to move. A call that has none asks the stream
-    /// for nothing.
+    /// Returns true if a call for whole bytes moves a byte. A call that moves none makes no request to the stream.
     pub fn moves_bytes(&self) -> bool {
         match self.form {
             Form::Whole(_, _) => true,
@@ -120,13 +119,13 @@ impl<'a> Call<'a> {
         }
     }
 
-    /// Returns true if it seeks, and so asks the stream even after its reader has failed.
+    /// Returns true if it seeks, and so makes a request to the stream even after its reader has failed.
     pub fn recovers(&self) -> bool {
         matches!(self.form, Form::Seek(Whence::Start | Whence::End))
     }
 
-    /// Returns true if it does not seek, or a reader of `bits` bits in memory behaves as a reader
-    /// over a stream: it goes to a place that it has, or it stays where it is.
+    /// Returns true if a reader of `bits` bits in memory and a reader over a stream return the same: it
+    /// does not seek, it seeks to one of these bits or to their end, or it stays where it is.
     pub fn stays_within(&self, bits: u64) -> bool {
         match (self.form, self.answer) {
             (Form::Seek(Whence::Current), "Place" | "Failed") => true,
@@ -135,7 +134,7 @@ impl<'a> Call<'a> {
         }
     }
 
-    /// Returns the number of seeks that it makes first.
+    /// Returns the number of seek requests with which it begins.
     pub fn seeks(&self) -> u64 {
         match self.form {
             Form::Seek(Whence::Start) | Form::Place | Form::PlaceIs(_) => 1,
@@ -144,8 +143,8 @@ impl<'a> Call<'a> {
         }
     }
 
-    /// Returns its result on a reader or writer of bits that has failed. An invalid checked value,
-    /// or an invalid count, was refused before any call.
+    /// Returns its result on a reader or writer of bits that has failed. An invalid checked value or
+    /// count is rejected before any call.
     pub fn answer_of_failed(&self, kind: Kind) -> &'a str {
         match (self.form, kind) {
             (Form::Aligned, _) => "no",
@@ -162,7 +161,7 @@ impl<'a> Call<'a> {
     }
 }
 
-/// Returns true if a text spells a symbol of a tree that has a bit.
+/// Returns true if a text spells a symbol of a tree, and the symbol's code word has a bit.
 fn has_symbol(tree: Tree, text: &str) -> bool {
     match tree {
         Tree::OneSided => is_among(&["0", "1", "2", "5"], text),
@@ -180,7 +179,7 @@ fn is_among(symbols: &[&'static str], text: &str) -> bool {
     found
 }
 
-/// The number of bits and the value of a call of this form that words spell.
+/// Parses the number of bits and the value of a call of this form from its words.
 fn bits_and_value<'a>(
     form: Form,
     kind: Kind,
@@ -200,13 +199,12 @@ fn bits_and_value<'a>(
     }
 }
 
-/// A word of a call, or none.
+/// Returns a word of a call, or an empty text if there is none.
 fn word_at<'a>(words: &[&'a str], at: usize) -> &'a str {
     words.get(at).copied().unwrap_or("")
 }
 
-/// Parses the number that a text spells. It is compiled once for each type, and not with each call
-/// that uses it.
+/// Parses a number. It is compiled once for each type, and not inlined into each call.
 #[inline(never)]
 pub fn number<T: FromStr<Err = ParseIntError>>(text: &str) -> Result<T, Objection> {
     match text.parse() {
@@ -215,7 +213,7 @@ pub fn number<T: FromStr<Err = ParseIntError>>(text: &str) -> Result<T, Objectio
     }
 }
 
-/// The value that a text spells, or none where it spells 0.
+/// Parses a number, or returns `None` for 0.
 #[inline(never)]
 pub fn optional<N: FromStr<Err = ParseIntError>>(text: &str) -> Result<Option<N>, Objection> {
     if text == "0" {

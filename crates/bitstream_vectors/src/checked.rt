@@ -43,7 +43,7 @@ where
     }
 }
 
-/// Reads a checked value, and returns true if the result is as wanted.
+/// Reads a checked value, and returns true if the result is the expected one.
 pub fn read_checked<R: BitRead>(reader: &mut R, number: Number, bits: u32, want: &str) -> bool {
     match number {
         Number::Unsigned(size) => unsigned!(size, read_unsigned(reader, bits, want)),
@@ -51,7 +51,7 @@ pub fn read_checked<R: BitRead>(reader: &mut R, number: Number, bits: u32, want:
     }
 }
 
-/// Writes a checked value, if there is one.
+/// Writes a checked value if it is valid, or returns its error.
 fn write_made<C: Checkable, W: BitWrite>(
     writer: &mut W,
     made: Result<C, CheckedError>,
@@ -82,7 +82,7 @@ fn write_signed<S: SignedInteger + FromStr<Err = ParseIntError>, W: BitWrite>(
     }
 }
 
-/// Writes a number as a checked value, if it is one.
+/// Writes a number as a checked value, if the number is valid.
 pub fn write_checked<W: BitWrite>(
     writer: &mut W,
     number: Number,

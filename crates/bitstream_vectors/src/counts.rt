@@ -7,7 +7,7 @@ use bitstream_io::write::Counter;
 use bitstream_io::{BE, BitCounter, Endianness, LE};
 use std::alloc::Global;
 
-/// Makes calls on a new counter of a type and an order, which then holds `bits` bits.
+/// Makes calls on a new counter of a type and an order, and objects if it does not hold `bits` bits then.
 fn count_in<N: Counter + Drop, E: Endianness>(
     alloc: Global,
     calls: &[Call<'_>],
@@ -21,7 +21,7 @@ where
     agrees(u128::from(counter.written()) == bits, Difference::Length)
 }
 
-/// Plays a row of a counter's type, its calls, and its number of bits after them.
+/// Plays a row with the type of a counter, its calls, and its number of bits after them.
 pub fn play_count(alloc: Global, kind: &str, calls: &str, after: &str) -> Result<(), Objection> {
     let calls = calls_of(alloc, Kind::Write, calls)?;
     let Some(bits) = after.strip_prefix("bits ") else {

@@ -19,7 +19,7 @@ pub enum Number {
     Signed(Size),
 }
 
-/// An array of items of the same number of bits.
+/// An array of items that all have the same number of bits.
 #[derive(Clone, Copy, Drop)]
 pub enum Items {
     /// Four of `u8`.
@@ -32,8 +32,9 @@ pub enum Items {
     None,
 }
 
-/// The value of a number of variable width: a number, a number that is not 0, or such a number or
-/// none. The lenient call may read it too, even if its last groups are 0.
+/// The value of a number of variable width: a number, a number that is not 0, or an optional number
+/// that is not 0. `AnyUnsigned` and `AnySigned` are read by the lenient call, which accepts last groups
+/// of 0.
 #[derive(Clone, Copy, Drop)]
 pub enum Grouped {
     Unsigned,
@@ -57,7 +58,7 @@ pub enum Tree {
     Leaf,
 }
 
-/// The encoder of a symbol.
+/// The encoder of symbols.
 #[derive(Clone, Copy, Drop)]
 pub enum Coder {
     /// The tree itself.
@@ -75,7 +76,7 @@ pub enum ByteOrder {
     Little,
 }
 
-/// The place from which a seek counts its bits.
+/// The place from which a seek counts.
 #[derive(Clone, Copy, Drop)]
 pub enum Whence {
     Start,
@@ -83,14 +84,14 @@ pub enum Whence {
     Current,
 }
 
-/// The form of a call: what it reads, writes or asks.
+/// The form of a call: the kind of value that it reads, writes or asks for.
 #[derive(Clone, Copy, Drop)]
 pub enum Form {
     /// True if the stream is at the end of a byte.
     Aligned,
     Align,
     Array(Items),
-    /// The shorter of a recorder and a new one that is given calls.
+    /// The shorter of a recorder and a new one on which calls are made.
     Best,
     Bit,
     Bool,
@@ -98,13 +99,13 @@ pub enum Form {
     Bytes,
     /// A number as a checked value.
     Checked(Number),
-    /// A recorder is emptied.
+    /// Clears a recorder.
     Clear,
     Const,
     Count,
     /// A number in a counted number of bits.
     Counted(Number),
-    /// The stream is set to a byte before its reader is made.
+    /// Sets the stream to a byte before its reader is made.
     Cursor,
     /// A number in a constant number of bits.
     Fixed(Number),
@@ -116,19 +117,19 @@ pub enum Form {
     Pad,
     /// The place in bits.
     Place,
-    /// True if the place in bits is this one.
+    /// True if the reader is at this place, in bits.
     PlaceIs(u64),
     /// A symbol of a tree.
     Prefix(Tree, Coder),
-    /// A new recorder of an order is given calls, and played.
+    /// Makes calls on a new recorder of an order, and plays it.
     Record(Order),
-    /// A place in bits is sought.
+    /// A seek to a place, in bits.
     Seek(Whence),
-    /// Bits, or bytes, that are skipped.
+    /// Skips bits or bytes.
     Skip,
     /// Digits up to a stop digit.
     Unary(bool),
-    /// A number in a number of bits, as a value.
+    /// A number of this type, as a value.
     Value(Number),
     /// A number of a size, in groups of this number of bits.
     Variable(Grouped, Size, u32),
@@ -138,7 +139,7 @@ pub enum Form {
     Vector,
     /// A primitive.
     Whole(ByteOrder, Number),
-    /// A number in a number of bits, only by the calls for words.
+    /// A number of this type, only by the calls for words.
     Word(Number),
 }
 
@@ -154,7 +155,7 @@ impl Form {
         }
     }
 
-    /// Returns the index of the word with a call's value, if it has no number of bits.
+    /// Returns the index of the word that spells a call's value, if no word spells its number of bits.
     pub fn place_of_value(self, kind: Kind) -> Option<usize> {
         match (self, kind) {
             (Form::Bytes, Kind::Write) => Some(1),
@@ -167,11 +168,11 @@ impl Form {
     }
 }
 
-/// Returns the form that a name spells. For a primitive, the word after it belongs to the name.
+/// Returns the form with this name. For a primitive, the word after it belongs to the name.
 ///
 /// # Errors
 ///
-/// If the name spells none.
+/// If no form has the name.
 pub fn form_of(name: &str, next: &str) -> Result<Form, Objection> {
     let named = named(&PLAIN, name).or_else(|| whole_form(name, next));
     let named = named.or_else(|| variable_form(name, next));
@@ -181,7 +182,7 @@ pub fn form_of(name: &str, next: &str) -> Result<Form, Objection> {
         .ok_or(Objection::BAD_FORM)
 }
 
-/// The forms that a name spells without the word after it.
+/// The forms whose name is a single word.
 const PLAIN: [(&str, Form); 32] = [
     ("align", Form::Align),
     ("aligned", Form::Aligned),
@@ -228,7 +229,7 @@ fn named<T: Copy>(table: &[(&'static str, T)], name: &str) -> Option<T> {
     found
 }
 
-/// The form of a call for a primitive of the type that the next word spells.
+/// Returns the form of a call for a primitive. `next` is the name of its type.
 fn whole_form(name: &str, next: &str) -> Option<Form> {
     let order = match name {
         "whole" => ByteOrder::Own,
@@ -239,7 +240,7 @@ fn whole_form(name: &str, next: &str) -> Option<Form> {
     Some(Form::Whole(order, number_of(next)?))
 }
 
-/// The types that go in groups.
+/// The types that are read and written in groups.
 const GROUPED: [(&str, (Grouped, Size)); 20] = [
     ("u8", (Grouped::Unsigned, Size::Bits8)),
     ("u16", (Grouped::Unsigned, Size::Bits16)),
@@ -263,12 +264,12 @@ const GROUPED: [(&str, (Grouped, Size)); 20] = [
     ("optional128", (Grouped::Optional, Size::Bits128)),
 ];
 
-/// Returns the type of a number of variable width that a name spells.
+/// Returns the type of a number of variable width with this name.
 fn grouped_of(name: &str) -> Option<(Grouped, Size)> {
     named(&GROUPED, name)
 }
 
-/// The form of a call for a number in groups, of the type that the next word spells. The name of a
+/// Returns the form of a call for a number in groups. `next` is the name of its type. The name of a
 /// lenient call begins with `any`.
 fn variable_form(name: &str, next: &str) -> Option<Form> {
     let (name, lenient) = match name.strip_prefix("any") {
@@ -290,8 +291,7 @@ fn variable_form(name: &str, next: &str) -> Option<Form> {
     Some(Form::Variable(value, size, field))
 }
 
-/// The number of bits of a group that a call's name spells, and whether it is a call for signed
-/// numbers.
+/// Returns the number of bits of a group from a call's name, and true if it is a call for signed numbers.
 fn field_of(name: &str) -> Option<(u32, bool)> {
     let (field, signed) = match name.strip_prefix("svbr") {
         Some(field) => (field, true),
@@ -308,7 +308,7 @@ const TREES: [(&str, Tree); 4] = [
     ("d", Tree::Leaf),
 ];
 
-/// The form of a call for a symbol of the code that the next word spells.
+/// Returns the form of a call for a symbol. `next` is the name of its code.
 fn symbol_form(name: &str, next: &str) -> Option<Form> {
     match name {
         "prefix" => Some(Form::Prefix(named(&TREES, next)?, Coder::Tree)),
@@ -319,7 +319,7 @@ fn symbol_form(name: &str, next: &str) -> Option<Form> {
     }
 }
 
-/// The form of a call whose name is a type, or ends with one.
+/// Returns the form of a call whose name is a type, or ends with one.
 fn number_form(name: &str) -> Option<Form> {
     match name.split_once('-') {
         Some((call, number)) => word_form(call, number_of(number)?),
@@ -327,7 +327,7 @@ fn number_form(name: &str) -> Option<Form> {
     }
 }
 
-/// The form of a call of a name for a number that is no plain value.
+/// Returns the form of a call for a number that is not a plain value.
 fn word_form(call: &str, number: Number) -> Option<Form> {
     match call {
         "checked" => Some(Form::Checked(number)),
@@ -352,12 +352,12 @@ const NUMBERS: [(&str, Number); 10] = [
     ("i128", Number::Signed(Size::Bits128)),
 ];
 
-/// The integer type that a name spells.
+/// Returns the integer type with this name.
 fn number_of(name: &str) -> Option<Number> {
     named(&NUMBERS, name)
 }
 
-/// The form of a call that is given calls.
+/// Returns the form of a call with a list of calls for a recorder.
 pub fn form_of_calls(name: &str) -> Result<Form, Objection> {
     match name {
         "best" => Ok(Form::Best),

@@ -1,5 +1,5 @@
-//! Words, runs and parts of bytes in memory, and calls that they are too short for, at each place in a byte,
-//! in both orders.
+//! Words, runs of equal bits and parts of bytes in memory, at each place in a byte, in both orders.
+//! Also calls that need more bits than there are.
 //!
 //! The expected values are computed from single bits, and not by the library.
 use crate::buffers::byte_at;
@@ -20,7 +20,7 @@ const BEFORE: u32 = 24;
 /// The number of bytes after a word or a run, if there are any.
 const BEHIND: usize = 16;
 
-/// The number of bytes from which parts are taken.
+/// The number of bytes of which parts are taken.
 const WHOLE: usize = 5;
 
 /// The number of some bits.
@@ -36,8 +36,8 @@ fn number_of(order: Order, bytes: &[u8], at: u32, width: u32) -> u128 {
     number
 }
 
-/// Returns true if a word at a place is read as wanted, and its bits are taken. A word of 64 bits
-/// or fewer is read as a number of 64 bits too.
+/// Returns true if a word at a place is read as expected, and only its bits are taken. A word of 64
+/// bits or fewer is read as a number of 64 bits too.
 fn reads_word<E: Endianness>(bytes: &[u8], at: u64, width: u32, want: u128) -> bool {
     let mut reader = SliceReader::<E>::over(bytes);
     let there = reader.seek_bits(SeekFrom::Start(at)).is_ok();
@@ -49,8 +49,8 @@ fn reads_word<E: Endianness>(bytes: &[u8], at: u64, width: u32, want: u128) -> b
     there & same & taken & back & short
 }
 
-/// Returns true if bytes end before a word does, so that none of its bits is taken, or before its
-/// place.
+/// Returns true if the bytes end before a word does, and none of its bits is taken. Also returns true
+/// if they end before its place.
 fn word_ends<E: Endianness>(bytes: &[u8], at: u64, width: u32) -> bool {
     let mut reader = SliceReader::<E>::over(bytes);
     if at > reader.bits_left() {
@@ -64,7 +64,7 @@ fn word_ends<E: Endianness>(bytes: &[u8], at: u64, width: u32) -> bool {
     there & ended & (reader.bits_read() == at)
 }
 
-/// Returns true if a word at a bit after some bytes is read correctly: with the bytes ending at its
+/// Returns true if a word after some bytes and bits is read correctly: with the bytes ending at its
 /// end, with more bytes after it, and with one byte missing.
 fn word_agrees<E: Endianness>(order: Order, bytes: &[u8], bit: u32, width: u32) -> bool {
     let at = BEFORE.wrapping_add(bit);
@@ -108,7 +108,7 @@ fn run_behind<E: Endianness>(
     }
 }
 
-/// Returns true if a run after some bits is read as wanted, and is taken with its stop bit.
+/// Returns true if a run after some bits is read as expected, and is taken with its stop bit.
 fn reads_run<E: Endianness>(bytes: &[u8], bits: u32, stop: bool, want: u32) -> bool {
     let mut reader = SliceReader::<E>::over(bytes);
     let same = matches!(run_behind(&mut reader, bits, stop), Ok(run) if run == want);
@@ -118,14 +118,14 @@ fn reads_run<E: Endianness>(bytes: &[u8], bits: u32, stop: bool, want: u32) -> b
             .wrapping_add(1))
 }
 
-/// Returns true if a run after some bits has no end, so that none of its bits is taken.
+/// Returns true if a run after some bits has no stop bit, and none of its bits is taken.
 fn run_ends<E: Endianness>(bytes: &[u8], bits: u32, stop: bool) -> bool {
     let mut reader = SliceReader::<E>::over(bytes);
     let ended = matches!(run_behind(&mut reader, bits, stop), Err(Error::EndOfInput));
     ended & (reader.bits_read() == u64::from(bits))
 }
 
-/// Turns a bit.
+/// Flips a bit.
 fn turn(order: Order, bytes: &mut [u8], at: u32) {
     let mask = match order {
         Order::Big => 0x80u8.wrapping_shr(at % 8),
@@ -136,7 +136,7 @@ fn turn(order: Order, bytes: &mut [u8], at: u32) {
     }
 }
 
-/// Returns true if a run after some bits, which are stop bits, is read correctly: with the bytes
+/// Returns true if a run is read correctly after some bits that equal its stop bit: with the bytes
 /// ending at its end, with more bytes after it, and with its stop bit missing.
 fn run_agrees<E: Endianness>(order: Order, bits: u32, run: u32, stop: bool) -> bool {
     let mut bytes = [if stop { 0x00u8 } else { 0xff }; 48];
@@ -166,7 +166,7 @@ fn differing_runs<E: Endianness>(order: Order, bits: u32) -> u32 {
     differing
 }
 
-/// Returns true if a reader has left these bytes, of which no bit is taken.
+/// Returns true if these bytes are left to a reader, and none of their bits is taken.
 fn leaves<E: Endianness>(reader: &SliceReader<E>, bytes: &[u8]) -> bool {
     let bits = (bytes.len() as u64).wrapping_mul(8);
     (reader.rest() == bytes)
@@ -184,7 +184,7 @@ fn gives<E: Endianness>(reader: &mut SliceReader<E>, bytes: &[u8]) -> bool {
     same & leaves(reader, &[]) & matches!(reader.read_bit(), Err(Error::EndOfInput))
 }
 
-/// Returns true if the part exists and has these bytes.
+/// Returns true if there is a part and it has these bytes.
 fn has_part<E: Endianness>(part: Result<SliceReader<'_, E>, Error>, bytes: &[u8]) -> bool {
     match part {
         Ok(mut part) => gives(&mut part, bytes),
@@ -192,8 +192,8 @@ fn has_part<E: Endianness>(part: Result<SliceReader<'_, E>, Error>, bytes: &[u8]
     }
 }
 
-/// Returns true if `count` bytes after some bits are taken, lent or as a part, or refused if there
-/// are too few.
+/// Returns true if `count` bytes after some bits are taken, lent or as a part. If there are too few
+/// bytes, the calls must fail.
 fn part_agrees<E: Endianness>(bytes: &[u8], bits: u32, count: usize) -> bool {
     let (mut lends, mut parts) = (SliceReader::<E>::over(bytes), SliceReader::<E>::over(bytes));
     let skipped = lends.skip(bits).is_ok() & parts.skip(bits).is_ok();
@@ -227,7 +227,7 @@ fn differing_parts<E: Endianness>(bits: u32) -> u32 {
 /// The kinds of calls that need more bits than three bytes have.
 const TOO_LONG: u32 = 9;
 
-/// Returns the error of a call of a kind, each for more bits than three bytes of zeros have.
+/// Returns the error of a call of a kind that needs more bits than three bytes of zeros have.
 fn too_long<E: Endianness>(reader: &mut SliceReader<E>, kind: u32) -> Option<Error> {
     match kind {
         0 => reader.skip(25).err(),
@@ -253,7 +253,7 @@ fn stays_in_place<E: Endianness>(bits: u32, kind: u32) -> bool {
     skipped & ended & failed & place & left & !reader.is_at_end()
 }
 
-/// Returns the number of kinds of overlong calls that move after some bits.
+/// Returns the number of kinds of overlong calls that move the reader after some bits.
 fn moved_by_failing<E: Endianness>(bits: u32) -> u32 {
     let mut differing = 0u32;
     for kind in 0..TOO_LONG {

@@ -1,18 +1,18 @@
 //! Plays rows: lists of calls with their results and bytes, from several files.
 //!
-//! Each file says in its head what its rows and columns mean, and where the results come from. Each
-//! row is played over a slice or a vector, over a stream with short reads and writes of one byte,
-//! and over streams that refuse from each of its requests on. Reads of bits that go to no place
-//! after the end are played on a `SliceReader` too: over all bytes, and if they go to no place,
-//! over the bytes cut off at each length. Writes go to a counter and to a recorder too. Buffers of
-//! each length are written and read at each place in a byte. Words, runs and parts of bytes in
-//! memory are read at each place, too.
+//! The head of each file states what its rows and columns mean, and the source of the results. Each row
+//! is played over a slice or a vector, over a stream with short reads and writes of one byte, and over
+//! streams that fail from each of its requests on. Rows that read bits and go to no place after the end
+//! are played on a `SliceReader` too. Rows that seek nowhere are also played over the bytes cut off at
+//! each length. Rows that write are played on a counter and on a recorder too. Buffers of each length
+//! are written and read at each place in a byte. Words, runs and parts of bytes in memory are read at
+//! each place, too.
 //!
 //! The program fails if a row or a buffer differs, or if a row has a form, a width or a constant that the
 //! player does not know.
 #![tactic(auto)]
 
-/// A function at the unsigned type of a size.
+/// Returns a function at the unsigned type of a size.
 macro_rules! unsigned {
     ($size:expr, $function:ident($($argument:expr),+)) => {
         match $size {
@@ -25,7 +25,7 @@ macro_rules! unsigned {
     };
 }
 
-/// A function at the signed type of a size.
+/// Returns a function at the signed type of a size.
 macro_rules! signed {
     ($size:expr, $function:ident($($argument:expr),+)) => {
         match $size {

@@ -16,8 +16,7 @@ pub enum Memory<'a> {
 }
 
 impl<'a> Memory<'a> {
-    /// A cursor over bytes, where the calls begin: at the byte to which their first one sets it, or at
-    /// the first byte.
+    /// Returns a cursor over bytes at the byte to which the first call sets it, or at the first byte.
     pub fn cursor(bytes: &'a [u8], calls: &[Call<'_>]) -> Result<Memory<'a>, Objection> {
         let mut cursor = Cursor::new(bytes);
         if let Some(call) = calls.first() {

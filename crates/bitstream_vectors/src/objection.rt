@@ -5,9 +5,9 @@ use std::alloc::{AllocError, AllocFailed};
 /// The differences between a row and a play.
 #[derive(Clone, Copy, Drop)]
 pub enum Difference {
-    /// The row is of a form that the head of its file does not name.
+    /// The row has a form that the head of its file does not name.
     Form,
-    /// A call has a width, a greatest number or a constant for which the player has no line.
+    /// A call has a width, a greatest number or a constant that no table of the player has.
     Unlisted,
     /// A result over std's bytes in memory.
     Answer,
@@ -17,9 +17,9 @@ pub enum Difference {
     InMemory,
     /// A result over a stream with short reads and writes of one byte.
     Short,
-    /// A result, the requests or the bytes over a stream that refuses.
+    /// A result, the requests or the bytes over a stream that fails.
     Refused,
-    /// The bytes, or the number moved.
+    /// The bytes, or their number.
     Bytes,
     /// The place in bits.
     Place,
@@ -54,14 +54,14 @@ impl Difference {
 /// The reasons that a row does not hold.
 #[derive(Clone, Copy, Drop)]
 pub enum Objection {
-    /// A fact of the row does not hold.
+    /// The row and a play differ.
     Differs(Difference),
-    /// Memory was refused.
+    /// An allocation failed.
     OutOfMemory,
 }
 
 impl Objection {
-    /// A row whose form is none that the head of its file names.
+    /// A row with a form that the head of its file does not name.
     pub const BAD_FORM: Objection = Objection::Differs(Difference::Form);
 
     /// A row with a number that is in no table of the player.
@@ -80,7 +80,7 @@ impl<T: Drop> From<AllocFailed<T>> for Objection {
     }
 }
 
-/// Objects where something does not hold.
+/// Objects if something does not hold.
 pub fn agrees(holds: bool, what: Difference) -> Result<(), Objection> {
     if holds {
         Ok(())

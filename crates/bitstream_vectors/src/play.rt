@@ -16,14 +16,14 @@ use std::alloc::Global;
 use std::io::{ErrorKind, Read, Seek, SeekFrom};
 use test_streams::{Count, Refuse, Short};
 
-/// A request that a stream refuses, as each later one.
+/// A request that a stream fails, with each later one.
 #[derive(Clone, Copy, Drop)]
 pub struct Fault {
-    /// The number of requests that it serves before.
+    /// The number of requests that it serves before the failed one.
     pub served: u32,
-    /// The kind of the refusal.
+    /// The kind of the I/O error.
     pub kind: ErrorKind,
-    /// The place of the call that makes the request.
+    /// The index of the call that makes the request.
     pub call: usize,
     /// True if the request is a seek.
     pub seeks: bool,
@@ -32,21 +32,21 @@ pub struct Fault {
 /// The behavior of the stream of a play.
 #[derive(Clone, Copy, Drop)]
 pub enum Way {
-    /// It moves the bytes that it has room for.
+    /// It moves all bytes that it has room for at once.
     Plain,
-    /// It does so, and is the library's own source of bytes in memory.
+    /// The same, from the library's own source of bytes in memory.
     Slice,
     /// It has short reads and writes of one byte.
     Short,
-    /// It refuses requests from one on.
+    /// It fails each request from one on.
     Refused(Fault),
-    /// No stream: the library's reader of bytes in memory reads them, up to the call that needs
-    /// more bits.
+    /// There is no stream: the library's reader of bytes in memory reads them, up to the first call
+    /// that needs more bits.
     Cut(usize),
 }
 
 impl Fault {
-    /// Returns the result of the call whose request is refused.
+    /// Returns the result of the call whose request fails.
     fn answer(self, kind: Kind) -> &'static str {
         match (kind, self.kind) {
             (Kind::Read, ErrorKind::UnexpectedEof) if !self.seeks => "EndOfInput",
@@ -54,7 +54,7 @@ impl Fault {
         }
     }
 
-    /// Returns the result of a call whose seek is refused, or whose bytes are not taken.
+    /// Returns the result of a call whose seek fails, or whose bytes are not taken.
     fn answer_of_seek(self) -> &'static str {
         match self.kind {
             ErrorKind::OutOfMemory => "OutOfMemory",
@@ -62,9 +62,9 @@ impl Fault {
         }
     }
 
-    /// Returns the result of a call after the refused one. On a reader or writer of bits: that it
-    /// has failed, unless it seeks, which is refused again. On one of bytes: the refusal again,
-    /// unless it asks for nothing.
+    /// Returns the result of a call after the failed one. On a reader or writer of bits, it is that it
+    /// has failed; a call that seeks gets the I/O error again. On a reader or writer of bytes, it is
+    /// the I/O error again, unless the call makes no request.
     fn later_answer<'a>(self, row: &Row<'_>, call: &Call<'a>) -> &'a str {
         match row.layer {
             Layer::Bits if call.recovers() => self.answer_of_seek(),
@@ -76,8 +76,8 @@ impl Fault {
 }
 
 impl Way {
-    /// Returns the result of a call of a row on this stream. Before the refused call: the row's
-    /// result; at it: the refusal; after it: `later_answer`.
+    /// Returns the result of a call of a row on this stream. Before the failed call, it is the row's
+    /// result; at it, the I/O error; after it, `later_answer`.
     fn answer<'a>(self, row: &Row<'_>, at: usize, call: &Call<'a>) -> &'a str {
         match self {
             Way::Refused(fault) if at == fault.call => fault.answer(row.kind),
@@ -88,7 +88,7 @@ impl Way {
         }
     }
 
-    /// Returns the difference to report if a result differs.
+    /// Returns the difference to report if a result is wrong.
     fn difference(self) -> Difference {
         match self {
             Way::Plain => Difference::Answer,
@@ -105,20 +105,19 @@ impl Way {
 pub struct Moved {
     /// The number of requests.
     pub requests: u64,
-    /// The number of refused requests.
+    /// The number of failed requests.
     pub refused: u64,
-    /// The index of the current byte of the stream that was read, or the number of bytes that were
-    /// handed on.
+    /// The index of the current byte of a stream that is read, or the number of bytes handed on.
     pub bytes: usize,
 }
 
 /// A reader or writer on which calls are made.
 trait Stage {
-    /// Makes a call, and returns true if the result is as wanted.
+    /// Makes a call, and returns true if the result is the expected one.
     fn call(&mut self, alloc: Global, call: &Call<'_>, want: &str) -> Result<bool, Objection>;
 }
 
-/// Makes calls of places, and all others as a reader does.
+/// Makes a call for a place itself, and any other call as a reader does.
 macro_rules! stage_with_places {
     ($self:ident, $alloc:ident, $call:ident, $want:ident) => {
         match $call.form {
@@ -140,7 +139,7 @@ impl<R: SeekSource, E: Endianness> Stage for BitReader<R, E> {
     }
 }
 
-/// The place in bits that is sought.
+/// The place of a seek, in bits.
 fn target(whence: Whence, value: &str) -> Result<SeekFrom, Objection> {
     match whence {
         Whence::Start => Ok(SeekFrom::Start(number(value)?)),
@@ -188,7 +187,7 @@ fn make_calls<S: Stage>(
     Ok(())
 }
 
-/// Returns the stream of a way.
+/// Returns the stream with a behavior.
 fn stream_of<S>(inner: S, way: Way) -> Count<Refuse<Short<S>>> {
     let short = matches!(way, Way::Short);
     let (left, kind) = match way {
@@ -243,8 +242,8 @@ fn read_bytes<E: Endianness + Drop>(
     })
 }
 
-/// Makes the read calls of a row on bytes in memory. The call `last` is the first that needs more
-/// bits. Returns the number of bits read.
+/// Makes the read calls of a row on bytes in memory. The call at the index `last` is the first that
+/// needs more bits. Returns the number of bits read.
 fn read_memory<E: Endianness>(
     alloc: Global,
     row: &Row<'_>,
@@ -269,8 +268,8 @@ pub fn play_memory(
     }
 }
 
-/// Makes write calls on a counter and on a recorder. Objects if their bits differ from the bits of
-/// a writer, whose whole bytes these are.
+/// Makes write calls on a counter and on a recorder. Objects if their bits differ from the bits of a
+/// writer, which wrote these whole bytes.
 fn write_beside<E: Endianness + Drop>(
     alloc: Global,
     calls: &[Call<'_>],
@@ -289,8 +288,9 @@ fn write_beside<E: Endianness + Drop>(
     agrees(recorded && same && counted, Difference::Beside)
 }
 
-/// Makes write calls on a writer of bits, and if its stream is plain, on a counter and on a
-/// recorder too. Returns the number of requests that the writer made, and the number refused.
+/// Makes write calls on a writer of bits, and also on a counter and on a recorder if its stream serves
+/// all requests at once. Returns the number of requests that the writer made, and how many of them
+/// failed.
 fn write_bits<E: Endianness + Drop>(
     alloc: Global,
     written: &mut Vec<u8>,
@@ -308,8 +308,8 @@ fn write_bits<E: Endianness + Drop>(
     Ok(moved)
 }
 
-/// Makes write calls on a writer of bytes. Returns the number of requests that they made, and the
-/// number refused.
+/// Makes write calls on a writer of bytes. Returns the number of requests that they made, and how many
+/// of them failed.
 fn write_whole_bytes<E: Endianness>(
     alloc: Global,
     written: &mut Vec<u8>,
@@ -323,7 +323,7 @@ fn write_whole_bytes<E: Endianness>(
     Ok((stream.requests, stream.refused))
 }
 
-/// Makes write calls, whose bytes are a beginning of those that a row has.
+/// Makes write calls, and objects if the bytes written are not a prefix of the row's bytes.
 fn write_bytes<E: Endianness + Drop>(
     alloc: Global,
     row: &Row<'_>,

@@ -16,7 +16,7 @@ use std::alloc::Global;
 use std::num::{NonZero, ParseIntError};
 use std::str::FromStr;
 
-/// Makes a read call, and returns true if the result is as wanted.
+/// Makes a read call, and returns true if the result is the expected one.
 pub fn read_call<R: BitRead + WholeRead>(
     alloc: Global,
     reader: &mut R,
@@ -37,8 +37,8 @@ pub fn read_call<R: BitRead + WholeRead>(
     }
 }
 
-/// Makes a call that reads a number or a truth in `bits` bits, or digits, or that asks for the end
-/// of a byte or moves to it.
+/// Makes a call that reads a number or a truth in `bits` bits, or digits, or that moves to the end of a
+/// byte or asks for it.
 fn read_in_bits<R: BitRead>(
     reader: &mut R,
     form: Form,
@@ -64,7 +64,7 @@ fn read_in_bits<R: BitRead>(
     }
 }
 
-/// Moves to the end of a byte, which is always done.
+/// Moves to the end of a byte, which cannot fail.
 fn align<R: BitRead>(reader: &mut R, want: &str) -> bool {
     reader.byte_align();
     want == "ok"
@@ -98,7 +98,7 @@ fn is_truth(want: &str, answer: Result<bool, Error>) -> bool {
     }
 }
 
-/// Reads a value that is spelled directly.
+/// Reads a value of a row.
 fn read_value<I: Integer + FromStr<Err = ParseIntError> + PartialEq + Drop, R: BitRead>(
     reader: &mut R,
     bits: u32,
@@ -134,8 +134,7 @@ fn read_optional<R: BitRead>(reader: &mut R, size: Size, bits: u32, want: &str) 
     }
 }
 
-/// Reads a number in at most 128 bits, in a counted number of bits, at the types that the rows
-/// have.
+/// Reads a number in at most 128 bits, in a counted number of bits, at the types in the rows.
 fn read_counted<R: BitRead>(
     reader: &mut R,
     number: Number,
@@ -153,7 +152,7 @@ fn read_counted<R: BitRead>(
     }
 }
 
-/// Reads a number only by the calls for words, at the types that the rows have.
+/// Reads a number only by the calls for words, at the types in the rows.
 fn read_word<R: BitRead>(
     reader: &mut R,
     number: Number,

@@ -13,13 +13,13 @@ use std::alloc::Global;
 struct Played {
     /// The number of bits that it holds.
     recorded: u32,
-    /// The order of the writer to which it is played.
+    /// The order of the writer on which it is played.
     to: Order,
     /// The bits written before: their number, and their value.
     behind: (u32, u8),
 }
 
-/// Splits a text on a recorder into its words: `to ORDER ; behind N V ; recorded L`.
+/// Splits a text about a recorder into its words: `to ORDER ; behind N V ; recorded L`.
 fn played_of(text: &str) -> Option<(&str, &str, &str, &str)> {
     let (to, rest) = text.strip_prefix("to ")?.split_once(" ; behind ")?;
     let (behind, recorded) = rest.split_once(" ; recorded ")?;
@@ -41,7 +41,7 @@ impl Played {
     }
 }
 
-/// The best of a recorder and a new one that is given calls.
+/// Returns the shorter of a recorder and a new one on which calls are made.
 fn best_of<E: Endianness + Drop>(
     alloc: Global,
     recorder: Recorder<E>,
@@ -51,7 +51,7 @@ fn best_of<E: Endianness + Drop>(
     recorder.best(&mut candidate, |candidate| give(alloc, candidate, calls))
 }
 
-/// Makes a call on a recorder, which is another one if it is `best`.
+/// Makes a call on a recorder. The call `best` replaces the recorder by the shorter one.
 fn record_call<E: Endianness + Drop>(
     alloc: Global,
     mut recorder: Recorder<E>,
@@ -68,7 +68,7 @@ fn record_call<E: Endianness + Drop>(
     Ok(recorder)
 }
 
-/// Plays a recorder to a writer after some bits, and aligns it.
+/// Plays a recorder on a writer after some bits, and aligns the writer.
 fn play_behind<E: Endianness, W: BitWrite>(
     recorder: &Recorder<E>,
     writer: &mut W,
@@ -79,7 +79,7 @@ fn play_behind<E: Endianness, W: BitWrite>(
     writer.byte_align()
 }
 
-/// Plays a recorder to a new writer of an order, as [`play_behind`].
+/// Plays a recorder on a new writer of an order, as [`play_behind`].
 fn play_to<E: Endianness, F: Endianness>(
     recorder: &Recorder<E>,
     written: &mut Vec<u8>,
@@ -110,7 +110,7 @@ fn record_in<E: Endianness + Drop>(
     agrees(written.as_slice() == bytes, Difference::Bytes)
 }
 
-/// Plays a row of a recorder's order, its calls, the bytes written, and the use of the recorder.
+/// Plays a row with the order of a recorder, its calls, the bytes written, and the use of the recorder.
 pub fn play_record(
     alloc: Global,
     order: &str,

@@ -8,21 +8,21 @@ use crate::row::{Kind, Layer, Row};
 use std::alloc::Global;
 use std::io::ErrorKind;
 
-/// The kinds of refusals of streams that are read.
+/// The error kinds of streams that are read.
 const READ_FAULTS: [ErrorKind; 3] = [
     ErrorKind::ConnectionReset,
     ErrorKind::OutOfMemory,
     ErrorKind::UnexpectedEof,
 ];
 
-/// The kinds of refusals of streams that are written.
+/// The error kinds of streams that are written.
 const WRITE_FAULTS: [ErrorKind; 3] = [
     ErrorKind::BrokenPipe,
     ErrorKind::OutOfMemory,
     ErrorKind::UnexpectedEof,
 ];
 
-/// Plays a row, and one with symbols again, by the words of their trees.
+/// Plays a row. A row with symbols is played again with the code words of their trees.
 ///
 /// # Errors
 ///
@@ -48,8 +48,8 @@ fn play_line(alloc: Global, line: &str) -> Result<(), Objection> {
     }
 }
 
-/// Plays a row with facts about the state after its calls: of a counter, with its type instead of
-/// an order, of a recorder, or of a reader or writer.
+/// Plays a row with facts about the state after its calls. The row is of a counter (with its type
+/// instead of an order), of a recorder, or of a reader or writer.
 fn play_row(
     alloc: Global,
     kind: &str,
@@ -65,8 +65,8 @@ fn play_row(
     }
 }
 
-/// Plays a row over its stream, over a stream with short reads and writes, over a `Slice`, over
-/// streams that refuse from each of its requests on, and on the reader of bytes in memory.
+/// Plays a row over its stream, over a stream with short reads and writes, over a `Slice`, over streams
+/// that fail from each of its requests on, and on the reader of bytes in memory.
 fn play_stream(alloc: Global, row: &Row<'_>) -> Result<(), Objection> {
     let steps = steps_of(alloc, row)?;
     play_whole(alloc, row, Way::Plain)?;
@@ -83,7 +83,7 @@ fn play_stream(alloc: Global, row: &Row<'_>) -> Result<(), Objection> {
     refuse_each(alloc, row, &steps)
 }
 
-/// Returns the effect of the calls before each call, and then of all of them.
+/// Returns the effect of the calls before each call, and last the effect of all calls.
 fn steps_of(alloc: Global, row: &Row<'_>) -> Result<Vec<Moved>, Objection> {
     let calls = row.calls.as_slice();
     let mut steps = Vec::new(alloc);
@@ -94,8 +94,7 @@ fn steps_of(alloc: Global, row: &Row<'_>) -> Result<Vec<Moved>, Objection> {
     Ok(steps)
 }
 
-/// Plays a whole row over a stream that serves each request, and compares the state after its calls
-/// with the row.
+/// Plays a whole row over a stream that serves each request, and compares the state after its calls with the row.
 fn play_whole(alloc: Global, row: &Row<'_>, way: Way) -> Result<(), Objection> {
     let moved = play(alloc, row, &row.calls, way)?;
     let after = row.after;
@@ -124,8 +123,8 @@ fn agrees_with<T: Copy + PartialEq>(
     }
 }
 
-/// Objects if a row's reader is not at the bit `place` of its stream: the reader reports that
-/// place, the bits left follow one by one, and then the input ends.
+/// Objects if a row's reader is not at the bit `place` of its stream. The reader must report that
+/// place, read the remaining bits one by one, and then meet the end of input.
 fn stands_at(
     alloc: Global,
     row: &Row<'_>,
@@ -142,8 +141,7 @@ fn stands_at(
     }
 }
 
-/// Returns the calls of a row, and then calls that ask for its place, and read its bits from there
-/// on, and its end.
+/// Returns the calls of a row, and then calls that ask for its place, read the remaining bits, and meet the end.
 fn with_rest<'a>(alloc: Global, row: &Row<'a>, place: usize) -> Result<Vec<Call<'a>>, Objection> {
     let mut calls: Vec<Call<'a>> = row.calls.iter().copied().collect(alloc)?;
     calls.push(Call::asks_place(place as u64))?;
@@ -154,7 +152,7 @@ fn with_rest<'a>(alloc: Global, row: &Row<'a>, place: usize) -> Result<Vec<Call<
     Ok(calls)
 }
 
-/// A bit of a row's bytes, in its order.
+/// Returns a bit of a row's bytes, in its order.
 fn bit_at(row: &Row<'_>, at: usize) -> &'static str {
     if row.order.bit(row.bytes.as_slice(), at) == 1 {
         "1"
@@ -163,7 +161,7 @@ fn bit_at(row: &Row<'_>, at: usize) -> &'static str {
     }
 }
 
-/// Plays a row on the reader of bytes in memory, over bytes that are cut off at each length.
+/// Plays a row on the reader of bytes in memory, over its bytes cut off at each length.
 fn cut_each(alloc: Global, row: &Row<'_>, steps: &[Moved]) -> Result<(), Objection> {
     for len in 0..row.bytes.len() {
         let last = steps
@@ -176,7 +174,7 @@ fn cut_each(alloc: Global, row: &Row<'_>, steps: &[Moved]) -> Result<(), Objecti
     Ok(())
 }
 
-/// Plays a row on the reader of bytes in memory, over all of them.
+/// Plays a row on the reader of bytes in memory, over all its bytes.
 fn read_all(alloc: Global, row: &Row<'_>) -> Result<(), Objection> {
     let read = play_memory(alloc, row, &row.bytes, row.calls.len())?;
     match row.after.place {
@@ -185,7 +183,7 @@ fn read_all(alloc: Global, row: &Row<'_>) -> Result<(), Objection> {
     }
 }
 
-/// Plays a row over streams that refuse from each request on that it makes.
+/// Plays a row over streams that fail from each of its requests on.
 fn refuse_each(alloc: Global, row: &Row<'_>, steps: &[Moved]) -> Result<(), Objection> {
     let requests = steps.last().map_or(0, |whole| whole.requests);
     for served in 0..requests {
@@ -194,7 +192,7 @@ fn refuse_each(alloc: Global, row: &Row<'_>, steps: &[Moved]) -> Result<(), Obje
     Ok(())
 }
 
-/// Plays a row over streams that serve `served` requests, and refuse each later one.
+/// Plays a row over streams that serve `served` requests, and fail each later one.
 fn refuse(alloc: Global, row: &Row<'_>, steps: &[Moved], served: u64) -> Result<(), Objection> {
     let call = steps
         .iter()
@@ -219,15 +217,15 @@ fn refuse(alloc: Global, row: &Row<'_>, steps: &[Moved], served: u64) -> Result<
     Ok(())
 }
 
-/// Returns true if the request of a call that comes after `served` requests is a seek.
+/// Returns true if the request of a call after `served` requests is a seek.
 fn seeks_at(row: &Row<'_>, steps: &[Moved], call: usize, served: u64) -> bool {
     let before = steps.get(call).map_or(0, |step| step.requests);
     let seeks = row.calls.get(call).map_or(0, |call| call.seeks());
     served.saturating_sub(before) < seeks
 }
 
-/// Requests made from the refused one on. Bits: that one, and later seeks. Bytes: one for each later
-/// call that asks for anything.
+/// Returns the number of requests from the failed one on. For bits, they are the failed one and later
+/// seeks. For bytes, they are one for each later call that makes a request.
 fn refusals(row: &Row<'_>, fault: Fault) -> u64 {
     match row.layer {
         Layer::Bits => {
@@ -241,9 +239,9 @@ fn refusals(row: &Row<'_>, fault: Fault) -> u64 {
     }
 }
 
-/// Objects if the number of requests is not the number of refused ones and of the ones before.
-/// Objects if other bytes moved than the bytes of the calls before and a part of the bytes of the
-/// refused call. (If calls seek, the bytes are not compared.)
+/// Objects if the number of requests is not the sum of the failed ones and the ones before. Objects if
+/// the bytes moved are not the bytes of the earlier calls and then a part of the bytes of the failed
+/// call. (If calls seek, the bytes are not compared.)
 fn stops_at(row: &Row<'_>, steps: &[Moved], fault: Fault, moved: Moved) -> Result<(), Objection> {
     let refusals = refusals(row, fault);
     let requests = u64::from(fault.served).saturating_add(refusals);

@@ -44,7 +44,7 @@ pub struct Row<'a> {
     pub layer: Layer,
     pub kind: Kind,
     pub order: Order,
-    /// The calls, of a row that writes bits with the last alignment, if it has one.
+    /// The calls. If the row writes bits and ends with an alignment, the alignment is the last call.
     pub calls: Vec<Call<'a>>,
     /// The bytes to read, or the bytes written after the calls.
     pub bytes: Vec<u8>,
@@ -62,17 +62,16 @@ pub struct After {
     pub requests: Option<u64>,
     /// The greatest number of requests.
     pub most_requests: Option<u64>,
-    /// True if the bytes were handed on by the calls, with no last alignment.
+    /// True if the calls alone handed on the bytes, with no alignment at the end.
     pub unpadded: bool,
 }
 
 impl<'a> Row<'a> {
-    /// Parses a row of a kind, an order, calls, bytes and, if it has them, facts about the state
-    /// after the calls.
+    /// Parses a row from a kind, an order, calls, bytes and optional facts about the state after the calls.
     ///
     /// # Errors
     ///
-    /// If the row has a bad form.
+    /// If the row is malformed.
     pub fn parse(
         alloc: Global,
         kind: &str,
@@ -102,26 +101,26 @@ impl<'a> Row<'a> {
         })
     }
 
-    /// Returns true if its stream does not begin at its first byte.
+    /// Returns true if its stream begins after the first byte.
     pub fn begins_elsewhere(&self) -> bool {
         self.calls
             .first()
             .is_some_and(|call| matches!(call.form, Form::Cursor))
     }
 
-    /// Returns true if a call of it asks for its place, or goes to one.
+    /// Returns true if one of its calls asks for the place, or seeks.
     pub fn has_places(&self) -> bool {
         self.calls.iter().any(|call| call.seeks() > 0 || matches!(call.form, Form::Cursor))
     }
 
-    /// Returns true if it begins at its first byte, and each seek of it goes to a place among its
+    /// Returns true if its stream begins at the first byte, and each seek goes to a place among its
     /// bytes, or to their end.
     pub fn stays_within(&self) -> bool {
         let bits = (self.bytes.len() as u64).saturating_mul(8);
         !self.begins_elsewhere() && self.calls.iter().all(|call| call.stays_within(bits))
     }
 
-    /// Returns true if a call of it seeks, or its stream does not begin at its first byte.
+    /// Returns true if one of its calls seeks, or its stream begins after the first byte.
     pub fn seeks(&self) -> bool {
         self.calls
             .iter()
@@ -139,7 +138,7 @@ fn kind_of(name: &str) -> Result<(Layer, Kind), Objection> {
     }
 }
 
-/// The order that a name spells.
+/// Returns the order with this name.
 pub fn order_of(name: &str) -> Result<Order, Objection> {
     match name {
         "be" => Ok(Order::Big),
@@ -148,7 +147,7 @@ pub fn order_of(name: &str) -> Result<Order, Objection> {
     }
 }
 
-/// The calls of a list.
+/// Parses a list of calls.
 pub fn calls_of<'a>(alloc: Global, kind: Kind, list: &'a str) -> Result<Vec<Call<'a>>, Objection> {
     let mut calls = Vec::new(alloc);
     for spelled in list.split(';') {
@@ -180,7 +179,7 @@ impl After {
         self.place.is_some() || self.unpadded
     }
 
-    /// Notes a fact: its name, and mostly a number.
+    /// Notes a fact: its name, and usually a number.
     fn note(&mut self, fact: &str) -> Result<(), Objection> {
         let (name, value) = fact.split_once(' ').unwrap_or((fact, ""));
         match name {

@@ -1,4 +1,4 @@
-//! Write calls of the rows, on sinks of bits, and recorders that are given calls.
+//! Write calls of the rows, on sinks of bits, and calls on recorders.
 use crate::answer::is_done;
 use crate::call::Call;
 use crate::form::Form;
@@ -25,7 +25,7 @@ pub fn call_sink<W: BitWrite>(
     Ok(())
 }
 
-/// Gives calls, with a stroke between them, to a recorder, whatever their results.
+/// Makes calls on a recorder, with a stroke between them, and ignores their results.
 pub fn give<E: Endianness>(
     alloc: Global,
     recorder: &mut Recorder<E>,
@@ -41,7 +41,7 @@ pub fn give<E: Endianness>(
     Ok(())
 }
 
-/// Gives calls to a new recorder, and plays it.
+/// Makes calls on a new recorder, and plays it.
 fn play_calls<E: Endianness + Drop, W: BitWrite>(
     alloc: Global,
     writer: &mut W,
@@ -52,7 +52,7 @@ fn play_calls<E: Endianness + Drop, W: BitWrite>(
     Ok(recorder.playback(writer))
 }
 
-/// Makes a write call, or plays a recorder, and returns true if the result is as wanted.
+/// Makes a write call, or plays a recorder, and returns true if the result is the expected one.
 pub fn sink_call<W: BitWrite>(
     alloc: Global,
     writer: &mut W,

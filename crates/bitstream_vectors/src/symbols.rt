@@ -7,7 +7,7 @@ use bitstream_io::huffman::{HuffmanTree, LimitedUnary};
 use bitstream_io::{BitRead, BitReadExt, BitWrite, BitWriteExt};
 use std::alloc::{AllocError, Global};
 
-/// A code whose words are the paths of a tree.
+/// A code whose code words are the paths of a tree.
 type Code = HuffmanTree<u32, Global>;
 
 /// A tree of one symbol.
@@ -15,7 +15,7 @@ fn leaf(alloc: Global, symbol: u32) -> Result<Code, AllocError> {
     HuffmanTree::leaf(alloc, symbol)
 }
 
-/// A tree of two, if memory for both was there.
+/// A tree of two trees, if the allocation of both succeeded.
 fn node(zero: Result<Code, AllocError>, one: Result<Code, AllocError>) -> Result<Code, AllocError> {
     HuffmanTree::node(zero?, one?)
 }
@@ -36,7 +36,7 @@ fn code(alloc: Global, tree: Tree) -> Result<Code, AllocError> {
     }
 }
 
-/// Reads a symbol of a tree, and returns true if the result is as wanted.
+/// Reads a symbol of a tree, and returns true if the result is the expected one.
 pub fn read_symbol<R: BitRead>(
     alloc: Global,
     reader: &mut R,
@@ -62,7 +62,7 @@ pub fn write_symbol<W: BitWrite>(
     })
 }
 
-/// Reads a run of at most `most` digits, and returns true if the result is as wanted.
+/// Reads a run of at most `most` digits, and returns true if the result is the expected one.
 pub fn read_limited<R: BitRead>(
     reader: &mut R,
     stop: bool,
@@ -80,7 +80,7 @@ pub fn read_limited<R: BitRead>(
     Ok(is_optional(want, answer))
 }
 
-/// Writes the run of at most `most` digits that a text spells: a number, or none.
+/// Writes the run that a text spells: at most `most` digits, a number or none.
 pub fn write_limited<W: BitWrite>(writer: &mut W, stop: bool, most: u32, value: &str) -> Answer {
     let run: Option<u32> = match value {
         "none" => None,

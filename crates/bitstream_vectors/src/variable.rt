@@ -76,7 +76,7 @@ impl<R: BitRead> GroupedCall for Reading<'_, R> {
     }
 }
 
-/// No call that writes is lenient.
+/// No write call is lenient.
 impl<W: BitWrite> GroupedCall for Writing<'_, W> {
     #[inline(never)]
     fn strict<F: Width, I>(&mut self) -> Result<bool, Objection>

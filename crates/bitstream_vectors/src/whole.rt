@@ -1,4 +1,4 @@
-//! Calls for whole bytes, which readers and writers of bits and of bytes have in common.
+//! Calls for whole bytes, which readers and writers of bits and of bytes share.
 use crate::answer::{Answer, are_bytes, bytes_of, error_name, is_done, is_number};
 use crate::call::{Call, number};
 use crate::form::{ByteOrder, Form, Number, Size};
@@ -11,7 +11,7 @@ use std::alloc::Global;
 use std::num::ParseIntError;
 use std::str::FromStr;
 
-/// Reads whole bytes, by the calls of its layer.
+/// Reads whole bytes, with the calls of its layer.
 pub trait WholeRead {
     /// Reads a primitive in an order of bytes.
     fn primitive<V: Primitive>(&mut self, order: ByteOrder) -> Result<V, Error>;
@@ -22,7 +22,7 @@ pub trait WholeRead {
     /// Reads a vector of `bytes` bytes.
     fn vector(&mut self, alloc: Global, bytes: u32) -> Result<Vec<u8>, Error>;
 
-    /// Skips `count` bits or bytes, as its layer counts.
+    /// Skips `count` bits or bytes, whichever its layer counts.
     fn pass(&mut self, count: u32) -> Result<(), Error>;
 }
 
@@ -93,7 +93,7 @@ impl<R: Source, E: Endianness> WholeRead for ByteReader<R, E> {
     }
 }
 
-/// Writes whole bytes, by the calls of its layer.
+/// Writes whole bytes, with the calls of its layer.
 pub trait WholeWrite {
     /// Writes a primitive in an order of bytes.
     fn primitive<V: Primitive>(&mut self, order: ByteOrder, value: V) -> Result<(), Error>;
@@ -101,7 +101,7 @@ pub trait WholeWrite {
     /// Writes the bytes of a buffer.
     fn send(&mut self, bytes: &[u8]) -> Result<(), Error>;
 
-    /// Writes `count` zeros, bits or bytes, as its layer counts.
+    /// Writes `count` zeros, as bits or bytes, whichever its layer counts.
     fn zeros(&mut self, count: u32) -> Result<(), Error>;
 }
 

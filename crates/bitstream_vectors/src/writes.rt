@@ -15,7 +15,7 @@ use std::alloc::Global;
 use std::num::{NonZero, ParseIntError};
 use std::str::FromStr;
 
-/// Makes a write call, and returns true if the result is as wanted.
+/// Makes a write call, and returns true if the result is the expected one.
 pub fn write_call<W: BitWrite>(
     alloc: Global,
     writer: &mut W,
@@ -84,7 +84,7 @@ fn write_unary<W: BitWrite>(writer: &mut W, stop: bool, value: &str) -> Answer {
     })
 }
 
-/// The truth that a binary digit spells.
+/// Returns the truth that a binary digit spells.
 fn truth(digit: &str) -> Result<bool, Objection> {
     match digit {
         "0" => Ok(false),
@@ -109,8 +109,7 @@ fn write_number<W: BitWrite>(writer: &mut W, number: Number, bits: u32, value: &
     }
 }
 
-/// Writes a number in at most 128 bits, in a counted number of bits, at the types that the rows
-/// have.
+/// Writes a number in at most 128 bits, in a counted number of bits, at the types in the rows.
 fn write_counted<W: BitWrite>(writer: &mut W, kind: Number, bits: u32, value: &str) -> Answer {
     let Ok(count) = BitCount::<128>::try_from(bits) else {
         return Err(Objection::BAD_FORM);
@@ -123,7 +122,7 @@ fn write_counted<W: BitWrite>(writer: &mut W, kind: Number, bits: u32, value: &s
     }
 }
 
-/// Writes a number only by the calls for words, at the types that the rows have.
+/// Writes a number only by the calls for words, at the types in the rows.
 fn write_word<W: BitWrite>(writer: &mut W, kind: Number, bits: u32, value: &str) -> Answer {
     Ok(match kind {
         Number::Unsigned(Size::Bits8) => writer.write_unsigned_var::<u8>(bits, number(value)?),
@@ -145,7 +144,7 @@ fn write_non_zero<W: BitWrite>(writer: &mut W, size: Size, bits: u32, value: &st
     }
 }
 
-/// Writes a number that is not 0, or none where the text spells 0.
+/// Writes a number that is not 0, or none if the text spells 0.
 fn write_any<N: FromStr<Err = ParseIntError>, W: BitWrite>(
     writer: &mut W,
     bits: u32,
@@ -191,7 +190,7 @@ fn write_bytes<W: BitWrite>(alloc: Global, writer: &mut W, bits: u32, value: &st
     Ok(writer.write_var(bits, [*a, *b, *c, *d]))
 }
 
-/// The two values that a text spells, with a comma between them.
+/// Returns the two values that a text spells, with a comma between them.
 pub fn pair_of<T: FromStr<Err = ParseIntError> + Drop>(text: &str) -> Result<[T; 2], Objection> {
     match text.split_once(',') {
         Some((first, second)) => Ok([number(first)?, number(second)?]),
@@ -199,7 +198,7 @@ pub fn pair_of<T: FromStr<Err = ParseIntError> + Drop>(text: &str) -> Result<[T;
     }
 }
 
-/// The four truths that binary digits spell.
+/// Returns the four truths that binary digits spell.
 pub fn truths_of(text: &str) -> Result<[bool; 4], Objection> {
     match text.as_bytes() {
         [a, b, c, d] => Ok([*a == b'1', *b == b'1', *c == b'1', *d == b'1']),

@@ -64,7 +64,7 @@ impl Command {
     }
 }
 
-/// Plays a command over the bytes of a file.
+/// Runs a command on the bytes of a file.
 pub fn play<W: Write, P: Write>(
     alloc: Global,
     command: Command,
@@ -130,7 +130,7 @@ struct Tally {
 }
 
 impl Tally {
-    /// Returns what came of a file, which is refused if it has no unit.
+    /// Returns the outcome of a file. A file with no unit is refused.
     fn end(self) -> Status {
         if self.count > 0 {
             self.status
@@ -146,7 +146,7 @@ impl Tally {
     }
 }
 
-/// Prints the units of a file, and reports those that are refused.
+/// Prints the units of a file, and reports the refused ones.
 pub fn show<U: ReadUnits, W: Write, P: Write>(
     alloc: Global,
     name: &str,
@@ -191,7 +191,7 @@ pub fn show<U: ReadUnits, W: Write, P: Write>(
     Ok(tally.end())
 }
 
-/// Writes the contents of the units of a file, and reports the units that are refused.
+/// Writes the contents of the units of a file, and reports the refused units.
 pub fn decode<U: ReadUnits, W: Write, P: Write>(
     alloc: Global,
     name: &str,

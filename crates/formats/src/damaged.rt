@@ -8,14 +8,14 @@ use anyhow::Error;
 use std::alloc::{AllocError, Global};
 use std::fs;
 
-/// An error, and the number of times that it came.
+/// An error, and the number of times that it occurred.
 #[derive(Drop)]
 struct Count {
     text: String,
     times: u64,
 }
 
-/// Counts an error, by its text after its place.
+/// Counts an error by its text, without its place.
 fn add(alloc: Global, counts: &mut Vec<Count>, text: &str) -> Result<(), AllocError> {
     let what = match text.rsplit_once(": ") {
         Some((_, what)) => what,
@@ -34,8 +34,8 @@ fn add(alloc: Global, counts: &mut Vec<Count>, text: &str) -> Result<(), AllocEr
     Ok(())
 }
 
-/// Flips the bits of each byte of a file one after the other, and counts the copies that are read
-/// whole and the first errors of the others.
+/// Flips the bits of each byte of a file, one byte after the other. Counts the copies that are read
+/// completely, and the first errors of the others.
 pub fn play_damaged(rt: &HostRuntime, command: Command, path: &str) -> Result<(), Error> {
     let alloc = rt.alloc();
     let mut file = fs::read(rt, path)?;
@@ -58,7 +58,7 @@ pub fn play_damaged(rt: &HostRuntime, command: Command, path: &str) -> Result<()
     Ok(())
 }
 
-/// Turns the bits of a byte.
+/// Flips the bits of a byte.
 fn turn(bytes: &mut [u8], at: usize) {
     if let Some(byte) = bytes.get_mut(at) {
         *byte = !*byte;

@@ -1,4 +1,4 @@
-//! Reads files of audio, video, transport and compression: `formats --help` prints how it is called.
+//! Reads files of audio, video, transport and compression. `formats --help` prints the usage.
 #![tactic(auto)]
 
 mod command;

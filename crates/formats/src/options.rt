@@ -1,4 +1,4 @@
-//! The words with which the program is called.
+//! The program's arguments.
 
 use crate::command::Command;
 use std::alloc::{AllocError, Global};
@@ -21,7 +21,7 @@ pub enum Style {
 pub struct Options {
     /// The style.
     pub style: Style,
-    /// The names of the elements that are printed; all if there are none.
+    /// The names of the elements to print. All elements are printed if there are no names.
     pub only: Vec<String>,
 }
 
@@ -34,7 +34,7 @@ impl Options {
         }
     }
 
-    /// Returns true if elements of a name are printed.
+    /// Returns true if elements with this name are printed.
     pub fn has(&self, name: &str) -> bool {
         if self.only.is_empty() {
             return true;
@@ -51,9 +51,9 @@ impl Options {
 /// The tasks of the program.
 #[derive(Drop)]
 pub enum Call {
-    /// Print how it is called.
+    /// Print the usage of the program.
     Help,
-    /// Print how a command is called.
+    /// Print the usage of a command.
     HelpOf(Command),
     /// Print the version.
     Version,
@@ -74,11 +74,11 @@ pub enum Usage {
     NoOption(String),
     /// An option has no value after it.
     NoValue(String),
-    /// No file is named, or the wrong number of them.
+    /// No file is named, or the wrong number of files.
     NoFile,
-    /// A command that writes the contents of a file prints no elements, and has no option.
+    /// A command that writes the contents of a file prints no elements, and takes no option.
     NoElements,
-    /// Memory was refused.
+    /// An allocation failed.
     NoMemory,
 }
 
@@ -99,7 +99,7 @@ fn is_help(word: &str) -> bool {
     matches!(word, "--help" | "-h" | "help")
 }
 
-/// Returns the command that a word names.
+/// Returns the command with this name.
 fn command(word: &String) -> Result<Command, Usage> {
     match Command::of(word.as_str()) {
         Some(command) => Ok(command),

@@ -7,13 +7,13 @@ use std::alloc::{AllocError, Global};
 use std::io;
 use std::io::Write;
 
-/// A name of a unit that is printed in JSON.
+/// A name in a unit that is printed as JSON.
 #[derive(Clone, Copy, Debug)]
 struct Name {
     text: &'static str,
-    // The place of the first element or note of this name.
+    // The index of the first element or note with this name.
     first: usize,
-    // True if the value is an array: there are several, or it has a number.
+    // True if the value is an array: several elements have the name, or it has an index.
     several: bool,
 }
 
@@ -114,7 +114,7 @@ impl Printer {
         Ok(())
     }
 
-    /// Returns true if something of a unit is printed.
+    /// Returns true if any part of a unit is printed.
     fn has_any(&self, unit: &Unit) -> bool {
         for element in unit.elements.as_slice() {
             if self.options.has(element.name) {
@@ -164,7 +164,7 @@ impl Printer {
         writeln!(out, "}}")
     }
 
-    /// Adds a name of the element or note at a place, if it is printed.
+    /// Adds the name of the element or note at an index, if it is printed.
     fn add(&mut self, text: &'static str, at: usize, numbered: bool) -> Result<(), AllocError> {
         if !self.options.has(text) {
             return Ok(());
@@ -244,7 +244,7 @@ impl Printer {
     }
 }
 
-/// Prints the text before the value of a name. The number of the name counts from 0.
+/// Prints the text before the value of a name. `number` counts names from 0.
 fn begin_member<W: Write>(out: &mut W, number: usize, name: &Name) -> io::Result<()> {
     if number > 0 {
         write!(out, ",")?;
@@ -287,7 +287,7 @@ fn print_note<W: Write>(out: &mut W, note: &Note) -> io::Result<()> {
     writeln!(out)
 }
 
-/// Prints a text in quotation marks, as JSON has it. Letters that control a terminal are printed by their numbers.
+/// Prints a text in quotation marks, as a JSON string. Terminal control characters are escaped by their numbers.
 fn print_text<W: Write>(out: &mut W, text: &str) -> io::Result<()> {
     write!(out, "\"")?;
     for letter in text.chars() {

@@ -4,35 +4,35 @@ use crate::unit::{Fault, Unit};
 use std::io;
 use std::io::{Read, Write};
 
-/// The extent of what is read, for the progress.
+/// The size of the input, for the progress.
 #[derive(Clone, Copy, Debug)]
 pub struct Extent {
-    /// The number of files of a directory that were read before.
+    /// The number of files of a directory that were read before this one.
     pub files: u64,
-    /// The bytes of the file, or 0 if their number is not known.
+    /// The number of bytes of the file, or 0 if it is not known.
     pub bytes: u64,
 }
 
 impl Extent {
-    /// Returns the extent of a reader of which nothing is known.
+    /// Returns the extent of a reader whose size is not known.
     pub fn unknown() -> Extent {
         Extent { files: 0, bytes: 0 }
     }
 }
 
-/// Reports progress, a hundredth at a time, in one line that it overwrites, and the refused units.
+/// Reports refused units, and the progress in percent, in one line that it overwrites.
 #[derive(Drop)]
 pub struct Report<P: Write> {
     out: P,
     // True if progress is shown.
     shown: bool,
     extent: Extent,
-    // The hundredths that were shown.
+    // The percentage last shown.
     told: u64,
 }
 
 impl<P: Write> Report<P> {
-    /// Returns a report over a file. It shows no progress if it is not `shown`.
+    /// Returns a report on a file. It shows progress only if `shown` is true.
     pub fn new(out: P, shown: bool, extent: Extent) -> Report<P> {
         Report {
             out,
@@ -65,7 +65,7 @@ impl<P: Write> Report<P> {
         }
     }
 
-    /// Reports a unit that was refused.
+    /// Reports a refused unit.
     pub fn refused(&mut self, file: &str, number: u64, unit: &Unit, fault: &Fault) {
         self.clear();
         let _ = writeln!(
@@ -82,14 +82,14 @@ impl<P: Write> Report<P> {
         self.out
     }
 
-    /// Reports something of a file.
+    /// Reports a text about a file.
     pub fn say(&mut self, file: &str, text: &str) {
         self.clear();
         let _ = writeln!(self.out, "formats: {file}: {text}");
     }
 }
 
-/// A reader that reports how much of it was read.
+/// A reader that reports the number of bytes read.
 #[derive(Drop)]
 pub struct Watched<R: Read, P: Write> {
     reader: R,
@@ -98,7 +98,7 @@ pub struct Watched<R: Read, P: Write> {
 }
 
 impl<R: Read, P: Write> Watched<R, P> {
-    /// Returns a reader that passes on the reads of another one, and reports them.
+    /// Returns a reader that passes each read to another reader, and reports it.
     pub fn new(reader: R, report: Report<P>) -> Watched<R, P> {
         Watched {
             reader,

@@ -23,7 +23,7 @@ pub struct Written {
 }
 
 impl Written {
-    /// Returns the first line that was reported, without the name of the program and of the file.
+    /// Returns the first reported line, without the names of the program and of the file.
     pub fn first_error(&self) -> &str {
         let text = match str::from_utf8(self.reported.as_slice()) {
             Ok(text) => text,
@@ -63,13 +63,13 @@ pub fn outcome_of(
     })
 }
 
-/// Returns the name of the element that a line spells, without its number.
+/// Returns the name of the element that a line prints, without its index.
 fn name_of(line: &str) -> &str {
     let word = line.split(' ').nth(1).unwrap_or("");
     word.split('[').next().unwrap_or("")
 }
 
-/// Returns the names of the elements of rows, each once.
+/// Returns the names of the elements in rows, each once.
 fn names_of(alloc: Global, rows: &str) -> Result<Vec<&str>, AllocError> {
     let mut names = Vec::new(alloc);
     for row in rows.lines() {
@@ -81,7 +81,7 @@ fn names_of(alloc: Global, rows: &str) -> Result<Vec<&str>, AllocError> {
     Ok(names)
 }
 
-/// Counts rows, and fails if they are not the lines of the elements of their names.
+/// Counts the rows, and fails if they are not the printed lines of the elements with their names.
 fn compare_rows(alloc: Global, written: &str, rows: &str) -> Result<u64, Error> {
     let names = names_of(alloc, rows)?;
     let mut left = rows.lines();
@@ -114,11 +114,11 @@ struct Case {
     style: Style,
 }
 
-/// Compares the results of reading each file of a list: a line has a command, a file, and a file of
-/// rows or of bytes. After the word `json` the units are printed as JSON. After the word `refused`
-/// the file has an error, which is printed. After the word `errors` there are a command, a directory
-/// and a file of the errors of its files. After the word `damaged` there are a command and a file
-/// whose damaged copies are counted.
+/// Compares the results of reading each file of a list. A line has a command, a file, and a file of
+/// rows or of bytes. After the word `json`, the units are printed as JSON. After the word `refused`,
+/// the file has an error, which is printed. After the word `errors`, the line has a command, a
+/// directory, and a file of the errors of the directory's files. After the word `damaged`, the line has
+/// a command, and a file whose damaged copies are counted.
 pub fn play_rows(rt: &HostRuntime, list: &str) -> Result<(), Error> {
     let text = fs::read_to_string(rt, list)?;
     for line in text.as_str().lines() {
@@ -148,7 +148,7 @@ pub fn play_rows(rt: &HostRuntime, list: &str) -> Result<(), Error> {
     Ok(())
 }
 
-/// Returns the command that a word names.
+/// Returns the command with this name.
 fn command_of(word: &str) -> Result<Command, Error> {
     match Command::of(word) {
         Some(command) => Ok(command),
@@ -156,7 +156,7 @@ fn command_of(word: &str) -> Result<Command, Error> {
     }
 }
 
-/// Compares the output on a file with the rows or the bytes of another one.
+/// Compares the output for a file with a file of rows or bytes.
 fn compare(
     rt: &HostRuntime,
     command: Command,
@@ -193,7 +193,7 @@ fn compare(
     Ok(())
 }
 
-/// Compares the errors of the files of a directory with those of a file.
+/// Compares the errors of the files of a directory with a file of errors.
 fn compare_errors(
     rt: &HostRuntime,
     command: Command,

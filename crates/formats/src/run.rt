@@ -15,7 +15,7 @@ use std::fs::File;
 use std::io::{BufWriter, ErrorKind, IsTerminal, Read, Write};
 use std::{env, fs, io};
 
-/// The bytes that are written at once.
+/// The number of bytes written at once.
 const OUT: usize = 65536;
 
 /// Returns the program's arguments, without its name.
@@ -39,7 +39,7 @@ pub fn run(rt: &HostRuntime) -> io::Result<u8> {
     }
 }
 
-/// Reports why a call is refused.
+/// Reports the reason that a call is refused.
 fn refuse(rt: &HostRuntime, usage: Usage) -> io::Result<()> {
     match usage {
         Usage::NoCommand(word) => eprintln!(rt; "formats: no command {}", word.as_str())?,
@@ -78,7 +78,7 @@ fn end(rt: &HostRuntime, done: Result<(), Error>) -> io::Result<u8> {
     }
 }
 
-/// Plays a command over files, and returns the exit status of the worst.
+/// Runs a command on files, and returns the worst exit status.
 fn read_files(
     rt: &HostRuntime,
     command: Command,
@@ -107,7 +107,7 @@ fn read_files(
     }
 }
 
-/// Plays a command over a file, over standard input, or over the files of a directory.
+/// Runs a command on a file, on standard input, or on the files of a directory.
 fn read_path<W: Write + Drop>(
     rt: &HostRuntime,
     command: Command,
@@ -135,7 +135,7 @@ fn read_path<W: Write + Drop>(
     read_directory(rt, command, name, printer, out)
 }
 
-/// Prints the errors of the files of a directory, and returns the status of the worst.
+/// Prints the errors of the files of a directory, and returns the worst status.
 pub fn read_directory<W: Write + Drop>(
     rt: &HostRuntime,
     command: Command,
@@ -165,7 +165,7 @@ pub fn read_directory<W: Write + Drop>(
     Ok(status)
 }
 
-/// Plays a command over a file, after some files of a directory.
+/// Runs a command on a file, after some files of a directory.
 fn read_file<W: Write + Drop>(
     rt: &HostRuntime,
     command: Command,

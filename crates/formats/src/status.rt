@@ -1,6 +1,6 @@
-//! The status with which the program ends.
+//! The program's exit status.
 
-/// The outcome of a file, the better before the worse.
+/// The outcome of a file, from best to worst.
 #[derive(Clone, Copy, Debug, PartialEq, Eq, PartialOrd, Ord)]
 pub enum Status {
     /// All of it was read.
@@ -25,5 +25,5 @@ impl Status {
     }
 }
 
-/// The exit status of a call that the program does not know.
+/// The exit status for arguments that the program does not know.
 pub const USAGE: u8 = 2;

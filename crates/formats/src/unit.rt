@@ -1,4 +1,4 @@
-//! Units of a file: where each is, and its elements.
+//! Units of a file: the place of each, and its elements.
 
 use anyhow::Error;
 use bitstream_formats::at::At;
@@ -16,7 +16,7 @@ pub enum NoteValue {
     Text(String),
 }
 
-/// A fact about a unit that is no element of the format's document: it follows from elements, or is a text.
+/// A fact about a unit that is not an element of the format's specification. It follows from elements, or is a text.
 #[derive(Drop)]
 pub struct Note {
     /// The name.
@@ -51,7 +51,7 @@ impl Unit {
         }
     }
 
-    /// Makes the unit one with no element, at a byte of the file.
+    /// Resets the unit to one with no element, at a byte of the file.
     pub fn begin(&mut self, kind: &'static str, byte: u64) {
         self.kind = kind;
         self.byte = byte;
@@ -59,7 +59,7 @@ impl Unit {
         self.notes.clear();
     }
 
-    /// Returns the value of the first element of a name.
+    /// Returns the value of the first element with this name.
     pub fn value_of(&self, name: &str) -> Option<i64> {
         for element in self.elements.as_slice() {
             if element.name == name {
@@ -115,7 +115,7 @@ impl Unit {
         Ok(())
     }
 
-    /// Moves the places of all elements by some bytes.
+    /// Moves the places of all elements by a number of bytes.
     pub fn move_places(&mut self, bytes: u64) {
         for element in self.elements.as_mut_slice() {
             element.place = element.place.saturating_add(bytes.saturating_mul(8));
@@ -126,7 +126,7 @@ impl Unit {
 /// The reason why a unit was refused.
 #[derive(Drop)]
 pub struct Fault {
-    /// The bit in the unit at which the reader was.
+    /// The place of the reader, in bits from the start of the unit.
     pub bit: u64,
     /// The error.
     pub text: String,
@@ -149,14 +149,14 @@ pub enum Step {
     Read,
     /// It was refused.
     Refused(Fault),
-    /// It is no unit, and was ignored.
+    /// It is not a unit, and was ignored.
     Warned(Fault),
     /// There is no unit left.
     End,
 }
 
 impl Step {
-    /// Returns the step of a unit that was read, or refused at a bit that counts from `start`.
+    /// Returns the step for a unit that was read, or that was refused at a bit counted from `start`.
     pub fn of<T: Drop, E: Display + Drop>(
         alloc: Global,
         read: Result<T, At<E>>,
@@ -173,7 +173,7 @@ impl Step {
     }
 }
 
-/// Units that are read one after the other.
+/// Units, read one after the other.
 pub trait ReadUnits {
     /// Reads the next unit, and writes its decoded data to `out`. After a refused unit, the next
     /// call continues with the next unit that can be found.

@@ -3,7 +3,7 @@
 use std::alloc::{AllocError, Global};
 use std::{fs, io};
 
-/// A path in a directory, or the reason why one was not read. They are in the order of their paths.
+/// A path in a directory, or the reason that a path was not read. They are ordered by path.
 #[derive(Debug, Drop, PartialEq, Eq, PartialOrd, Ord)]
 struct Place {
     path: String,
@@ -30,8 +30,8 @@ pub struct Unread {
     pub text: String,
 }
 
-/// The files of a directory and of the directories in it, in the order of their names. A link to a
-/// directory is not followed, and what is neither a file nor a directory is left out.
+/// The files of a directory and of the directories in it, ordered by name. Links to directories are not
+/// followed. What is neither a file nor a directory is skipped.
 #[derive(Drop)]
 pub struct Walk {
     // The places that are left, the next one at the end.
@@ -53,7 +53,7 @@ impl Walk {
     ///
     /// # Errors
     ///
-    /// Memory was refused.
+    /// An allocation failed.
     pub fn next_file(
         &mut self,
         rt: &HostRuntime,
@@ -117,7 +117,7 @@ fn places(rt: &HostRuntime, directory: &str) -> io::Result<Vec<Place>> {
     Ok(places)
 }
 
-/// Returns the kind of a path, or `None` for what is left out.
+/// Returns the kind of a path, or `None` for a path that is skipped.
 fn kind_of(rt: &HostRuntime, path: &str, entry: &fs::DirEntry) -> Result<Option<Kind>, AllocError> {
     let kind = match entry.file_type() {
         Ok(kind) if kind.is_symlink() => fs::metadata(rt, path).map(|it| it.is_file()),

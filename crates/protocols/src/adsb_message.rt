@@ -71,8 +71,9 @@ impl AdsbMessage {
     ///
     /// # Errors
     ///
-    /// `OtherFormat`, after the bits that are refused.
-    /// Else the errors of the reader: after each of them it has failed.
+    /// `OtherFormat`.
+    /// The refused bits are read then.
+    /// Otherwise the reader's errors, after which it has failed.
     pub fn read<R: BitRead>(reader: &mut R) -> Result<AdsbMessage, AdsbError>
         ensures { ReadsOwn R.source becomes_adsb_message (adsb_message_decoder R.source.order) reader.old result reader.new }
     {
@@ -118,7 +119,7 @@ impl AdsbMessage {
     /// # Errors
     ///
     /// `Checked` for a field that does not fit its bits. The fields before it are written then.
-    /// Else the errors of the sink.
+    /// Otherwise the sink's errors.
     pub fn write<W: BitWrite>(&self, writer: &mut W) -> Result<(), Error>
         ensures { WritesAll W.sink (adsb_message_writes W.sink.order self.now) writer.old result writer.new }
     {
@@ -132,7 +133,7 @@ impl AdsbMessage {
     }
 
     /// Writes the fields to the first bytes of a buffer, and returns what was written. The other bytes
-    /// stay as they were. No memory is asked for.
+    /// stay as they were. Does not allocate.
     ///
     /// # Errors
     ///

@@ -131,8 +131,9 @@ impl ArpPacket {
     ///
     /// # Errors
     ///
-    /// `OtherHardware`, `OtherProtocol`, `OtherHardwareLength`, `OtherProtocolLength`, after the bits that are refused.
-    /// Else the errors of the reader: after each of them it has failed.
+    /// `OtherHardware`, `OtherProtocol`, `OtherHardwareLength`, `OtherProtocolLength`.
+    /// The refused bits are read then.
+    /// Otherwise the reader's errors, after which it has failed.
     pub fn read<R: BitRead>(reader: &mut R) -> Result<ArpPacket, ArpError>
         ensures { ReadsOwn R.source becomes_arp_packet (arp_packet_decoder R.source.order) reader.old result reader.new }
     {
@@ -195,7 +196,7 @@ impl ArpPacket {
     /// # Errors
     ///
     /// `Checked` for a field that does not fit its bits. The fields before it are written then.
-    /// Else the errors of the sink.
+    /// Otherwise the sink's errors.
     pub fn write<W: BitWrite>(&self, writer: &mut W) -> Result<(), Error>
         ensures { WritesAll W.sink (arp_packet_writes W.sink.order self.now) writer.old result writer.new }
     {
@@ -212,7 +213,7 @@ impl ArpPacket {
     }
 
     /// Writes the fields to the first bytes of a buffer, and returns what was written. The other bytes
-    /// stay as they were. No memory is asked for.
+    /// stay as they were. Does not allocate.
     ///
     /// # Errors
     ///

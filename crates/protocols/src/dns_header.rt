@@ -156,8 +156,9 @@ impl DnsHeader {
     ///
     /// # Errors
     ///
-    /// `ReservedSet`, after the bits that are refused.
-    /// Else the errors of the reader: after each of them it has failed.
+    /// `ReservedSet`.
+    /// The refused bits are read then.
+    /// Otherwise the reader's errors, after which it has failed.
     pub fn read<R: BitRead>(reader: &mut R) -> Result<DnsHeader, DnsHeaderError>
         ensures { ReadsOwn R.source becomes_dns_header (dns_header_decoder R.source.order) reader.old result reader.new }
     {
@@ -221,7 +222,7 @@ impl DnsHeader {
     /// # Errors
     ///
     /// `Checked` for a field that does not fit its bits. The fields before it are written then.
-    /// Else the errors of the sink.
+    /// Otherwise the sink's errors.
     pub fn write<W: BitWrite>(&self, writer: &mut W) -> Result<(), Error>
         ensures { WritesAll W.sink (dns_header_writes W.sink.order self.now) writer.old result writer.new }
     {
@@ -244,7 +245,7 @@ impl DnsHeader {
     }
 
     /// Writes the fields to the first bytes of a buffer, and returns what was written. The other bytes
-    /// stay as they were. No memory is asked for.
+    /// stay as they were. Does not allocate.
     ///
     /// # Errors
     ///

@@ -111,8 +111,9 @@ impl IcmpEcho {
     ///
     /// # Errors
     ///
-    /// `NoEchoKind`, `OtherCode`, after the bits that are refused.
-    /// Else the errors of the reader: after each of them it has failed.
+    /// `NoEchoKind`, `OtherCode`.
+    /// The refused bits are read then.
+    /// Otherwise the reader's errors, after which it has failed.
     pub fn read<R: BitRead>(reader: &mut R) -> Result<IcmpEcho, IcmpEchoError>
         ensures { ReadsOwn R.source becomes_icmp_echo (icmp_echo_decoder R.source.order) reader.old result reader.new }
     {
@@ -163,7 +164,7 @@ impl IcmpEcho {
     /// # Errors
     ///
     /// `Checked` for a field that does not fit its bits. The fields before it are written then.
-    /// Else the errors of the sink.
+    /// Otherwise the sink's errors.
     pub fn write<W: BitWrite>(&self, writer: &mut W) -> Result<(), Error>
         ensures { WritesAll W.sink (icmp_echo_writes W.sink.order self.now) writer.old result writer.new }
     {
@@ -176,7 +177,7 @@ impl IcmpEcho {
     }
 
     /// Writes the fields to the first bytes of a buffer, and returns what was written. The other bytes
-    /// stay as they were. No memory is asked for.
+    /// stay as they were. Does not allocate.
     ///
     /// # Errors
     ///

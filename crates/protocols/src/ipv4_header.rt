@@ -194,8 +194,9 @@ impl Ipv4Header {
     ///
     /// # Errors
     ///
-    /// `OtherVersion`, `ReservedSet`, after the bits that are refused.
-    /// Else the errors of the reader: after each of them it has failed.
+    /// `OtherVersion`, `ReservedSet`.
+    /// The refused bits are read then.
+    /// Otherwise the reader's errors, after which it has failed.
     pub fn read<R: BitRead>(reader: &mut R) -> Result<Ipv4Header, Ipv4Error>
         ensures { ReadsOwn R.source becomes_ipv4_header (ipv4_header_decoder R.source.order) reader.old result reader.new }
     {
@@ -262,7 +263,7 @@ impl Ipv4Header {
     /// # Errors
     ///
     /// `Checked` for a field that does not fit its bits. The fields before it are written then.
-    /// Else the errors of the sink.
+    /// Otherwise the sink's errors.
     pub fn write<W: BitWrite>(&self, writer: &mut W) -> Result<(), Error>
         ensures { WritesAll W.sink (ipv4_header_writes W.sink.order self.now) writer.old result writer.new }
     {
@@ -285,7 +286,7 @@ impl Ipv4Header {
     }
 
     /// Writes the fields to the first bytes of a buffer, and returns what was written. The other bytes
-    /// stay as they were. No memory is asked for.
+    /// stay as they were. Does not allocate.
     ///
     /// # Errors
     ///

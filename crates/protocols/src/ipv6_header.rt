@@ -197,8 +197,9 @@ impl Ipv6Header {
     ///
     /// # Errors
     ///
-    /// `OtherVersion`, after the bits that are refused.
-    /// Else the errors of the reader: after each of them it has failed.
+    /// `OtherVersion`.
+    /// The refused bits are read then.
+    /// Otherwise the reader's errors, after which it has failed.
     pub fn read<R: BitRead>(reader: &mut R) -> Result<Ipv6Header, Ipv6Error>
         ensures { ReadsOwn R.source becomes_ipv6_header (ipv6_header_decoder R.source.order) reader.old result reader.new }
     {
@@ -250,7 +251,7 @@ impl Ipv6Header {
     /// # Errors
     ///
     /// `Checked` for a field that does not fit its bits. The fields before it are written then.
-    /// Else the errors of the sink.
+    /// Otherwise the sink's errors.
     pub fn write<W: BitWrite>(&self, writer: &mut W) -> Result<(), Error>
         ensures { WritesAll W.sink (ipv6_header_writes W.sink.order self.now) writer.old result writer.new }
     {
@@ -267,7 +268,7 @@ impl Ipv6Header {
     }
 
     /// Writes the fields to the first bytes of a buffer, and returns what was written. The other bytes
-    /// stay as they were. No memory is asked for.
+    /// stay as they were. Does not allocate.
     ///
     /// # Errors
     ///

@@ -76,8 +76,9 @@ impl J1939Frame {
     ///
     /// # Errors
     ///
-    /// `OtherFrame`, `OtherSize`, after the bits that are refused.
-    /// Else the errors of the reader: after each of them it has failed.
+    /// `OtherFrame`, `OtherSize`.
+    /// The refused bits are read then.
+    /// Otherwise the reader's errors, after which it has failed.
     pub fn read<R: BitRead>(reader: &mut R) -> Result<J1939Frame, J1939Error>
         ensures { ReadsOwn R.source becomes_j1939_frame (j1939_frame_decoder R.source.order) reader.old result reader.new }
     {
@@ -133,7 +134,7 @@ impl J1939Frame {
     /// # Errors
     ///
     /// `Checked` for a field that does not fit its bits. The fields before it are written then.
-    /// Else the errors of the sink.
+    /// Otherwise the sink's errors.
     pub fn write<W: BitWrite>(&self, writer: &mut W) -> Result<(), Error>
         ensures { WritesAll W.sink (j1939_frame_writes W.sink.order self.now) writer.old result writer.new }
     {
@@ -151,7 +152,7 @@ impl J1939Frame {
     }
 
     /// Writes the fields to the first bytes of a buffer, and returns what was written. The other bytes
-    /// stay as they were. No memory is asked for.
+    /// stay as they were. Does not allocate.
     ///
     /// # Errors
     ///

@@ -67,8 +67,9 @@ impl ModbusHeader {
     ///
     /// # Errors
     ///
-    /// `OtherProtocol`, after the bits that are refused.
-    /// Else the errors of the reader: after each of them it has failed.
+    /// `OtherProtocol`.
+    /// The refused bits are read then.
+    /// Otherwise the reader's errors, after which it has failed.
     pub fn read<R: BitRead>(reader: &mut R) -> Result<ModbusHeader, ModbusError>
         ensures { ReadsOwn R.source becomes_modbus_header (modbus_header_decoder R.source.order) reader.old result reader.new }
     {
@@ -114,7 +115,7 @@ impl ModbusHeader {
     /// # Errors
     ///
     /// `Checked` for a field that does not fit its bits. The fields before it are written then.
-    /// Else the errors of the sink.
+    /// Otherwise the sink's errors.
     pub fn write<W: BitWrite>(&self, writer: &mut W) -> Result<(), Error>
         ensures { WritesAll W.sink (modbus_header_writes W.sink.order self.now) writer.old result writer.new }
     {
@@ -128,7 +129,7 @@ impl ModbusHeader {
     }
 
     /// Writes the fields to the first bytes of a buffer, and returns what was written. The other bytes
-    /// stay as they were. No memory is asked for.
+    /// stay as they were. Does not allocate.
     ///
     /// # Errors
     ///

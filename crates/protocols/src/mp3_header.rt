@@ -234,8 +234,9 @@ impl Mp3Header {
     ///
     /// # Errors
     ///
-    /// `NoSync`, `NoVersion`, `NoLayer`, after the bits that are refused.
-    /// Else the errors of the reader: after each of them it has failed.
+    /// `NoSync`, `NoVersion`, `NoLayer`.
+    /// The refused bits are read then.
+    /// Otherwise the reader's errors, after which it has failed.
     pub fn read<R: BitRead>(reader: &mut R) -> Result<Mp3Header, Mp3Error>
         ensures { ReadsOwn R.source becomes_mp3_header (mp3_header_decoder R.source.order) reader.old result reader.new }
     {
@@ -308,7 +309,7 @@ impl Mp3Header {
     /// # Errors
     ///
     /// `Checked` for a field that does not fit its bits. The fields before it are written then.
-    /// Else the errors of the sink.
+    /// Otherwise the sink's errors.
     pub fn write<W: BitWrite>(&self, writer: &mut W) -> Result<(), Error>
         ensures { WritesAll W.sink (mp3_header_writes W.sink.order self.now) writer.old result writer.new }
     {
@@ -329,7 +330,7 @@ impl Mp3Header {
     }
 
     /// Writes the fields to the first bytes of a buffer, and returns what was written. The other bytes
-    /// stay as they were. No memory is asked for.
+    /// stay as they were. Does not allocate.
     ///
     /// # Errors
     ///

@@ -185,8 +185,9 @@ impl MqttHeader {
     ///
     /// # Errors
     ///
-    /// `NoPacket`, after the bits that are refused.
-    /// Else the errors of the reader: after each of them it has failed.
+    /// `NoPacket`.
+    /// The refused bits are read then.
+    /// Otherwise the reader's errors, after which it has failed.
     pub fn read<R: BitRead>(reader: &mut R) -> Result<MqttHeader, MqttError>
         ensures { ReadsOwn R.source becomes_mqtt_header (mqtt_header_decoder R.source.order) reader.old result reader.new }
     {
@@ -225,7 +226,7 @@ impl MqttHeader {
     /// # Errors
     ///
     /// `Checked` for a field that does not fit its bits. The fields before it are written then.
-    /// Else the errors of the sink.
+    /// Otherwise the sink's errors.
     pub fn write<W: BitWrite>(&self, writer: &mut W) -> Result<(), Error>
         ensures { WritesAll W.sink (mqtt_header_writes W.sink.order self.now) writer.old result writer.new }
     {
@@ -238,7 +239,7 @@ impl MqttHeader {
     }
 
     /// Writes the fields to the first bytes of a buffer, and returns what was written. The other bytes
-    /// stay as they were. No memory is asked for.
+    /// stay as they were. Does not allocate.
     ///
     /// # Errors
     ///

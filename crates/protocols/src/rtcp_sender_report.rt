@@ -85,8 +85,9 @@ impl RtcpSenderReport {
     ///
     /// # Errors
     ///
-    /// `OtherVersion`, `OtherPacket`, after the bits that are refused.
-    /// Else the errors of the reader: after each of them it has failed.
+    /// `OtherVersion`, `OtherPacket`.
+    /// The refused bits are read then.
+    /// Otherwise the reader's errors, after which it has failed.
     pub fn read<R: BitRead>(reader: &mut R) -> Result<RtcpSenderReport, RtcpError>
         ensures { ReadsOwn R.source becomes_rtcp_sender_report (rtcp_sender_report_decoder R.source.order) reader.old result reader.new }
     {
@@ -143,7 +144,7 @@ impl RtcpSenderReport {
     /// # Errors
     ///
     /// `Checked` for a field that does not fit its bits. The fields before it are written then.
-    /// Else the errors of the sink.
+    /// Otherwise the sink's errors.
     pub fn write<W: BitWrite>(&self, writer: &mut W) -> Result<(), Error>
         ensures { WritesAll W.sink (rtcp_sender_report_writes W.sink.order self.now) writer.old result writer.new }
     {
@@ -161,7 +162,7 @@ impl RtcpSenderReport {
     }
 
     /// Writes the fields to the first bytes of a buffer, and returns what was written. The other bytes
-    /// stay as they were. No memory is asked for.
+    /// stay as they were. Does not allocate.
     ///
     /// # Errors
     ///

@@ -121,8 +121,9 @@ impl TsHeader {
     ///
     /// # Errors
     ///
-    /// `NoSync`, `NoAdaptation`, after the bits that are refused.
-    /// Else the errors of the reader: after each of them it has failed.
+    /// `NoSync`, `NoAdaptation`.
+    /// The refused bits are read then.
+    /// Otherwise the reader's errors, after which it has failed.
     pub fn read<R: BitRead>(reader: &mut R) -> Result<TsHeader, TsError>
         ensures { ReadsOwn R.source becomes_ts_header (ts_header_decoder R.source.order) reader.old result reader.new }
     {
@@ -178,7 +179,7 @@ impl TsHeader {
     /// # Errors
     ///
     /// `Checked` for a field that does not fit its bits. The fields before it are written then.
-    /// Else the errors of the sink.
+    /// Otherwise the sink's errors.
     pub fn write<W: BitWrite>(&self, writer: &mut W) -> Result<(), Error>
         ensures { WritesAll W.sink (ts_header_writes W.sink.order self.now) writer.old result writer.new }
     {
@@ -194,7 +195,7 @@ impl TsHeader {
     }
 
     /// Writes the fields to the first bytes of a buffer, and returns what was written. The other bytes
-    /// stay as they were. No memory is asked for.
+    /// stay as they were. Does not allocate.
     ///
     /// # Errors
     ///

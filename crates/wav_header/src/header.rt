@@ -160,8 +160,9 @@ impl Header {
     ///
     /// # Errors
     ///
-    /// `NoRiff`, `NoWave`, `NoFormat`, `LongFormat`, `NoData`, after the bits that are refused.
-    /// Else the errors of the reader: after each of them it has failed.
+    /// `NoRiff`, `NoWave`, `NoFormat`, `LongFormat`, `NoData`.
+    /// The refused bits are read then.
+    /// Otherwise the reader's errors, after which it has failed.
     pub fn read<R: BitRead>(reader: &mut R) -> Result<Header, HeaderError>
         ensures { ReadsOwn R.source becomes_header (header_decoder R.source.order) reader.old result reader.new }
     {
@@ -239,7 +240,7 @@ impl Header {
     /// # Errors
     ///
     /// `Checked` for a field that does not fit its bits. The fields before it are written then.
-    /// Else the errors of the sink.
+    /// Otherwise the sink's errors.
     pub fn write<W: BitWrite>(&self, writer: &mut W) -> Result<(), Error>
         ensures { WritesAll W.sink (header_writes W.sink.order self.now) writer.old result writer.new }
     {
@@ -260,7 +261,7 @@ impl Header {
     }
 
     /// Writes the fields to the first bytes of a buffer, and returns what was written. The other bytes
-    /// stay as they were. No memory is asked for.
+    /// stay as they were. Does not allocate.
     ///
     /// # Errors
     ///

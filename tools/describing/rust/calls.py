@@ -36,7 +36,7 @@ def limits(line: Line) -> str:
         case m.NonZero():
             return f"At most 2^{kind.integer.width}."
         case m.MaybeNonZero():
-            return f"Below 2^{kind.integer.width}; 0 stands for `None`."
+            return f"Below 2^{kind.integer.width}; 0 means `None`."
         case m.Golomb():
             return "From -2^31 + 1 on." if kind.signed else "Below 2^32 - 1."
     return ""

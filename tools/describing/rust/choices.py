@@ -13,7 +13,7 @@ def choice_code(f: Format, line: Line, kind: m.Choose, number: str) -> list[str]
     out = [f"/// {kind.doc or f'A {kind.type}.'}", f"#[derive({derives})]", f"pub enum {kind.type} {{"]
     for arm, part in line.arms:
         held = part.use.name if part and part.use else number if arm.number is None else ""
-        said = f"{arm.number}." if arm.number is not None else "Another number, which nothing follows."
+        said = f"{arm.number}." if arm.number is not None else "Another number, with nothing after it."
         if arm.held and not part:
             held, said = kind.unnamed, "Another number, and the bytes after it."
         out += [f"    /// {said}", f"    {arm.case}{f'({held})' if held else ''},"]
@@ -28,7 +28,7 @@ def unnamed_code(f: Format, kind: m.Choose, number: str) -> list[str]:
         return []
     result = f"Result<{t}, {f.error}>"
     return [
-        f"/// A number that is that of no other case of `{kind.type}`, and the bytes after it.",
+        f"/// A number that no other case of `{kind.type}` has, and the bytes after it.",
         "#[derive(Debug, Drop)]",
         f"pub struct {t} {{",
         "    /// The number.",
@@ -110,7 +110,7 @@ def errors(f: Format, line: Line, kind: m.Choose) -> list[str]:
     out = [f"    /// `{kind.unknown}` if no case has the number: nothing is read then."] * bool(kind.unknown)
     parts = {part.error: part.use.name for part in line.parts if part.error and part.use}
     out += [f"    /// `{error}` if {article(name)} is refused." for error, name in parts.items()]
-    last = f"    /// {'Else the' if out else 'The'} errors of the reader: after each of them it has failed."
+    last = f"    /// {'Otherwise the' if out else 'The'} reader's errors, after which it has failed."
     return ["    ///", "    /// # Errors", "    ///", *out, last]
 
 
@@ -158,7 +158,7 @@ def write_code(line: Line, kind: m.Choose) -> list[str]:
         "    /// # Errors",
         "    ///",
         "    /// `Checked` for a field that does not fit its bits. The fields before it are written then.",
-        "    /// Else the errors of the sink.",
+        "    /// Otherwise the sink's errors.",
         "    pub fn write<W: BitWrite>(&self, writer: &mut W) -> Result<(), Error>",
         f"        ensures {{ WritesAll W.sink ({snake(kind.type)}_writes W.sink.order self.now) writer.old result writer.new }}",
         "    {",

@@ -108,7 +108,7 @@ def read_each_code(f: Format, line: Line, enum: m.EnumType, kind: m.Array, numbe
         "    /// # Errors",
         "    ///",
         *[own] * bool(line.error),
-        f"    /// {'Else the' if line.error else 'The'} errors of the reader: after each of them it has failed.",
+        f"    /// {'Otherwise the' if line.error else 'The'} reader's errors, after which it has failed.",
         f"    pub fn read_each<R: BitRead>(reader: &mut R) -> Result<{m.rust_type(kind)}, {error}>",
         f"        ensures {{ {reads} ({snake(enum.name)}_read_each R.source.order) reader.old result reader.new }}",
         "    {",

@@ -36,8 +36,8 @@ def read_code(f: Format, line: Line, kind: m.List) -> list[str]:
     reads = f"GrowsOwn R.source {f.becomes_name}" if line.error else "GrowingOutcome R.source"
     result = f"Result<{m.rust_type(kind)}, {error}>"
     return [
-        f"/// Reads `count` items of `{kind.name}`. If memory for one is refused, it is the last one read.",
-        *["/// A refused one is the last one read, too."] * bool(line.error),
+        f"/// Reads `count` items of `{kind.name}`. It stops after an item whose allocation fails.",
+        *["/// It stops after a refused item, too."] * bool(line.error),
         f"fn read_{kind.name}<R: BitRead>(reader: &mut R, alloc: Global, count: u64) -> {result}",
         f"    ensures {{ {reads} {entry}",
         "        reader.old (result_map (λ found. found.items) result) reader.new }",

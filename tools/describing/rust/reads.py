@@ -12,9 +12,9 @@ def read_code(f: Format) -> list[str]:
     outcome = f"ReadsOwn R.source {f.becomes_name}" if f.own else "Reads R.source"
     if f.grows:
         outcome = f"GrowsOwn R.source {f.becomes_name}"
-    own = [f"    /// {refusals(f)}after the bits that are refused."] * bool(f.error)
+    own = [f"    /// {refusals(f).removesuffix(', ')}.", "    /// The refused bits are read then."] * bool(f.error)
     own += [
-        f"    /// `{of_reader(f, 'OutOfMemory')}` if memory for a list is refused, after the items before."
+        f"    /// `{of_reader(f, 'OutOfMemory')}` if the allocation for a list fails, after the items before."
     ] * f.grows
     return [
         "    /// Reads the fields in order.",
@@ -22,7 +22,7 @@ def read_code(f: Format) -> list[str]:
         "    /// # Errors",
         "    ///",
         *own,
-        f"    /// {'Else the' if f.own else 'The'} errors of the reader: after each of them it has failed.",
+        f"    /// {'Otherwise the' if f.own else 'The'} reader's errors, after which it has failed.",
         f"    pub fn read<R: BitRead>(reader: &mut R{memory(f)}) -> Result<{f.type}, {f.e}>",
         *in_order(f),
         f"        ensures {{ {outcome} ({f.m}_decoder R.source.order) reader.old result reader.new }}",
@@ -69,7 +69,7 @@ def parse_code(f: Format) -> list[str]:
     bits, few = f"write_sequence ({m}_writes {o} value) 0", "if the bytes end before the fields do"
     errors = dict.fromkeys(reader_errors(f.description.kinds))
     more = [f"    /// `{of_reader(f, error)}` {when}." for error, when in errors]
-    more += [f"    /// `{of_reader(f, 'OutOfMemory')}` if memory for an item of a list is refused."] * f.grows
+    more += [f"    /// `{of_reader(f, 'OutOfMemory')}` if the allocation for an item of a list fails."] * f.grows
     if f.sized:
         bits, few = f"{m}_bits value", f"for fewer than {f.bytes} bytes"
     end, behind = f"`{of_reader(f, 'EndOfInput')}`", "\n            " if f.grows else " "

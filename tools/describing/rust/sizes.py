@@ -21,7 +21,7 @@ def ended_code(f: Format, kind: m.Measured) -> list[str]:
         said = f"{e}::{case}{'(error)' * bool(held)}"
         arms.append(f"        {said} => {said},")
     return [
-        f"/// Returns an error inside the bytes of `{kind.name}`: at their end it is `{wrong}`.",
+        f"/// Maps an error inside the bytes of `{kind.name}`: an error at their end is `{wrong}`.",
         f"fn {kind.name}_ended(error: {e}) -> {e}",
         f"    ensures {{ result ≡ {kind.name}_ended error }}",
         "{",
@@ -66,7 +66,7 @@ def in_code(f: Format, line: Line, kind: m.Measured, number: str) -> list[str]:
         "///",
         "/// # Errors",
         "///",
-        f"/// `{overrun(kind)}` if it does not fill them. Else its errors.",
+        f"/// `{overrun(kind)}` if it does not fill them. Otherwise its errors.",
         f"fn {kind.name}_in(bytes: &[u8]{', alloc: Global' * inner_allocates(kind)}{given(kind, number)})"
         f" -> Result<{m.rust_type(kind)}, {f.error}>",
         "    ensures { UnlessMemory (λ error. Reader error)",
@@ -95,7 +95,7 @@ def items_code(f: Format, line: Line, kind: m.Fill) -> list[str]:
         "///",
         "/// # Errors",
         "///",
-        f"/// `{kind.error}` if they do not fill them. Else the error of an item.",
+        f"/// `{kind.error}` if they do not fill them. Otherwise the error of an item.",
         f"fn {kind.name}_in(bytes: &[u8], alloc: Global, size: u64) -> Result<{m.rust_type(kind)}, {f.error}>",
         "    ensures { UnlessMemory (λ error. Reader error)",
         f"        (items_from ({inside(f, line, f.o)}) {shape} 0 (bits {f.o} bytes.now) size)",
@@ -150,7 +150,7 @@ def read_code(f: Format, line: Line, kind: m.Measured, number: str) -> list[str]
     passed += ", size" * (unnamed(kind) or isinstance(kind, m.Fill))
     found = "(result_map (λ found. found.items) result)" if isinstance(kind, m.Fill) else "result"
     return [
-        f"/// Reads `{kind.name}`, which has so many bytes. No bit after them is read.",
+        f"/// Reads `{kind.name}`, which has `size` bytes. No bit after them is read.",
         f"fn read_{kind.name}<R: BitRead>(reader: &mut R, alloc: Global{selects}, size: u64)"
         f" -> Result<{m.rust_type(kind)}, {f.error}>",
         f"    requires {{ R.source.order ≡ {f.o} }}",

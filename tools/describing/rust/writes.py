@@ -15,7 +15,7 @@ def write_code(f: Format) -> list[str]:
         "    /// # Errors",
         "    ///",
         "    /// `Checked` for a field that does not fit its bits. The fields before it are written then.",
-        "    /// Else the errors of the sink.",
+        "    /// Otherwise the sink's errors.",
         "    pub fn write<W: BitWrite>(&self, writer: &mut W) -> Result<(), Error>",
         f"        ensures {{ WritesAll W.sink ({writes}) writer.old result writer.new }}",
         *write_body(f, 0),
@@ -60,7 +60,7 @@ def pack_code(f: Format) -> list[str]:
     misfit = [f"(error : Error) → sequence_length ({m}_writes {o} self.now) 0 ≡ Err error"]
     return [
         "    /// Writes the fields to the first bytes of a buffer, and returns what was written. The other bytes",
-        "    /// stay as they were. No memory is asked for.",
+        "    /// stay as they were. Does not allocate.",
         "    ///",
         "    /// # Errors",
         "    ///",

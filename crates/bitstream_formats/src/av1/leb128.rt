@@ -11,15 +11,15 @@ use bitstream_io::{BitRead, BitReadExt, Bits};
 ///
 /// # Errors
 ///
-/// `TooLarge` for 2^32 and more: the number is read then. `TooLarge` if a ninth byte were to
-/// follow: eight bytes are read then. Else the errors of the reader.
+/// `TooLarge` for a number of 2^32 or more, after reading it, and if the eighth byte announces a ninth,
+/// after reading eight bytes. Otherwise the errors of the reader.
 pub fn read_leb128<R: BitRead>(reader: &mut R) -> Result<u32, Av1Error>
     ensures { ReadsOwn R.source becomes_av1 (leb128_decoder R.source.order) reader.old result reader.new }
 {
     read_groups(reader, 8, 1, 0)
 }
 
-/// Returns a number, unless it is too large.
+/// Returns the number if it is below 2^32.
 fn small(value: u64) -> Result<u32, Av1Error>
     ensures { result ≡ small value }
 {
@@ -29,8 +29,8 @@ fn small(value: u64) -> Result<u32, Av1Error>
     Ok(value as u32)
 }
 
-/// Reads at most `room` bytes after the bytes of `value`. The bits of the first one count `place`
-/// times.
+/// Reads at most `room` more bytes. `value` is the number in the bytes before them, and `place` is the
+/// weight of the next bit.
 fn read_groups<R: BitRead>(
     reader: &mut R,
     room: u32,

@@ -119,7 +119,7 @@ fn read_frame_size(syntax: &mut Obu<'_, '_, '_>, reduced: bool) -> Result<(), Er
     Ok(())
 }
 
-/// Reads which tools of coding are used.
+/// Reads the flags of the coding tools.
 fn read_tools(syntax: &mut Obu<'_, '_, '_>) -> Result<(), Error> {
     syntax.flag("enable_interintra_compound")?;
     syntax.flag("enable_masked_compound")?;
@@ -141,7 +141,7 @@ fn read_tools(syntax: &mut Obu<'_, '_, '_>) -> Result<(), Error> {
     Ok(())
 }
 
-/// Reads how colors are coded.
+/// Reads the format of the colors.
 fn read_color(syntax: &mut Obu<'_, '_, '_>, profile: u32) -> Result<(), Error> {
     let high = syntax.flag("high_bitdepth")?;
     let twelve = profile == 2 && high && syntax.flag("twelve_bit")?;
@@ -165,7 +165,7 @@ fn read_color(syntax: &mut Obu<'_, '_, '_>, profile: u32) -> Result<(), Error> {
     Ok(())
 }
 
-/// Reads how colors are sampled.
+/// Reads the subsampling of the colors.
 fn read_subsampling(syntax: &mut Obu<'_, '_, '_>, profile: u32, twelve: bool) -> Result<(), Error> {
     let mut both = profile == 0;
     if profile == 2 && twelve {

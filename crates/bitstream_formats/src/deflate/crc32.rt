@@ -1,11 +1,11 @@
 //! The CRC-32 of gzip.
 
-/// The CRC-32, by the polynomial 0xedb88320, from the lowest bit on.
+/// The tables of the CRC-32 with the polynomial 0xedb88320, lowest bit first.
 #[derive(Clone, Copy, Debug)]
 pub(super) struct Crc32 {
     // The CRC-32 of each byte.
     last: [u32; 256],
-    // The CRC-32 of each byte with one byte of zeros after it, with two, and with three.
+    // The CRC-32 of each byte followed by one, two and three bytes of zeros.
     before: [[u32; 256]; 3],
 }
 
@@ -25,8 +25,8 @@ impl Crc32 {
         }
     }
 
-    /// Returns the CRC-32 of the bytes whose CRC-32 is `crc`, with more bytes after them. The
-    /// CRC-32 of no bytes is 0.
+    /// Returns the CRC-32 of earlier bytes and then `bytes`, where `crc` is the CRC-32 of the earlier
+    /// bytes. The CRC-32 of no bytes is 0.
     pub(super) fn append(&self, crc: u32, bytes: &[u8]) -> u32 {
         let mut crc = !crc;
         let mut rest = bytes;
@@ -40,7 +40,7 @@ impl Crc32 {
         !self.by_bytes(crc, rest)
     }
 
-    /// Goes on by four bytes, which are added to the CRC-32 before them.
+    /// Advances a CRC-32 by four bytes. `four` is the xor of these bytes and the CRC-32 before them.
     #[inline(always)]
     fn by_four(&self, four: u32) -> u32 {
         let [one, two, three] = &self.before;
@@ -50,7 +50,7 @@ impl Crc32 {
             ^ self.last[(four >> 24 & 0xff) as usize]
     }
 
-    /// Goes on by some bytes.
+    /// Advances a CRC-32 by some bytes.
     fn by_bytes(&self, crc: u32, bytes: &[u8]) -> u32 {
         let mut crc = crc;
         for byte in bytes {

@@ -1,4 +1,4 @@
-//! Numbers that are coded as UTF-8 codes characters, in up to 36 bits (section 9.1.5).
+//! Numbers of up to 36 bits, coded as UTF-8 codes characters (section 9.1.5).
 ghost use Rattle.std.specs.Prelude.{◌≡◌, ◌++◌, ◌+◌, ◌*◌, ◌<◌, ◌≤◌, ◌^◌, ℕ, Bool, List, Ok, length};
 ghost use Rattle.bitstream_io.specs.Callers.{Order, ReadsOwn, Done, write_sequence};
 ghost use Rattle.bitstream_formats.specs.Coded.{becomes_flac, coded_decoder, coded_writes, least_of, rest_decoder, shortest};
@@ -10,10 +10,10 @@ use bitstream_io::{BitRead, BitReadExt, Bits};
 ///
 /// # Errors
 ///
-/// `NotCoded` for a first byte 0b10.., for a later byte that does not begin with 0b10, and for a
-/// run of more than 7 ones: the run is read up to its 0, also after the first byte, so a first byte
-/// 0xff returns `EndOfInput` if no 0 comes. `LongCoded` for a number that fewer bytes code. Else
-/// the errors of the reader. The faulty bits are read.
+/// `NotCoded` for a first byte 0b10.., for a later byte that does not begin with 0b10, and for more
+/// than 7 ones at the start. These ones are read up to the next 0, even after the first byte: after a
+/// first byte 0xff, the error is `EndOfInput` if no 0 comes. `LongCoded` for a number that fewer bytes
+/// can code. Otherwise the errors of the reader. The faulty bits are read.
 pub fn read_coded<R: BitRead>(reader: &mut R) -> Result<u64, FlacError>
     ensures { ReadsOwn R.source becomes_flac (coded_decoder R.source.order) reader.old result reader.new }
 {
@@ -45,7 +45,7 @@ fn least_of(bytes: u32) -> u64
     }
 }
 
-/// Returns a number, unless fewer bytes code it.
+/// Returns the number, unless fewer bytes can code it.
 fn shortest(least: u64, number: u64) -> Result<u64, FlacError>
     ensures { result ≡ shortest least number }
 {
@@ -55,7 +55,7 @@ fn shortest(least: u64, number: u64) -> Result<u64, FlacError>
     Ok(number)
 }
 
-/// Reads the bytes after the bits of `number`, which have six bits each.
+/// Reads the later bytes, of six bits each. `number` has the bits before them.
 fn read_rest<R: BitRead>(
     reader: &mut R,
     least: u64,

@@ -1,6 +1,6 @@
 //! The two checksums of a frame (section 9.1.8 and 9.3).
 
-/// Returns the CRC-8 of some bytes, by the polynomial 0x07, from the highest bit on.
+/// Returns the CRC-8 of some bytes, with the polynomial 0x07, highest bit first.
 pub fn crc8(bytes: &[u8]) -> u8 {
     let mut crc = 0u8;
     for byte in bytes {
@@ -9,7 +9,7 @@ pub fn crc8(bytes: &[u8]) -> u8 {
     crc
 }
 
-/// Goes on with a CRC-8 by eight bits.
+/// Advances a CRC-8 by eight bits.
 fn crc8_byte(byte: u8) -> u8 {
     let mut crc = byte;
     for _ in 0..8 {
@@ -22,7 +22,7 @@ fn crc8_byte(byte: u8) -> u8 {
     crc
 }
 
-/// The CRC-16 of each byte, by the polynomial 0x8005, from the highest bit on.
+/// The CRC-16 of each byte, with the polynomial 0x8005, highest bit first.
 #[derive(Clone, Copy, Debug)]
 pub struct Crc16 {
     table: [u16; 256],

@@ -16,16 +16,17 @@ use std::marker::Model;
 
 /// A file that is decoded frame by frame.
 ///
-/// It needs memory for one frame: up to 8 channels of 65536 samples, of 8 bytes each. With the MD5
-/// of the samples it needs memory for one more frame, of at most 4 bytes a sample.
+/// It allocates memory for one frame: up to 8 channels of 65536 samples, of 8 bytes each. If it
+/// computes the MD5 of the samples, it allocates memory for one more frame, of at most 4 bytes a
+/// sample.
 #[derive(Drop)]
 pub struct Decoder<'a> {
     reader: SliceReader<'a, BE>,
     info: StreamInfo,
     crc16: Crc16,
-    // The samples of each channel that were decoded.
+    // The number of samples of each channel that were decoded.
     done: u64,
-    // The MD5 of them, if it is compared.
+    // The MD5 of these samples, if it is compared.
     sum: Option<SampleSum>,
 }
 
@@ -38,7 +39,7 @@ impl<'a> Model for Decoder<'a> {
     ghost view = { λ decoder. decoder.info };
 }
 
-/// Reads STREAMINFO, which the metadata of a file begins with.
+/// Reads STREAMINFO, with which the metadata of a file begins.
 fn read_info(blocks: &mut Blocks<'_>) -> Result<StreamInfo, At<FlacError>> {
     let info = match blocks.next_block()? {
         Some(block) if block.kind == 0 && block.bytes.len() == 34 => StreamInfo::parse(block.bytes),
@@ -79,9 +80,9 @@ impl<'a> Decoder<'a> {
         })
     }
 
-    /// Reads the metadata of a file, and computes the MD5 of the samples as they are decoded. At
-    /// the end of the file it is compared with the MD5 in STREAMINFO, unless that is 0, which means
-    /// unknown.
+    /// Reads the metadata of a file, and computes the MD5 of the samples as they are decoded. At the
+    /// end of the file, this MD5 is compared with the one in STREAMINFO, unless that one is 0, which
+    /// means unknown.
     ///
     /// # Errors
     ///
@@ -101,7 +102,7 @@ impl<'a> Decoder<'a> {
         &self.info
     }
 
-    /// Returns the bytes of the frames that were not decoded yet.
+    /// Returns the bytes from the next frame on.
     pub fn rest(&self) -> &'a [u8] {
         self.reader.rest()
     }
@@ -110,10 +111,10 @@ impl<'a> Decoder<'a> {
     ///
     /// # Errors
     ///
-    /// The errors of [`FlacError`]. `OtherChannels`, `OtherSampleSize` and `OtherSampleRate` for a
-    /// frame that differs from STREAMINFO, after its header. `SampleCount` and then `WrongMd5` at
-    /// the end of the file: the number of samples is refused at each call, the MD5 once. After
-    /// another error no later frame is found.
+    /// The errors of [`FlacError`]. `OtherChannels`, `OtherSampleSize` or `OtherSampleRate`, after a
+    /// header that differs from STREAMINFO. At the end of the file, `SampleCount` if the number of
+    /// samples is wrong, at each call, and otherwise `WrongMd5` if the MD5 is wrong, only once. After
+    /// any other error, no later frame is found.
     pub fn next_frame(&mut self, alloc: Global) -> Result<Option<Frame>, At<FlacError>>
         ensures of_file { IfOk result (λ frame. IfSome frame (IsOfFile self.old)) }
         ensures same { self.new ≡ self.old }

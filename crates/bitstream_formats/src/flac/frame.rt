@@ -17,19 +17,19 @@ use std::alloc::{AllocError, Global};
 pub struct Frame {
     /// The header.
     pub header: FrameHeader,
-    /// The bits of a sample, 4 to 32.
+    /// The number of bits of a sample: 4 to 32.
     pub bits_per_sample: u8,
-    /// The samples of each channel, left before right.
+    /// The samples of each channel, left channel first.
     pub channels: Vec<Vec<i64>>,
 }
 
 impl Frame {
-    /// Appends the samples as whole bytes with a sign, the lowest byte first: the channels of a
-    /// sample follow each other.
+    /// Appends the samples as signed numbers of whole bytes, lowest byte first. The samples of all
+    /// channels at one time follow each other.
     ///
     /// # Errors
     ///
-    /// Memory was refused.
+    /// An allocation failed.
     pub fn append_pcm(&self, bytes: &mut Vec<u8>) -> Result<(), AllocError> {
         match self.bits_per_sample {
             0..=8 => self.append_low::<1>(bytes),
@@ -61,8 +61,8 @@ fn bytes_before<'a>(bytes: &'a [u8], rest: &[u8]) -> &'a [u8] {
         .unwrap_or(bytes)
 }
 
-/// Compares the header of a frame with STREAMINFO. A sample size or a sample rate of 0 means the
-/// one in STREAMINFO.
+/// Compares the header of a frame with STREAMINFO. A sample size or a sample rate of 0 stands for the
+/// value in STREAMINFO.
 fn check_header(header: &FrameHeader, info: &StreamInfo) -> Result<(), FlacError>
     ensures { IsOk result → channel_count header.now.channels ≡ non_zero_u8_get info.now.channels }
 {

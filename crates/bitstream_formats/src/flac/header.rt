@@ -12,11 +12,11 @@ use bitstream_io::{BitRead, BitReadExt, Bits};
 pub enum Channels {
     /// This number of channels, each by itself.
     Independent(u8),
-    /// The left one, and left less right.
+    /// The left channel, and left minus right.
     LeftSide,
-    /// Left less right, and the right one.
+    /// Left minus right, and the right channel.
     SideRight,
-    /// Half of the sum, and left less right.
+    /// Half of the sum, and left minus right.
     MidSide,
 }
 
@@ -31,7 +31,7 @@ impl Channels {
         }
     }
 
-    /// Returns true if the channel of this number, from 0, is a difference, which has a bit more.
+    /// Returns true if the channel of this number, from 0, is a difference. Its samples have one bit more.
     pub fn is_side(self, channel: u8) -> bool {
         match self {
             Channels::Independent(_) => false,
@@ -44,15 +44,15 @@ impl Channels {
 /// The header of a frame.
 #[derive(Clone, Copy, Debug, PartialEq, Eq)]
 pub struct FrameHeader {
-    /// True if the number is the number of the first sample, and not of the frame.
+    /// True if `number` is the number of the frame's first sample, not of the frame.
     pub variable: bool,
-    /// The samples of each channel, at most 65536.
+    /// The number of samples of each channel: at most 65536.
     pub block_size: u32,
-    /// Samples a second, or 0 if only STREAMINFO has the number.
+    /// The number of samples a second, or 0 if only STREAMINFO states it.
     pub sample_rate: u32,
     /// The coding of the channels.
     pub channels: Channels,
-    /// The bits of a sample, or 0 if only STREAMINFO has the number.
+    /// The number of bits of a sample, or 0 if only STREAMINFO states it.
     pub bits_per_sample: u8,
     /// The number of the frame, or of its first sample.
     pub number: u64,

@@ -7,8 +7,8 @@ use bitstream_io::{BE, BitRead, BitReadExt, Bits, SliceReader};
 /// A block of metadata.
 #[derive(Clone, Copy, Debug)]
 pub struct Block<'a> {
-    /// The type: 0 STREAMINFO, 1 padding, 2 of an application, 3 a table to seek by, 4 a Vorbis
-    /// comment, 5 a cue sheet, 6 a picture.
+    /// The type: 0 for STREAMINFO, 1 for padding, 2 for data of an application, 3 for a seek table, 4
+    /// for a Vorbis comment, 5 for a cue sheet, 6 for a picture.
     pub kind: u8,
     /// The bytes, without the header.
     pub bytes: &'a [u8],
@@ -59,13 +59,13 @@ impl<'a> Blocks<'a> {
         }
     }
 
-    /// Returns the reader after the blocks that were returned.
+    /// Returns the reader, which is after the last block returned.
     pub fn into_reader(self) -> SliceReader<'a, BE> {
         self.reader
     }
 }
 
-/// Reads a block, and whether it is the last one.
+/// Reads a block, and returns true with it if it is the last one.
 fn read_block<'a>(reader: &mut SliceReader<'a, BE>) -> Result<(bool, Block<'a>), FlacError> {
     let last = reader.read_bit()?;
     let kind = reader.read::<Bits<7>, u8>()?;

@@ -12,7 +12,7 @@ pub(super) fn predict(samples: &mut [i64], coefficients: &[i64], shift: u32) {
     }
 }
 
-/// Returns the sum of the last samples, each with its weight, the last one first.
+/// Returns the sum of the last samples, each times its weight. The weight of the last sample is first.
 fn weighted(before: &[i64], coefficients: &[i64]) -> i64 {
     let mut sum = 0i64;
     for (sample, coefficient) in before.iter().rev().zip(coefficients) {

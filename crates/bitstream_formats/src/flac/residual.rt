@@ -43,7 +43,7 @@ fn read_partition<R: BitRead>(
     }
 }
 
-/// Reads the parameter of a partition, or `None` if its numbers are not coded.
+/// Reads the parameter of a partition, or returns `None` if its numbers are not coded.
 fn read_parameter<R: BitRead>(reader: &mut R, wide: bool) -> Result<Option<u32>, FlacError>
     ensures { IfOk result (λ parameter. IfSome parameter (λ bits. bits < 32)) }
 {
@@ -78,7 +78,7 @@ fn read_numbers<R: BitRead>(
     Ok(())
 }
 
-/// Reads a partition of numbers that are not coded.
+/// Reads a partition of uncoded numbers.
 fn read_escaped<R: BitRead>(
     reader: &mut R,
     count: u32,

@@ -6,7 +6,7 @@ use super::residual::read_residual;
 use bitstream_io::{BitRead, BitReadExt, Bits};
 use std::alloc::Global;
 
-/// Reads a subframe of a number of samples, of `bits` bits each.
+/// Reads a subframe of samples of `bits` bits each.
 pub(super) fn read_subframe<R: BitRead>(
     reader: &mut R,
     alloc: Global,
@@ -49,7 +49,7 @@ fn read_wasted<R: BitRead>(reader: &mut R) -> Result<u32, FlacError> {
     more.checked_add(1).ok_or(FlacError::TooManyWastedBits)
 }
 
-/// Reads the value of all samples.
+/// Reads the value that all samples have.
 fn read_constant<R: BitRead>(
     reader: &mut R,
     width: u32,
@@ -61,7 +61,7 @@ fn read_constant<R: BitRead>(
     Ok(())
 }
 
-/// Reads samples that are not coded.
+/// Reads uncoded samples.
 fn read_verbatim<R: BitRead>(
     reader: &mut R,
     width: u32,

@@ -8,7 +8,7 @@ use std::alloc::{AllocError, Global};
 #[derive(Drop)]
 pub(super) struct SampleSum {
     md5: Md5,
-    // The samples of a frame, as bytes. It is here to be used again.
+    // The samples of a frame, as bytes. This memory is used for each frame.
     bytes: Vec<u8>,
 }
 
@@ -25,7 +25,7 @@ impl SampleSum {
     ///
     /// # Errors
     ///
-    /// Memory was refused, and nothing is added.
+    /// An allocation failed. Nothing is added then.
     pub(super) fn add(&mut self, frame: &Frame) -> Result<(), AllocError> {
         self.bytes.clear();
         frame.append_pcm(&mut self.bytes)?;

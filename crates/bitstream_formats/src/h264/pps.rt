@@ -31,7 +31,7 @@ pub(super) fn read_pps(
     Ok((number, set))
 }
 
-/// Reads the elements that each set has after its numbers, of which `sequence` is the second.
+/// Reads the elements that each set has after its two numbers. The second number is `sequence`.
 fn read_common(
     syntax: &mut Syntax<'_, '_, '_, BE>,
     sequence: u32,

@@ -5,7 +5,7 @@ use crate::element::Syntax;
 use crate::nal::read_trailing_bits;
 use bitstream_io::{BE, Error};
 
-/// Reads the type and the size of each message, whose payload is passed over, and the bits that end the
+/// Reads the type and the size of each message, skips its payload, and reads the bits that end the
 /// unit. The last 1 of the unit is at `last`.
 pub(super) fn read_messages(
     syntax: &mut Syntax<'_, '_, '_, BE>,
@@ -23,7 +23,7 @@ pub(super) fn read_messages(
     Ok(())
 }
 
-/// Reads a number as a sum of bytes: 255 for each byte before the last one, and the last one.
+/// Reads a number that is a sum of bytes: each byte before the last one is 255.
 fn read_sum(syntax: &mut Syntax<'_, '_, '_, BE>, name: &'static str) -> Result<usize, Error> {
     let mut sum = 0usize;
     for _ in 0..u32::MAX {

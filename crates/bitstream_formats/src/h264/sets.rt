@@ -1,6 +1,6 @@
 //! The parameter sets of a stream that were read.
 
-/// The facts of a sequence parameter set that the reading of other units needs.
+/// The facts of a sequence parameter set that are needed to read other units.
 #[derive(Clone, Copy, Debug, PartialEq, Eq)]
 pub struct SequenceSet {
     /// The profile, `profile_idc`.
@@ -10,7 +10,7 @@ pub struct SequenceSet {
     pub chroma_format: u32,
     /// True if each plane of color is coded as a picture of its own, `separate_colour_plane_flag`.
     pub separate_planes: bool,
-    /// The bits of the number of a frame, `frame_num`: 4 to 16.
+    /// The number of bits of a frame number, `frame_num`: 4 to 16.
     pub frame_bits: u32,
     /// The coding of the order of pictures.
     pub order: PictureOrder,
@@ -19,7 +19,7 @@ pub struct SequenceSet {
 }
 
 impl SequenceSet {
-    /// Returns true if the slices of luma have chroma with them.
+    /// Returns true if luma slices include chroma.
     pub fn has_chroma(&self) -> bool {
         self.chroma_format != 0 && !self.separate_planes
     }
@@ -28,15 +28,15 @@ impl SequenceSet {
 /// The coding of the order of pictures in slices, `pic_order_cnt_type`.
 #[derive(Clone, Copy, Debug, PartialEq, Eq)]
 pub enum PictureOrder {
-    /// By its low bits, of this number: 4 to 16.
+    /// By this number of its low bits: 4 to 16.
     Low(u32),
-    /// By differences from the order of a cycle.
+    /// By differences from the order in a cycle.
     Cycle,
-    /// It is not coded: it is the order of a cycle, or that of decoding.
+    /// Not coded: it is the order in a cycle, or the order of decoding.
     Decoding,
 }
 
-/// The facts of a picture parameter set that the reading of other units needs.
+/// The facts of a picture parameter set that are needed to read other units.
 #[derive(Clone, Copy, Debug, PartialEq, Eq)]
 pub struct PictureSet {
     /// The number of the sequence parameter set that it names.
@@ -48,7 +48,7 @@ pub struct PictureSet {
     /// True if slices of frames have the order of the bottom field,
     /// `bottom_field_pic_order_in_frame_present_flag`.
     pub bottom_order: bool,
-    /// The numbers of the last pictures of both lists, if a slice says nothing else.
+    /// The indexes of the last pictures of both lists, unless a slice states others.
     pub last_references: [u32; 2],
     /// True if slices that one list predicts have weights, `weighted_pred_flag`.
     pub weighted_one: bool,
@@ -56,12 +56,12 @@ pub struct PictureSet {
     pub weighted_both: u32,
     /// True if slices have elements on the deblocking filter.
     pub deblocking: bool,
-    /// True if slices say if they are redundant.
+    /// True if slices state whether they are redundant.
     pub redundant_count: bool,
 }
 
-/// The parameter sets that were read, by their numbers: at most 32 sequence and 256 picture parameter sets.
-/// A set replaces the one of its number. It takes no memory but its own 12 KB.
+/// The parameter sets that were read, by their numbers: at most 32 sequence and 256 picture parameter
+/// sets. A set replaces an earlier one with the same number. They take 12 KB and allocate nothing.
 #[derive(Debug, Drop)]
 pub struct ParameterSets {
     sequences: [Option<SequenceSet>; 32],

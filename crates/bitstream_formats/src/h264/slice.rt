@@ -7,17 +7,17 @@ use crate::element::{Index, Syntax};
 use crate::nal::{UnitError, read_se, read_ue};
 use bitstream_io::{BE, BitRead, Error};
 
-/// The most commands in a list: a list of references has at most 32 pictures, or 64 fields of them.
+/// The greatest number of commands in a list: a list of references has at most 32 pictures, or 64 fields of pictures.
 const COMMANDS: u32 = 66;
 
-/// The kinds of slices, by what predicts them.
+/// The kinds of slices, by the pictures that predict them.
 #[derive(Clone, Copy, Debug, PartialEq, Eq)]
 enum Kind {
-    /// From pictures before or after.
+    /// Predicted from one list of earlier or later pictures.
     P,
-    /// From two lists of pictures.
+    /// Predicted from two lists of pictures.
     B,
-    /// From the picture itself.
+    /// Predicted from the picture itself.
     I,
     /// Like `P`, to switch between streams.
     SwitchingP,
@@ -26,7 +26,7 @@ enum Kind {
 }
 
 impl Kind {
-    /// Returns the kind of a number, `slice_type`.
+    /// Returns the kind that a number, `slice_type`, stands for.
     fn of(number: u32) -> Option<Kind> {
         match number {
             0 | 5 => Some(Kind::P),
@@ -44,7 +44,7 @@ impl Kind {
     }
 }
 
-/// The unit of a slice: what its header says of it.
+/// The facts from the unit header of a slice.
 #[derive(Clone, Copy, Debug)]
 pub(super) struct SliceUnit {
     /// True if the picture is an IDR picture.
@@ -92,7 +92,7 @@ pub(super) fn read_slice(
     Ok(())
 }
 
-/// Reads of which picture or field the slice is, and its order.
+/// Reads the number of the slice's picture or field, and its order.
 fn read_place(
     syntax: &mut Syntax<'_, '_, '_, BE>,
     sequence: &SequenceSet,
@@ -127,7 +127,7 @@ fn read_place(
     Ok(())
 }
 
-/// Reads the differences of the order from that of a cycle.
+/// Reads the differences of the order from the order of a cycle.
 fn read_deltas(syntax: &mut Syntax<'_, '_, '_, BE>, has_bottom: bool) -> Result<(), Error> {
     syntax.index = Some(Index::One(0));
     read_se(syntax, "delta_pic_order_cnt")?;
@@ -172,7 +172,7 @@ fn read_references(
     Ok(())
 }
 
-/// Reads how a list of pictures is changed.
+/// Reads the changes of a list of pictures.
 fn read_modification(
     syntax: &mut Syntax<'_, '_, '_, BE>,
     flag: &'static str,
@@ -195,7 +195,7 @@ fn read_modification(
     Err(H264Error::TooManyCommands)
 }
 
-/// Reads how decoded pictures are marked as references.
+/// Reads the marking of decoded pictures as references.
 fn read_marking(syntax: &mut Syntax<'_, '_, '_, BE>, is_idr: bool) -> Result<(), H264Error> {
     if is_idr {
         syntax.flag("no_output_of_prior_pics_flag")?;

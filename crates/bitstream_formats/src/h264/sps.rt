@@ -79,7 +79,7 @@ fn read_chroma(syntax: &mut Syntax<'_, '_, '_, BE>) -> Result<(u32, bool), Error
     Ok((chroma, separate))
 }
 
-/// Reads a number of bits without the first four. Returns the number of bits, at most 16.
+/// Reads a number of bits, stored less 4. Returns the number of bits, at most 16.
 fn read_bits(syntax: &mut Syntax<'_, '_, '_, BE>, name: &'static str) -> Result<u32, H264Error> {
     let more = read_ue(syntax, name)?;
     if more > 12 {
@@ -88,7 +88,7 @@ fn read_bits(syntax: &mut Syntax<'_, '_, '_, BE>, name: &'static str) -> Result<
     Ok(more + 4)
 }
 
-/// Reads how the order of pictures is coded.
+/// Reads the coding of the order of pictures.
 fn read_order(syntax: &mut Syntax<'_, '_, '_, BE>) -> Result<PictureOrder, H264Error> {
     match read_ue(syntax, "pic_order_cnt_type")? {
         0 => Ok(PictureOrder::Low(read_bits(syntax, "log2_max_pic_order_cnt_lsb_minus4")?)),
@@ -97,7 +97,7 @@ fn read_order(syntax: &mut Syntax<'_, '_, '_, BE>) -> Result<PictureOrder, H264E
     }
 }
 
-/// Reads a cycle of offsets, and returns how slices differ from it.
+/// Reads a cycle of offsets, and returns the way in which slices differ from it.
 fn read_cycle(syntax: &mut Syntax<'_, '_, '_, BE>) -> Result<PictureOrder, H264Error> {
     let same = syntax.flag("delta_pic_order_always_zero_flag")?;
     read_se(syntax, "offset_for_non_ref_pic")?;

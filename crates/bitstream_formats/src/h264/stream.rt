@@ -1,4 +1,4 @@
-//! A byte stream that is read unit by unit.
+//! A byte stream, read unit by unit.
 
 use super::sets::ParameterSets;
 use super::{H264Error, Unit, read_unit};
@@ -7,9 +7,9 @@ use crate::element::Element;
 use crate::nal::{RefusedUnit, UnitError, Units};
 use std::alloc::Global;
 
-/// A byte stream, and the parameter sets that were read of it.
+/// A byte stream, and the parameter sets read from it.
 ///
-/// A unit that is refused ends nothing: the next call reads the unit after it.
+/// After a refused unit, the next call reads the unit after it.
 #[derive(Drop)]
 pub struct Stream<'a> {
     units: Units<'a>,
@@ -21,7 +21,7 @@ impl<'a> Stream<'a> {
     ///
     /// # Errors
     ///
-    /// `NoStartCode` if `bytes` have no start code, so that there is no unit.
+    /// `NoStartCode` if `bytes` have no start code, and so no unit.
     pub fn over(bytes: &'a [u8]) -> Result<Stream<'a>, UnitError> {
         let units = Units::over(bytes);
         if units.is_at_end() {

@@ -35,7 +35,7 @@ const SECOND: Names = Names {
     chroma_offset: "chroma_offset_l1",
 };
 
-/// Reads the weights of one list or of both. `last` are the numbers of their last pictures.
+/// Reads the weights of one list or of both. `last` has the index of the last picture of each list.
 pub(super) fn read_weights(
     syntax: &mut Syntax<'_, '_, '_, BE>,
     has_chroma: bool,
@@ -53,7 +53,7 @@ pub(super) fn read_weights(
     Ok(())
 }
 
-/// Reads the weights of a list, whose last picture has this number.
+/// Reads the weights of a list whose last picture has this index.
 fn read_list(
     syntax: &mut Syntax<'_, '_, '_, BE>,
     names: &Names,

@@ -29,7 +29,7 @@ pub(super) fn read_extension_data(
     Ok(())
 }
 
-/// Reads the extensions of a sequence parameter set. `depths` are `None` if the set has no bit depths.
+/// Reads the extensions of a sequence parameter set. `depths` is `None` if the set has no bit depths.
 pub(super) fn read_sps_extensions(
     syntax: &mut Nal<'_, '_, '_>,
     depths: Option<Depths>,

@@ -92,7 +92,7 @@ const SUB_LAYER: Names = Names {
     reserved_bit: "sub_layer_reserved_zero_bit",
 };
 
-/// The profiles of a stream: its own one, and the compatible ones.
+/// The profiles of a stream: its own profile, and the compatible ones.
 #[derive(Clone, Copy)]
 struct Profiles {
     flags: [bool; 32],
@@ -141,7 +141,7 @@ pub(super) fn read_profile_tier_level(
     read_sub_layers(syntax, sub_layers.as_slice(), lower)
 }
 
-/// Reads which sub-layers have a profile and a level of their own.
+/// Reads the flags of the sub-layers that have a profile and a level of their own.
 fn read_presence(syntax: &mut Nal<'_, '_, '_>, lower: u32) -> Result<[SubLayer; 8], Error> {
     let mut sub_layers = [SubLayer {
         has_profile: false,

@@ -4,7 +4,7 @@ use super::{H265Error, Nal};
 use crate::element::Index;
 use crate::nal::read_ue;
 
-/// The distances of pictures to a picture in output order, the nearest one first.
+/// The distances from a picture to other pictures in output order, the nearest one first.
 #[derive(Clone, Copy)]
 struct Distances {
     values: [i64; 16],
@@ -60,8 +60,8 @@ impl ReferenceSet {
     }
 }
 
-/// A prediction of a set from another one: each distance is moved, and the picture of the other set
-/// is a candidate too.
+/// A prediction of a set from another one. A number is added to each distance, and the other set's own
+/// picture is a candidate too.
 #[derive(Clone, Copy)]
 struct Prediction {
     set: ReferenceSet,
@@ -72,12 +72,12 @@ struct Prediction {
 }
 
 impl Prediction {
-    /// Returns the distance of the picture of a number before the picture, if it is used.
+    /// Returns the distance of an earlier picture by its index, if the picture is used.
     fn before(&self, at: usize) -> Option<i64> {
         self.moved(self.set.before.as_slice(), at, at)
     }
 
-    /// Returns the distance of the picture of a number after the picture, if it is used.
+    /// Returns the distance of a later picture by its index, if the picture is used.
     fn after(&self, at: usize) -> Option<i64> {
         let number = self.set.before.count.saturating_add(at);
         self.moved(self.set.after.as_slice(), at, number)
@@ -88,7 +88,7 @@ impl Prediction {
         self.moved(&[0], 0, self.set.count())
     }
 
-    /// Returns a distance, moved, if the picture of a number is used.
+    /// Returns a distance plus the added number, if the picture of an index is used.
     fn moved(&self, distances: &[i64], at: usize, number: usize) -> Option<i64> {
         let distance = distances.get(at)?;
         match self.used.as_slice().get(number) {
@@ -124,7 +124,7 @@ impl Prediction {
     }
 }
 
-/// Appends a distance that is negative.
+/// Appends a distance if it is negative.
 fn push_before(distances: &mut Distances, distance: Option<i64>) -> Result<(), H265Error> {
     match distance {
         Some(distance) if distance < 0 => distances.push(distance),
@@ -132,7 +132,7 @@ fn push_before(distances: &mut Distances, distance: Option<i64>) -> Result<(), H
     }
 }
 
-/// Appends a distance that is positive.
+/// Appends a distance if it is positive.
 fn push_after(distances: &mut Distances, distance: Option<i64>) -> Result<(), H265Error> {
     match distance {
         Some(distance) if distance > 0 => distances.push(distance),
@@ -222,7 +222,7 @@ fn read_predicted_set(
     })
 }
 
-/// Reads which pictures of the previous set are used, and at last if its own picture is used.
+/// Reads the flags of the previous set's pictures that are used, and last the flag of its own picture.
 fn read_used(syntax: &mut Nal<'_, '_, '_>, count: u32) -> Result<[bool; 33], H265Error> {
     let mut used = [false; 33];
     for at in 0..=count {

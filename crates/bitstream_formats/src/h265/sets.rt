@@ -7,8 +7,8 @@ pub struct VideoSet {
     pub sub_layers: u32,
 }
 
-/// The video parameter sets that were read, by their numbers: at most 16. A set replaces the one of
-/// its number. No unit needs a value of the other parameter sets, so they are not kept.
+/// The video parameter sets that were read, by their numbers: at most 16. A set replaces an earlier one
+/// with the same number. Other parameter sets are not kept, since no unit needs a value of theirs.
 #[derive(Debug, Drop)]
 pub struct ParameterSets {
     videos: [Option<VideoSet>; 16],

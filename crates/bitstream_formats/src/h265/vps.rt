@@ -9,7 +9,7 @@ use crate::element::Index;
 use crate::nal::read_ue;
 use bitstream_io::Error;
 
-/// The names for the numbers of pictures that a decoder keeps.
+/// The element names of the numbers of pictures that a decoder keeps.
 #[derive(Clone, Copy)]
 pub(super) struct Ordering {
     present: &'static str,
@@ -101,7 +101,7 @@ fn read_layer_sets(syntax: &mut Nal<'_, '_, '_>) -> Result<u32, H265Error> {
     Ok(more + 1)
 }
 
-/// Reads which layers are in a set of layers.
+/// Reads the layers of a set of layers.
 fn read_layer_set(syntax: &mut Nal<'_, '_, '_>, set: u32, highest: u32) -> Result<(), Error> {
     for layer in 0..=highest {
         syntax.index = Some(Index::Two(set, layer));

@@ -1,10 +1,10 @@
-//! Bytes against the emulation of a start code (section 7.4.1).
+//! Emulation prevention bytes: they keep start codes out of a unit (section 7.4.1).
 ghost use Rattle.std.specs.Prelude.{◌≡◌, ℕ, List, IfOk};
 ghost use Rattle.bitstream_formats.specs.Emulation.{with_emulation, without_emulation, zeros_after};
 
 use std::alloc::{AllocError, Global};
 
-/// Returns the number of zeros at the end of the bytes after this one, but at most two.
+/// Returns the number of zeros at the end of the bytes after this byte, counting at most two.
 fn zeros_after(zeros: u8, byte: u8) -> u8
     ensures { result ≡ zeros_after zeros byte }
 {
@@ -21,7 +21,7 @@ fn zeros_after(zeros: u8, byte: u8) -> u8
 ///
 /// # Errors
 ///
-/// Memory was refused.
+/// An allocation failed.
 pub fn remove_emulation(alloc: Global, unit: &[u8]) -> Result<Vec<u8>, AllocError>
     ensures { IfOk result (λ payload. payload.items ≡ without_emulation 0 unit.now) }
 {

@@ -5,7 +5,7 @@ use super::UnitError;
 use crate::element::Syntax;
 use bitstream_io::{BE, BitRead};
 
-/// Returns the place of the last 1 of some bytes, in bits, or 0 if there is none.
+/// Returns the place of the last 1 of some bytes, in bits, or 0 if no bit is 1.
 pub(crate) fn last_one(bytes: &[u8]) -> u64 {
     let mut stop = 0u64;
     for (at, byte) in bytes.iter().enumerate() {
@@ -43,7 +43,7 @@ pub(crate) fn read_trailing_bits(
     Ok(())
 }
 
-/// Checks the end of an access unit delimiter, after its header: three bits, and the bits that end a unit.
+/// Checks the end of an access unit delimiter after its header: three bits, and the bits that end a unit.
 pub(crate) fn check_delimiter(
     syntax: &mut Syntax<'_, '_, '_, BE>,
     last: u64,

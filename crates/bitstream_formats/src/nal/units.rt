@@ -5,7 +5,7 @@
 pub struct Units<'a> {
     // The bytes after the last start code that was found. `None` after the last unit.
     rest: Option<&'a [u8]>,
-    // The number of bytes of the stream before them.
+    // The number of bytes of the stream before these bytes.
     before: usize,
     // The number of units returned.
     taken: u64,
@@ -14,9 +14,9 @@ pub struct Units<'a> {
 /// The place of a start code.
 #[derive(Clone, Copy)]
 struct StartCode {
-    // The bytes before it, without the zeros that precede it.
+    // The number of bytes before it, without the zeros that precede it.
     before: usize,
-    // The bytes up to its end.
+    // The number of bytes up to its end.
     end: usize,
 }
 

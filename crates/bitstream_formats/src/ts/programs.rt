@@ -9,10 +9,10 @@ use bitstream_io::{BE, Error, SliceReader};
 /// The greatest length of a section of these tables.
 const LONGEST: u32 = 1021;
 
-/// The number of entries in a section of at most 1,024 bytes, at most.
+/// The greatest number of entries in a section of at most 1,024 bytes.
 const ENTRIES: u32 = 256;
 
-/// Returns the checksum of a section. With its own checksum at its end it is 0.
+/// Returns the checksum of a section. It is 0 for a section that ends with its correct checksum.
 pub fn section_checksum(section: &[u8]) -> u32 {
     let mut crc = 0xffff_ffff;
     for byte in section {
@@ -21,12 +21,12 @@ pub fn section_checksum(section: &[u8]) -> u32 {
     crc
 }
 
-/// Reads a whole section of a PID, and appends its elements, with their places in the section: of
-/// another table than one of programs its start alone.
+/// Reads a whole section of a PID, and appends its elements, with their places in the section. Of a
+/// table that is not a table of programs, it reads only the start.
 ///
 /// # Errors
 ///
-/// The errors of [`TsError`]. The elements that were read before are appended.
+/// The errors of [`TsError`]. The elements read before the error are appended.
 pub(super) fn read_section(
     id: u32,
     section: &[u8],
@@ -83,7 +83,7 @@ fn read_version(syntax: &mut Packet<'_, '_, '_>) -> Result<(), Error> {
     Ok(())
 }
 
-/// Reads the program association table after its length, up to a bit of the section.
+/// Reads the part of the program association table between its length and a bit of the section.
 fn read_association(syntax: &mut Packet<'_, '_, '_>, end: u64) -> Result<(), Error> {
     syntax.number("transport_stream_id", 16)?;
     read_version(syntax)?;
@@ -105,7 +105,7 @@ fn read_association(syntax: &mut Packet<'_, '_, '_>, end: u64) -> Result<(), Err
     Ok(())
 }
 
-/// Reads a program map after its length, up to a bit of the section.
+/// Reads the part of a program map between its length and a bit of the section.
 fn read_map(syntax: &mut Packet<'_, '_, '_>, end: u64) -> Result<(), TsError> {
     syntax.number("program_number", 16)?;
     read_version(syntax)?;

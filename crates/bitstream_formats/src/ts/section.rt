@@ -1,15 +1,15 @@
-//! Sections, which may lie in several packets.
+//! Sections, which may be spread over several packets.
 
 use crate::element::Element;
 use std::alloc::{AllocError, Global};
 
-/// The bytes of a section up to its length, with it.
+/// The number of bytes of a section up to and including its length.
 const HEAD: usize = 3;
 
 /// The relation of a packet to the one before it of the same PID.
 #[derive(Clone, Copy, Debug, PartialEq, Eq)]
 pub(super) enum Follows {
-    /// It is the next one, or the first one.
+    /// It is the next packet, or the first one.
     Next,
     /// It is a copy of the one before it.
     Copy,
@@ -17,16 +17,16 @@ pub(super) enum Follows {
     Gap,
 }
 
-/// A part of a section that lies in one packet.
+/// A part of a section in one packet.
 #[derive(Clone, Copy, Debug)]
 struct Part {
-    // The bits of the section before it.
+    // The number of bits of the section before this part.
     bit: u64,
-    // The place of its first bit in the stream.
+    // The place of the part's first bit in the stream.
     place: u64,
 }
 
-/// The section of a PID that is read, as far as its packets came.
+/// The section of a PID that is being read: the bytes that came so far.
 #[derive(Drop)]
 pub(super) struct Section {
     id: u32,
@@ -37,7 +37,7 @@ pub(super) struct Section {
 }
 
 impl Section {
-    /// Returns a section of a PID, of which nothing came.
+    /// Returns an empty section of a PID.
     pub(super) fn new(alloc: Global, id: u32) -> Section {
         Section {
             id,
@@ -57,12 +57,13 @@ impl Section {
         self.bytes.as_slice()
     }
 
-    /// Returns true if some bytes of the section came.
+    /// Returns true if any byte of the section came.
     pub(super) fn is_open(&self) -> bool {
         !self.bytes.is_empty()
     }
 
-    /// Returns the number of bytes that are missing: those up to the length, or those after it.
+    /// Returns the number of bytes that are missing: up to the length if it did not come yet, otherwise
+    /// up to the end.
     fn missing(&self) -> usize {
         let have = self.bytes.len();
         match self.bytes.as_slice() {
@@ -79,7 +80,7 @@ impl Section {
         self.bytes.len() >= HEAD && self.missing() == 0
     }
 
-    /// Notes the counter of a packet, and returns how it follows the one before it.
+    /// Notes the counter of a packet, and returns the packet's relation to the one before it.
     pub(super) fn follow(&mut self, counter: u32) -> Follows {
         let last = self.counter;
         self.counter = Some(counter);
@@ -91,8 +92,8 @@ impl Section {
         }
     }
 
-    /// Takes the missing bytes from the front of some bytes, which are at a bit of the stream, and
-    /// returns the rest of them.
+    /// Takes the missing bytes from the start of some bytes, which are at a bit of the stream, and
+    /// returns the remaining bytes.
     pub(super) fn take<'a>(&mut self, bytes: &'a [u8], place: u64) -> Result<&'a [u8], AllocError> {
         let count = self.missing().min(bytes.len());
         let (taken, rest) = bytes.split_at(count);
@@ -121,7 +122,7 @@ impl Section {
         place
     }
 
-    /// Moves the elements from a number on from their places in the section to those in the stream.
+    /// Changes the places of the elements from an index on: from places in the section to places in the stream.
     pub(super) fn move_places(&self, elements: &mut Vec<Element>, from: usize) {
         for at in from..elements.len() {
             if let Some(element) = elements.as_mut_slice().get_mut(at) {

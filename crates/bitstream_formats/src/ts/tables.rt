@@ -1,4 +1,4 @@
-//! The tables of programs: which PIDs have them, and the sections that are read of their packets.
+//! The tables of programs: the PIDs that have them, and the sections in their packets.
 
 use super::programs::read_section;
 use super::section::{Follows, Section};
@@ -17,7 +17,7 @@ const STUFFING: u8 = 0xff;
 /// The PIDs with program maps.
 #[derive(Drop)]
 struct Maps {
-    // For each PID, 0 if it has no program map, else 1 more than the number of the section that names it.
+    // For each PID, 0 if it has no program map, otherwise the number of the section that names it, plus 1.
     named: Vec<u16>,
 }
 
@@ -30,8 +30,8 @@ impl Maps {
         }
     }
 
-    /// Keeps the PIDs that a section of the program association table names, whose elements these
-    /// are, in place of those that the section of its number named before.
+    /// Keeps the PIDs that a section of the program association table names. `elements` are the
+    /// elements of the section. These PIDs replace the PIDs of an earlier section with the same number.
     fn keep(&mut self, elements: &[Element]) -> Result<(), AllocError> {
         if value_of(elements, "current_next_indicator") != Some(1) {
             return Ok(());
@@ -60,7 +60,7 @@ impl Maps {
     }
 }
 
-/// Returns the value of the first element of a name.
+/// Returns the value of the first element with this name.
 fn value_of(elements: &[Element], name: &str) -> Option<i64> {
     for element in elements {
         if element.name == name {
@@ -71,17 +71,17 @@ fn value_of(elements: &[Element], name: &str) -> Option<i64> {
 }
 
 /// The tables of programs of a stream: the program association table, and the program maps that it
-/// names. A section of it replaces the section of its number. A section that is not whole yet takes
-/// the memory of its bytes, at most 4 KiB for a PID.
+/// names. A section of the former replaces an earlier section with the same number. An incomplete
+/// section takes memory for its bytes, at most 4 KiB for each PID.
 #[derive(Drop)]
 pub struct Tables {
     maps: Maps,
-    // The sections that are read, one for each PID.
+    // The sections that are being read, one for each PID.
     sections: Vec<Section>,
 }
 
 impl Tables {
-    /// Returns no table.
+    /// Returns tables without a section.
     pub fn new(alloc: Global) -> Tables {
         Tables {
             maps: Maps {
@@ -96,17 +96,17 @@ impl Tables {
         id == 0 || self.maps.has(id)
     }
 
-    /// Reads a packet of [`PACKET`] bytes that begins at the bit `place` of a stream. Appends the elements of its header
-    /// and of its adaptation field, and those of the header of a PES packet that begins in it, or of
-    /// the sections of a table of programs that end in it. The places of elements are counted
-    /// in the stream: those of a section may be in packets before.
+    /// Reads a packet of [`PACKET`] bytes that begins at the bit `place` of a stream. Appends the elements of its
+    /// header and of its adaptation field. Also appends the elements of the header of a PES packet that begins in
+    /// it, or of the sections of a table of programs that end in it. The places of elements are counted in bits of
+    /// the stream. An element of a section may be in an earlier packet.
     ///
-    /// The second one of two packets with the same counter is a copy: its sections are not read again.
+    /// A packet with the same counter as the packet before it is a copy: its sections are not read again.
     ///
     /// # Errors
     ///
-    /// The errors of [`TsError`]. The elements that were read before are appended. After an error in a
-    /// section the rest of the packet is left out.
+    /// The errors of [`TsError`]. The elements read before the error are appended. After an error in a
+    /// section, the rest of the packet is skipped.
     pub fn read_packet(
         &mut self,
         alloc: Global,
@@ -207,7 +207,7 @@ impl<'a> Payload<'a> {
     }
 }
 
-/// Returns the error of memory that was refused.
+/// Returns the error of a failed allocation.
 fn no_memory(bit: u64) -> At<TsError> {
     At {
         bit,
@@ -242,8 +242,8 @@ fn read_contents(
     Ok(None)
 }
 
-/// Reads the sections in a payload in which one begins: the rest of the one before it, and those from
-/// the byte on that the pointer field names.
+/// Reads the sections in a payload in which one begins: the rest of the section before it, and the
+/// sections from the byte that the pointer field names.
 fn begin(
     maps: &mut Maps,
     section: &mut Section,
@@ -286,7 +286,7 @@ fn begin(
     Ok(())
 }
 
-/// Reads the sections in some bytes. The last one may go on in the next packet.
+/// Reads the sections in some bytes. The last one may continue in the next packet.
 fn feed(
     maps: &mut Maps,
     section: &mut Section,

@@ -15,7 +15,7 @@ pub struct AdtsUnits<'a> {
     at: usize,
 }
 
-/// Returns the length of a frame of ADTS, if one begins with these bytes.
+/// Returns the length of an ADTS frame in bytes, if one begins with these bytes.
 fn frame_length(bytes: &[u8]) -> Option<usize> {
     let [a, b, _, d, e, f, ..] = bytes else {
         return None;
@@ -37,7 +37,7 @@ impl<'a> AdtsUnits<'a> {
         self.file.get(at..).unwrap_or(&[])
     }
 
-    /// Returns the place of the next frame from a place on: one with another frame after it, or the last one.
+    /// Returns the place of the next frame from a place on. Another frame or the end must follow it.
     fn find_frame(&self, from: usize) -> usize {
         for at in from..self.file.len() {
             if let Some(length) = frame_length(self.from(at)) {
@@ -50,7 +50,7 @@ impl<'a> AdtsUnits<'a> {
         self.file.len()
     }
 
-    /// Reads the header of the tag of ID3v2 with which the file begins.
+    /// Reads the header of the ID3v2 tag with which the file begins.
     fn read_tag(&mut self, unit: &mut Unit) -> Result<Step, Error> {
         unit.begin("ID3v2", 0);
         let [_, _, _, version, revision, flags, a, b, c, d, ..] = self.file else {
@@ -83,7 +83,7 @@ impl ReadUnits for AdtsUnits<'_> {
         if start == 0 && bytes.starts_with(b"ID3".as_slice()) && bytes.len() >= 10 {
             return self.read_tag(unit);
         }
-        // A tag of ID3v1 may end the file.
+        // An ID3v1 tag may end the file.
         let is_tag = bytes.len() == 128 && bytes.starts_with(b"TAG".as_slice());
         if bytes.is_empty() || is_tag {
             return Ok(Step::End);
@@ -117,7 +117,7 @@ pub struct FlacUnits<'a> {
 }
 
 impl<'a> FlacUnits<'a> {
-    /// Returns the units of a file. Their samples are written if `writes` is true.
+    /// Returns the units of a file. Writes their samples if `writes` is true.
     pub fn over(file: &'a [u8], writes: bool) -> FlacUnits<'a> {
         FlacUnits {
             file,
@@ -248,7 +248,7 @@ impl ReadUnits for FlacUnits<'_> {
     }
 }
 
-/// Returns the number of some bytes, the highest first, or 0 if they end early.
+/// Returns the number that some bytes spell, highest byte first, or 0 if there are too few bytes.
 fn big(bytes: &[u8], at: usize, count: usize) -> u64 {
     let mut number = 0u64;
     for byte in bytes.get(at..).unwrap_or(&[]).iter().take(count) {
@@ -257,7 +257,7 @@ fn big(bytes: &[u8], at: usize, count: usize) -> u64 {
     number
 }
 
-/// Returns the number of four bytes, the highest first, or 0 if they end early.
+/// Returns the number that four bytes spell, highest byte first, or 0 if there are too few bytes.
 fn length_at(bytes: &[u8], at: usize) -> usize {
     match bytes.get(at..).unwrap_or(&[]).first_chunk::<4>() {
         Some(four) => u32::from_be_bytes(*four) as usize,
@@ -367,7 +367,8 @@ fn note_seek_points(unit: &mut Unit, place: u64, bytes: &[u8]) -> Result<(), All
     Ok(())
 }
 
-/// Splits bytes after a text with its length before it. Returns the text and the rest, or `None` if the bytes end early.
+/// Splits off a text that begins with its length. Returns the text and the rest, or `None` if there are
+/// too few bytes.
 fn split_text(bytes: &[u8]) -> Option<(&[u8], &[u8])> {
     let (length, rest) = bytes.split_first_chunk::<4>()?;
     rest.split_at_checked(u32::from_le_bytes(*length) as usize)

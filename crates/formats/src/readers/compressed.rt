@@ -7,7 +7,7 @@ use bitstream_formats::deflate::{Members, Remainder};
 use std::alloc::Global;
 use std::io::{Read, Write};
 
-/// The members of a file of gzip.
+/// The members of a gzip file.
 #[derive(Drop)]
 pub struct GzipUnits<R: Read> {
     members: Members<R>,

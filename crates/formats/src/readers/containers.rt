@@ -7,12 +7,12 @@ use bitstream_formats::{ogg, ts};
 use std::alloc::{AllocError, Global};
 use std::io::Write;
 
-/// The pages of a file of Ogg.
+/// The pages of an Ogg file.
 #[derive(Drop)]
 pub struct OggUnits<'a> {
     file: &'a [u8],
     at: usize,
-    // The logical streams whose first page was read.
+    // The logical streams of which the first page was read.
     streams: Vec<Stream>,
 }
 
@@ -23,7 +23,7 @@ struct Stream {
     codec: &'static str,
 }
 
-/// The most logical streams whose codecs are kept.
+/// The greatest number of logical streams whose codecs are kept.
 const STREAMS: usize = 256;
 
 impl<'a> OggUnits<'a> {
@@ -36,7 +36,7 @@ impl<'a> OggUnits<'a> {
         }
     }
 
-    /// Returns the codec of the page that was read: its first packet names it if a stream begins.
+    /// Returns the codec of the page that was read. The first packet of a stream names it.
     fn codec_of(&mut self, unit: &Unit, page: &[u8]) -> Result<&'static str, AllocError> {
         let serial = unit.value_of("bitstream_serial_number").unwrap_or(0);
         let begins = unit.value_of("header_type").unwrap_or(0) & 2 != 0;
@@ -55,7 +55,7 @@ impl<'a> OggUnits<'a> {
         Ok("unknown")
     }
 
-    /// Keeps a stream, and replaces one of the same number.
+    /// Keeps a stream, in place of an earlier stream with the same number.
     fn keep(&mut self, stream: Stream) -> Result<(), AllocError> {
         for kept in self.streams.as_mut_slice() {
             if kept.serial == stream.serial {
@@ -126,7 +126,7 @@ impl ReadUnits for OggUnits<'_> {
     }
 }
 
-/// Returns the place of the next `pattern` from a place on, or the place of the end.
+/// Returns the place of the next `pattern` from a place on, or the place of the end if there is none.
 fn find(bytes: &[u8], from: usize, pattern: &[u8]) -> usize {
     for at in from..bytes.len() {
         if bytes.get(at..).unwrap_or(&[]).starts_with(pattern) {
@@ -136,12 +136,12 @@ fn find(bytes: &[u8], from: usize, pattern: &[u8]) -> usize {
     bytes.len()
 }
 
-/// The packets of a transport stream: of 188 bytes, or of 192 with a time stamp before each, as M2TS has them.
+/// The packets of a transport stream: of 188 bytes, or of 192 bytes with a time stamp before each packet, as in M2TS.
 #[derive(Drop)]
 pub struct TsUnits<'a> {
     file: &'a [u8],
     at: usize,
-    // The bytes before each packet: 4 or none.
+    // The number of bytes before each packet: 4 or 0.
     stamp: usize,
     tables: ts::Tables,
 }
@@ -163,7 +163,7 @@ impl<'a> TsUnits<'a> {
         }
     }
 
-    /// Returns the place of the next packet from a place on: one with another packet after it, or the end.
+    /// Returns the place of the next packet from a place on, or of the end. Another packet or the end must follow it.
     fn find_packet(&self, from: usize) -> usize {
         let size = ts::PACKET.saturating_add(self.stamp);
         for at in from..self.file.len() {
@@ -237,7 +237,7 @@ fn push_stamp(unit: &mut Unit, byte: u64, bytes: &[u8]) -> Result<(), AllocError
     )
 }
 
-/// Names the table of programs of which a section ends in a packet, and the types of a program's streams.
+/// Names the table of programs of the sections that end in a packet, and the types of a program's streams.
 fn note_table(alloc: Global, unit: &mut Unit) -> Result<(), AllocError> {
     if unit.value_of("transport_stream_id").is_some() {
         unit.kind = "PAT";
@@ -257,7 +257,7 @@ fn note_table(alloc: Global, unit: &mut Unit) -> Result<(), AllocError> {
     Ok(())
 }
 
-/// Returns the name of a type of streams (table 2-34 of ISO/IEC 13818-1, and three of ATSC and SCTE).
+/// Returns the name of a stream type (table 2-34 of ISO/IEC 13818-1, and three types of ATSC and SCTE).
 fn stream_type(kind: i64) -> &'static str {
     match kind {
         0x01 => "MPEG-1 video",

@@ -11,7 +11,7 @@ struct Message {
     size: i64,
 }
 
-/// Returns the messages whose types and sizes the elements have.
+/// Returns the messages whose types and sizes are among the elements.
 fn messages(alloc: Global, elements: &[Element]) -> Result<Vec<Message>, AllocError> {
     let mut messages = Vec::new(alloc);
     let mut kind = 0i64;
@@ -106,7 +106,7 @@ const NAMES: [&str; 55] = [
     "constrained_depth_parameter_set_identifier",
 ];
 
-/// Returns the name of a type of messages (section D.1.1).
+/// Returns the name of a message type (section D.1.1).
 fn name_of(kind: i64) -> &'static str {
     match kind {
         0..=54 => match NAMES.as_slice().get(kind as usize) {

@@ -151,7 +151,7 @@ fn note_picture(alloc: Global, unit: &mut Unit) -> Result<(), AllocError> {
     Ok(())
 }
 
-/// Returns the samples of a unit of cropping, across and down.
+/// Returns the number of samples in a unit of cropping, horizontally and vertically.
 pub fn crop_units(unit: &Unit, frames: bool) -> (i64, i64) {
     let separate = unit.value_of("separate_colour_plane_flag") == Some(1);
     let chroma = match unit.value_of("chroma_format_idc") {
@@ -175,24 +175,24 @@ pub fn size_of(samples: i64, crop_unit: i64, first: Option<i64>, last: Option<i6
     samples.saturating_sub(cropped.saturating_mul(crop_unit))
 }
 
-/// The OBUs of an AV1 stream, bare or in a file of IVF.
+/// The OBUs of an AV1 stream, bare or in an IVF file.
 #[derive(Drop)]
 pub struct Av1Units<'a> {
     file: &'a [u8],
     // True if the file is an IVF file.
     ivf: bool,
-    // The bytes that were read, up to the bytes of `obus`.
+    // The bytes read, up to the first byte of `obus`.
     at: usize,
-    // The OBUs of the frame of IVF that is read, or of the file.
+    // The OBUs of the current IVF frame, or of the file.
     obus: av1::Obus<'a>,
     // The bytes of those OBUs.
     length: usize,
 }
 
-/// The first bytes of a file of IVF.
+/// The first bytes of an IVF file.
 const IVF: [u8; 4] = [b'D', b'K', b'I', b'F'];
 
-/// Returns the number of some bytes, the lowest first, or 0 if they end early.
+/// Returns the number that some bytes spell, lowest byte first, or 0 if there are too few bytes.
 fn little(bytes: &[u8], at: usize, count: usize) -> i64 {
     let mut number = 0i64;
     for byte in bytes.get(at..).unwrap_or(&[]).iter().take(count).rev() {
@@ -215,7 +215,7 @@ impl<'a> Av1Units<'a> {
         }
     }
 
-    /// Reads the header of a file of IVF.
+    /// Reads the header of an IVF file.
     fn read_ivf(&mut self, alloc: Global, unit: &mut Unit) -> Result<Step, Error> {
         unit.begin("IVF_header", 0);
         let bytes = self.file;
@@ -246,7 +246,7 @@ impl<'a> Av1Units<'a> {
         Ok(Step::Read)
     }
 
-    /// Reads the header of a frame of IVF.
+    /// Reads the header of an IVF frame.
     fn read_frame(&mut self, alloc: Global, unit: &mut Unit) -> Result<Step, Error> {
         let start = self.at;
         unit.begin("IVF_frame", start as u64);
@@ -290,7 +290,7 @@ impl<'a> Av1Units<'a> {
         Ok(step)
     }
 
-    /// Moves on after the OBUs that are read.
+    /// Moves on to the place after the OBUs read.
     fn end_frame(&mut self) {
         self.at = self.at.saturating_add(self.length).min(self.file.len());
         self.obus = av1::Obus::over(&[]);
