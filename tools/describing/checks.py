@@ -32,7 +32,8 @@ def check(it: m.Description, names: bool = True) -> None:
         why = f"no line refuses bits, so there is no `{it.error}`: leave this line out"
         raise Refused(why, it.heads["error"])
     if it.bits is not None and it.bits % 8:
-        raise Refused(f"the fields have {it.bits} bits, which are no whole bytes: end with `any {-it.bits % 8}`")
+        ends = f"end with `any {-it.bits % 8}`, or with `align`"
+        raise Refused(f"the fields have {it.bits} bits, which are no whole bytes: {ends}")
     if not it.fields:
         raise Refused("no field")
 

@@ -164,11 +164,20 @@ class Array(Field):
 
 @dataclass(frozen=True, slots=True)
 class Const(Line):
-    """const BITS VALUE ERROR, zeros BITS ERROR"""
+    """const BITS VALUE ERROR, zeros BITS ERROR: `digits` is VALUE as it is spelled."""
 
     width: int
     value: int
     error: str
+    digits: str = ""
+
+    def spelled(self, number: int) -> str:
+        """Returns a number in the notation of VALUE."""
+        base, digits = self.digits[:2], self.digits[2:].replace("_", "")
+        if base.lower() not in ("0x", "0o", "0b"):
+            return str(number)
+        text = format(number, f"0{len(digits)}{base[1].lower()}")
+        return base + (text.upper() if digits == digits.upper() else text)
 
 
 @dataclass(frozen=True, slots=True)
@@ -634,7 +643,7 @@ def label(kind: Kind) -> str:
     """Returns the text of a line in a picture, which is also the name of its value."""
     match kind:
         case Const():
-            return f"={kind.value}"
+            return f"={kind.spelled(kind.value)}"
         case Skip():
             return "0"
         case Flag():

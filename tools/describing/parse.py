@@ -6,7 +6,7 @@ from __future__ import annotations
 
 import os
 import re
-from dataclasses import dataclass, field
+from dataclasses import dataclass, field, replace
 from typing import Callable, Protocol
 
 from describing import model as m
@@ -206,6 +206,8 @@ def typed(words: Words, context: Context) -> m.Kind:
     if not words.peek():
         raise words.refuse(f"`{name}` is no kind of a line, and names no type behind it")
     word = words.next()
+    if word in STARTS and word not in TYPES:
+        raise words.refuse(f"`{word}` begins its line, and no name stands before it: {STARTS[word]}")
     if word not in TYPES:
         raise words.refuse(f"`{word}` is no kind of a field")
     return TYPED[word](words, context, word, Position(at.line, at.column), name)
@@ -278,8 +280,9 @@ def golomb_line(words: Words, context: Context, word: str, at: Position, name: s
 
 def const_line(words: Words, context: Context, at: Position) -> m.Kind:
     width = words.number(1, 32, "the width of a constant")
-    value = words.number(0, (1 << width) - 1, "the constant")
-    return m.Const(at, words.behind or f"The bits are not {value}.", width, value, words.next())
+    digits, value = words.peek(), words.number(0, (1 << width) - 1, "the constant")
+    found = m.Const(at, words.behind, width, value, words.next(), digits)
+    return found if found.doc else replace(found, doc=f"The bits are not {found.spelled(value)}.")
 
 
 def zeros_line(words: Words, context: Context, at: Position) -> m.Kind:

@@ -1,13 +1,15 @@
 """The picture of a header, in rows of 32 bits as RFCs draw it: as text and as SVG."""
 from __future__ import annotations
 
-from dataclasses import dataclass
+from dataclasses import dataclass, replace
 from html import escape
 
 from describing import model as m
+from describing.table import meaning
 
 WIDE = 32
 CELL, HIGH, TOP, LEFT = 24, 34, 26, 2
+LETTER = 0.61  # the width of a letter of a font of equal widths, in parts of its size
 
 
 @dataclass(frozen=True)
@@ -101,8 +103,10 @@ def shortened(rows: list[Row]) -> list[tuple[Row, int]]:
     return found
 
 
-def text(kinds: tuple[m.Kind, ...]) -> list[str]:
-    """Returns the picture as lines of text, in a code block."""
+def text(kinds: tuple[m.Kind, ...], decimal: bool = False) -> list[str]:
+    """Returns the picture as lines of text, in a code block. With `decimal` no constant keeps its notation."""
+    if decimal:
+        kinds = tuple(replace(it, digits="") if isinstance(it, m.Const) else it for it in kinds)
     tens = "".join(f"{k // 10} " if k % 10 == 0 else "  " for k in range(WIDE)).rstrip()
     out, above = [f" {tens}", " " + " ".join(str(k % 10) for k in range(WIDE))], 0
     for row, count in shortened(rows_of(kinds)):
@@ -122,14 +126,14 @@ def text(kinds: tuple[m.Kind, ...]) -> list[str]:
 
 
 def svg_text(name: str, wide: int, x: float, y: float) -> str:
-    """Returns the name of a cell, shortened to the room that it has."""
-    room = wide * CELL - 6
-    if wide <= 2 and len(name) * 7 > room:
-        size = 9 if len(name) <= 5 else 8
-        fits = name if len(name) <= 5 else f"{name[:4]}…"
-        return f'<text x="{x}" y="{y}" style="font-size:{size}px">{escape(fits)}</text>'
-    fits = name if len(name) * 7.3 <= room else name[: max(1, int(room / 7.3) - 1)] + "…"
-    return f'<text x="{x}" y="{y}">{escape(fits)}</text>'
+    """Returns the name of a cell, in smaller letters or shortened if it has not the room."""
+    room, size = wide * CELL - 2, 12.0
+    if wide <= 2:
+        size = next((it for it in (12, 10, 9, 8) if len(name) * it * LETTER <= room), 7)
+    most = int(room / (size * LETTER))
+    fits = name if len(name) <= most else f"{name[: most - 1]}…"
+    style = f' style="font-size:{size:g}px"' if size != 12 else ""
+    return f'<text x="{x}" y="{y}"{style}>{escape(fits)}</text>'
 
 
 def svg_cell(it: Cell, count: int, x: int, y: int, kind: m.Kind, hue: int) -> str:
@@ -137,7 +141,7 @@ def svg_cell(it: Cell, count: int, x: int, y: int, kind: m.Kind, hue: int) -> st
     wide = it.bits or WIDE
     name = it.text + (f" ({count} rows)" if count > 1 else "")
     bits = m.bits(kind)
-    tip = f"{m.label(kind)}: {f'{bits} bits' if bits is not None else said(kind)}. {kind.doc}"
+    tip = f"{m.label(kind)}: {f'{bits} bits' if bits is not None else said(kind)}. {meaning(kind)}"
     shape = f'<rect x="{x}" y="{y}" width="{wide * CELL}" height="{HIGH}"/>'
     style = f'style="--h:{hue}"' if m.is_field(kind) else ""
     group = f'<g class="cell{" open" * (bits is None)}{"" if style else " plain"}" data-kind="{it.index}" {style}>'

@@ -115,7 +115,7 @@ def of_const(kind: m.Const) -> Callable[[Input], Value]:
     def read(row: Input) -> Value:
         at, found = row.at, row.number(kind.width)
         if found != kind.value:
-            raise ReadError(kind.error, at, why=f"{kind.doc} The number is {found}.")
+            raise ReadError(kind.error, at, why=f"{kind.doc} The number is {kind.spelled(found)}.")
         return found
 
     return read

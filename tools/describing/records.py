@@ -17,26 +17,32 @@ Found = TypeVar("Found")
 SKIP = re.compile(r"(?P<field>[A-Za-z_][\w.]*)(?:\*(?P<times>\d+))?(?P<plus>[+-]\d+)?")
 
 
+@dataclass
+class Record:
+    """A record: its number, its first bit, the bit after it, and its lines, or why it is refused or torn."""
+
+    number: int
+    start: int
+    end: int
+    nodes: list[Node]
+    why: str = ""
+    torn: bool = False
+
+
 class Ended(Exception):
-    """Records that end early. `status` is the exit status of the command."""
+    """Records that end early, at one that is refused or torn, if any. `status` is the exit status of the command."""
 
     status = 3
+
+    def __init__(self, why: str, record: Record | None = None) -> None:
+        super().__init__(why)
+        self.record = record
 
 
 class Torn(Ended):
     """An input that ends inside a record, or inside the bytes that are to be skipped."""
 
     status = 4
-
-
-@dataclass
-class Record:
-    """A record: its number, its first bit, the bit after it, and its lines."""
-
-    number: int
-    start: int
-    end: int
-    nodes: list[Node]
 
 
 @dataclass
@@ -81,9 +87,9 @@ def number_at(record: Fields, path: str) -> int | None:
 
 
 class Records:
-    """Reads records up to the end of the input. `report` takes the text of each record that `--keep-going` passes."""
+    """Reads records up to the end of the input. `report` takes each refused record that `--keep-going` passes over."""
 
-    def __init__(self, it: m.Description, row: Input, options: Options, report: Callable[[str], None]) -> None:
+    def __init__(self, it: m.Description, row: Input, options: Options, report: Callable[[Record], None]) -> None:
         self.row, self.options, self.report = row, options, report
         fast = options.repeat and not options.inside
         self.read, self.quick = record_reader(it), flat(it) if fast else None
@@ -169,20 +175,25 @@ class Records:
     def failed(self, start: int, it: ReadError) -> None:
         """Ends the records at one that is torn or refused, or passes over one that is refused."""
         begins = f"record {self.number} begins at byte {start // 8} and is"
+        torn = f"{begins} torn: the input ends at byte {self.row.end // 8}, in `{it.path}`"
         if it.answer == "EndOfInput":
-            raise Torn(f"{begins} torn: the input ends at byte {self.row.end // 8}, in `{it.path}`")
+            raise Torn(torn, Record(self.number, start, self.row.end, [], torn, True))
+        end = start + self.bits if self.bits else it.place // 8 * 8 + 8
+        found = Record(self.number, start, end, [], f"{begins} refused: {it}")
         self.refused += 1
         if not self.options.keep_going:
-            raise Ended(f"{begins} refused: {it}")
-        self.report(f"{begins} refused: {it}")
+            raise Ended(found.why, found)
+        self.report(found)
         self.number += 1
         if self.bits:
-            if not self.row.reach(start + self.bits):
+            if not self.row.reach(found.end):
+                found.end = self.row.end
                 raise Torn(f"{begins} torn: the input ends at byte {self.row.end // 8}, in `{it.path}`")
-            self.row.at = start + self.bits
+            self.row.at = found.end
             self.pass_over({})
         elif self.sync:
             self.find(start + 8, self.sync)
+            found.end = self.row.at
 
     def find(self, at: int, sync: m.Const) -> None:
         """Moves to the next byte where the first constant of a record begins, or to the end of the input."""

@@ -4,16 +4,20 @@ usage: ./format --show DESCRIPTION [FILE] [OPTION ..]    one JSON object for eac
        ./format --pack DESCRIPTION [FILE] [OPTION ..]    the bytes of such lines
 
 Without FILE the standard input is read, as it comes. A number beyond 2^53 - 1, which JSON does not hold exactly, is a
-string of its digits; bytes are hex; an enum is the name of its case, or {"Other": 5} for another number. Constants,
-flags, counts, tags and sizes are not printed: `--pack` computes them.
+string of its digits; bytes are hex; an enum is the name of its case, or {"Other": 5} for another number; an `option` that
+is not there is null. Constants, flags, counts, tags and sizes are not printed: `--pack` computes them. Records are
+numbered from 0, and the lines of JSON from 1.
 
   --repeat          read records until the end of the input, and not only one
   --offset N        the byte where the first record begins
-  --count N         read at most N records
+  --count N         read at most N records; --repeat need not be said too
   --skip EXPRESSION the bytes between a record and the next one: a number, or `length`, `length+1`, `length*4-8` for a
                     field `length` of the record (`header.length` inside a part)
-  --keep-going      report a refused record and go on with the next one. If all records have the same size, it follows
-                    that size; else it is at the next constant of 8 bits or more that every record begins with
+  --keep-going      report a refused record and go on with the next one; --repeat need not be said too. If all records
+                    have the same size, it follows that size; else it is at the next constant of 8 bits or more that
+                    every record begins with
+  --numbered        begin each object with the number of its record and the byte where it begins, as "record" and "byte".
+                    `--pack` takes the option too, and ignores both
   --in FIELD OTHER  read the bytes of FIELD by the description OTHER, which has an order of its own. Bytes that OTHER
                     does not read are not printed. `--pack` takes the option too
   --table           print a table of the lines with their positions (byte in hex, bit), with colours on a terminal
@@ -31,8 +35,9 @@ flags, counts, tags and sizes are not printed: `--pack` computes them.
 
 A size limits the reader: no bit after it is read.
 
-status: 0 the input ended after a record; 2 the command, the description or a file is refused; 3 a record is refused,
-or a line does not fit the description; 4 the input ended inside a record. The records before are printed.
+status: 0 no record is refused or torn, also if there is none or if more bytes follow; 2 the command, the description or
+a file is refused; 3 a record is refused, or a line does not fit the description; 4 the input ended inside a record. The
+records before are printed.
 """
 from __future__ import annotations
 
@@ -48,6 +53,7 @@ from describing.examples import described
 from describing.flat import Plan
 from describing.input import Input, Value
 from describing.model import Refused
+from describing.read import value_of
 from describing.records import Ended, Fields, Options, Record, Records
 from describing.write import EXACT, Unfit, packed, record
 
@@ -64,6 +70,11 @@ def report(text: str) -> None:
     """Prints a message after the records so far."""
     sys.stdout.flush()
     print(f"format: {text}", file=sys.stderr)
+
+
+def report_refused(it: Record) -> None:
+    """Prints why a record is refused."""
+    report(it.why)
 
 
 # ---- JSON
@@ -105,6 +116,24 @@ def show_json(found: Records, wide: bool) -> None:
         write(ENCODE(exact(it) if wide else it) + "\n")
 
 
+# What `--numbered` adds to each object.
+NUMBERED = ("record", "byte")
+
+
+def show_numbered(found: Records, wide: bool) -> None:
+    """Prints each record as a line of JSON that begins with its number and its first byte."""
+    write, head = sys.stdout.write, '{{"record": {}, "byte": {}, {}'.format
+    if found.plan:
+        line, step = line_of(found.plan), found.plan.size + int(found.options.skip)
+        for number, start, words in found.words(found.plan):
+            at = start // 8
+            write("".join([head(number + k, at + k * step, line(it)[1:]) for k, it in enumerate(words)]))
+        return
+    for it in found.records():
+        value = value_of(it.nodes)
+        write(head(it.number, it.start // 8, ENCODE(exact(value) if wide else value)[1:]) + "\n")
+
+
 def line_of(plan: Plan) -> Callable[[int], str]:
     """Returns the function that gives the line of JSON of a record of its number."""
     lines = [it for it in plan.lines if m.is_field(it[0])]
@@ -144,33 +173,45 @@ def show_table(found: Records) -> None:
         write(made.text(it.number, it.start, it.end, it.nodes) + "\n")
 
 
-def show_page(asked: argparse.Namespace, it: m.Description, options: Options, file: BinaryIO) -> None:
+def show_page(asked: argparse.Namespace, it: m.Description, options: Options, file: BinaryIO) -> Records:
     """Prints a page for a browser. It says why the records end early, and then the command ends as it does without."""
-    data, why = file.read(), list[str]()
+    data, notes = file.read(), list[str]()
     options.count = min(options.count, web.MOST)
-    found = Records(it, Input(data, it.order), options, why.append)
-    ended: list[Ended] = []
+    refused, ended = list[Record](), list[Ended]()
+
+    def passed(one: Record) -> None:
+        report_refused(one)
+        refused.append(one)
+
+    found = Records(it, Input(data, it.order), options, passed)
 
     def records() -> Iterator[Record]:
         try:
-            yield from found.records()
+            for one in found.records():
+                yield from taken(refused)
+                yield one
         except Ended as early:
             ended.append(early)
-            why.append(str(early))
+            refused.extend([early.record] if early.record else [])
+            notes.extend([] if early.record else [str(early)])
+        yield from taken(refused)
+        if found.number == web.MOST and found.row.at < found.row.end:
+            notes.append(
+                f"{web.MOST} records are shown; the next one begins at byte {found.row.at // 8}: see --offset."
+            )
 
-    text = web.page(
-        [it, *[other for _, other in options.inside]], data, limited(found, records(), why), asked.file or "-", why
-    )
-    sys.stdout.write(text)
+    said = [it, *[other for _, other in options.inside]]
+    sys.stdout.write(web.page(said, data, records(), asked.file or "-", notes))
     if ended:
         raise ended[0]
+    return found
 
 
-def limited(found: Records, records: Iterator[Record], why: list[str]) -> Iterator[Record]:
-    """Returns records, and adds to `why` where the next one begins if there are more of them than a page shows."""
-    yield from records
-    if found.number == web.MOST and found.row.at < found.row.end:
-        why.append(f"{web.MOST} records are shown; the next one begins at byte {found.row.at // 8}: see --offset.")
+def taken(records: list[Record]) -> list[Record]:
+    """Empties a list, and returns what it held."""
+    found = records[:]
+    records.clear()
+    return found
 
 
 # ---- the commands
@@ -186,15 +227,23 @@ def input_of(file: BinaryIO, order: str) -> Input:
     return Input(b"", order, fetch)
 
 
+def show_lines(asked: argparse.Namespace, it: m.Description, options: Options, found: Records) -> None:
+    """Prints the records as tables or as JSON."""
+    if asked.table:
+        return show_table(found)
+    wide = is_wide(it) or any(is_wide(other) for _, other in options.inside)
+    if asked.numbered:
+        return show_numbered(found, wide)
+    show_json(found, wide)
+
+
 def show(asked: argparse.Namespace, it: m.Description, options: Options, file: BinaryIO) -> None:
     """Runs `--show`."""
     if asked.html:
-        return show_page(asked, it, options, file)
-    found = Records(it, input_of(file, it.order), options, report)
-    if asked.table:
-        show_table(found)
+        found = show_page(asked, it, options, file)
     else:
-        show_json(found, is_wide(it) or any(is_wide(other) for _, other in options.inside))
+        found = Records(it, input_of(file, it.order), options, report_refused)
+        show_lines(asked, it, options, found)
     if found.refused:
         raise Ended(f"{found.refused} of {found.number} records are refused")
     if not options.repeat and found.row.end > found.row.at:
@@ -215,16 +264,44 @@ def joined_inside(value: Value, inside: list[tuple[str, m.Description]]) -> Valu
     return found
 
 
-def pack(it: m.Description, options: Options, lines: Iterable[bytes], out: BinaryIO) -> None:
+def pack(asked: argparse.Namespace, it: m.Description, options: Options, lines: Iterable[bytes], out: BinaryIO) -> None:
     """Runs `--pack`."""
     for number, line in enumerate(lines, 1):
         if line.strip():
             try:
-                value = joined_inside(json.loads(line), options.inside)
-                out.write(packed(it, record("the line", value)))
-            except (Unfit, ValueError) as why:
+                value = record("the line", joined_inside(json.loads(line.rstrip()), options.inside))
+                if asked.numbered:
+                    value = {name: held for name, held in value.items() if name not in NUMBERED}
+                out.write(packed(it, value))
+            except (Unfit, ValueError, RecursionError) as why:
                 out.flush()
-                raise Ended(f"line {number}: {why}") from None
+                raise Ended(f"line {number}{no_json(why)}") from None
+
+
+# What `json` says of a text that is no JSON, and what is said here.
+JSON_TEXTS = {
+    "Expecting value": "a value expected",
+    "Expecting property name enclosed in double quotes": "a name in double quotes expected",
+    "Expecting ',' delimiter": "',' expected",
+    "Expecting ':' delimiter": "':' expected",
+    "Extra data": "the end of the line expected",
+    "Unterminated string starting at": "this string does not end",
+    "Invalid control character at": "a control character in a string",
+    "Illegal trailing comma before end of object": "no ',' expected",
+    "Illegal trailing comma before end of array": "no ',' expected",
+}
+
+
+def no_json(why: Exception) -> str:
+    """Returns the rest of the message of a line, from the column where it is no JSON."""
+    match why:
+        case json.JSONDecodeError():
+            return f", column {why.pos + 1}: no JSON: {JSON_TEXTS.get(why.msg, why.msg)}"
+        case UnicodeDecodeError():
+            return f", byte {why.start + 1}: no JSON: the bytes are no UTF-8"
+        case RecursionError():
+            return ": too many brackets inside each other"
+    return f": {why}"
 
 
 def arguments(words: list[str]) -> argparse.Namespace:
@@ -234,11 +311,11 @@ def arguments(words: list[str]) -> argparse.Namespace:
     what = parser.add_mutually_exclusive_group(required=True)
     for name in ("show", "pack", "help"):
         what.add_argument(f"--{name}", action="store_true")
-    for name in ("repeat", "table", "html", "picture", "svg", "keep-going"):
+    for name in ("repeat", "table", "html", "picture", "svg", "keep-going", "numbered"):
         parser.add_argument(f"--{name}", action="store_true")
     parser.add_argument("--offset", type=whole, default=0)
     parser.add_argument("--skip", default="0")
-    parser.add_argument("--count", type=whole, default=sys.maxsize)
+    parser.add_argument("--count", type=whole)
     parser.add_argument("--in", dest="inside", nargs=2, action="append", default=[])
     parser.add_argument("description", nargs="?")
     parser.add_argument("file", nargs="?")
@@ -267,7 +344,8 @@ def whole(text: str) -> int:
 def options_of(asked: argparse.Namespace) -> Options:
     """Returns the options that a command line has."""
     inside = [(name, loaded(path)) for name, path in asked.inside]
-    return Options(asked.repeat, asked.offset, asked.count, asked.skip, asked.keep_going, inside)
+    repeat, count = asked.repeat or asked.count is not None or asked.keep_going, asked.count
+    return Options(repeat, asked.offset, sys.maxsize if count is None else count, asked.skip, asked.keep_going, inside)
 
 
 def byte_fields(it: m.Description) -> set[str]:
@@ -284,10 +362,18 @@ def check_inside(it: m.Description, inside: list[tuple[str, m.Description]]) -> 
             raise Refused(f"--in {name}: no field `{name}` holds bytes")
 
 
+def check_numbered(it: m.Description) -> None:
+    """Refuses `--numbered` for a description that has a field of the same name."""
+    for name in {kind.name for kind in it.fields} & set(NUMBERED):
+        raise Refused(f"--numbered: the description has a field `{name}` of its own")
+
+
 def run(asked: argparse.Namespace) -> None:
     """Runs a command."""
     it, options = loaded(asked.description), options_of(asked)
     check_inside(it, options.inside)
+    if asked.numbered:
+        check_numbered(it)
     if asked.picture:
         print("\n".join(picture.text(it.kinds)[2:-1]))
     elif asked.svg:
@@ -302,7 +388,7 @@ def run(asked: argparse.Namespace) -> None:
 def run_on(asked: argparse.Namespace, it: m.Description, options: Options, file: BinaryIO) -> None:
     """Runs a command on an input."""
     if asked.pack:
-        pack(it, options, file, sys.stdout.buffer)
+        pack(asked, it, options, file, sys.stdout.buffer)
     else:
         show(asked, it, options, file)
 

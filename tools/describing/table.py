@@ -69,7 +69,7 @@ def meaning(kind: m.Kind | None) -> str:
         case None:
             return ""
         case m.Const():
-            return "the constant"
+            return f"else {kind.error}: {kind.doc}"
         case m.Skip():
             return "any bits"
         case m.Flag():

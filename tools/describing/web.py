@@ -22,6 +22,7 @@ from describing.records import Record
 RECORDS, BYTES = 200, 8192  # of one page, which has at least one record
 SHOWN = 1 << 16  # bytes of a page that are shown, of a longer record
 MOST = 100000  # records of all pages
+LISTED = 1000  # refused records that the page lists above the fields
 HERE = os.path.join(os.path.dirname(os.path.abspath(__file__)), "page")
 Json: TypeAlias = Union[str, int, None, list["Json"], dict[str, "Json"]]
 
@@ -81,7 +82,7 @@ class Kinds:
             self.found[id(kind)] = len(self.said)
             hidden = int(kind is not None and not m.is_field(kind))
             of, line, big = self.places.get(id(kind), (-1, -1, -1))
-            doc = kind.doc if kind else ""
+            doc = table.meaning(kind)
             self.said.append([type_text(kind), doc, range_text(kind), cases(kind), hidden, of, line, big])
         return self.found[id(kind)]
 
@@ -98,7 +99,7 @@ def tree(nodes: list[Node], kinds: Kinds) -> list[Json]:
 
 @dataclass
 class Page:
-    """Some records: the number of the first one, its first bit, and the nodes."""
+    """Some records: the number of the first one, its first bit, and the nodes of each, or why it has none."""
 
     record: int
     start: int
@@ -110,15 +111,18 @@ class Page:
         return len(self.nodes) >= RECORDS or self.end - self.start >= 8 * BYTES
 
 
-def pages_of(records: Iterable[Record], kinds: Kinds) -> list[Page]:
-    """Returns the pages of records."""
+def pages_of(records: Iterable[Record], kinds: Kinds) -> tuple[list[Page], list[Record]]:
+    """Returns the pages of records, and the records that are refused or torn."""
     pages: list[Page] = []
+    wrong: list[Record] = []
     for it in records:
         if not pages or pages[-1].is_full():
             pages.append(Page(it.number, it.start))
-        pages[-1].nodes.append([it.start, it.end - it.start, tree(it.nodes, kinds)])
+        pages[-1].nodes.append([it.start, it.end - it.start, tree(it.nodes, kinds), it.why])
         pages[-1].end = it.end
-    return pages
+        if it.why:
+            wrong.append(it)
+    return pages, wrong
 
 
 def packed(k: int, page: Page, data: bytes, end: int) -> str:
@@ -130,21 +134,50 @@ def packed(k: int, page: Page, data: bytes, end: int) -> str:
     return f'<script id="page-{k}" type="application/gzip">{base64.b64encode(text).decode()}</script>'
 
 
-def page(descriptions: list[m.Description], data: bytes, records: Iterable[Record], name: str, why: list[str]) -> str:
-    """Returns the page. `descriptions` are of the records, and of bytes inside; `why` is read after the records."""
+def linked(it: Record, text: str = "") -> str:
+    """Returns a link to a record, with a text or why the record is refused or torn."""
+    return f'<a href="#at={it.start}">{escape(text or it.why)}</a>'
+
+
+def reasons(wrong: list[Record], count: int, notes: list[str]) -> str:
+    """Returns the lines above the fields: of many refused records one line, which opens the list of the others."""
+    refused = [it for it in wrong if not it.torn]
+    lines = [linked(it) for it in wrong if it.torn] + [escape(it) for it in notes]
+    if len(refused) == 1:
+        lines.insert(0, linked(refused[0]))
+    elif refused:
+        first = linked(refused[0], f"the first at byte {refused[0].start // 8}")
+        listed = [linked(it) for it in refused[:LISTED]]
+        listed += [f"and {len(refused) - LISTED} more"] * (len(refused) > LISTED)
+        items = "".join(f"<li>{it}</li>" for it in listed)
+        said = f"{len(refused)} of {count} records are refused: {first}"
+        lines.insert(0, f"<details><summary>{said}</summary><ul>{items}</ul></details>")
+    return f'<div class="why">{"".join(f"<div>{it}</div>" for it in lines)}</div>' if lines else ""
+
+
+def counts(wrong: list[Record], count: int) -> str:
+    """Returns the number of records, and how many of them are refused or torn."""
+    torn = sum(it.torn for it in wrong)
+    refused = len(wrong) - torn
+    parts = ", ".join([f"{refused} refused"] * bool(refused) + [f"{torn} torn"] * bool(torn))
+    return f"{count} record{'s' * (count != 1)}" + f" ({parts})" * bool(parts)
+
+
+def page(descriptions: list[m.Description], data: bytes, records: Iterable[Record], name: str, notes: list[str]) -> str:
+    """Returns the page. `descriptions` are of the records, and of bytes inside; `notes` are read after the records."""
     kinds, it = Kinds(descriptions), descriptions[0]
-    pages = pages_of(records, kinds) or [Page(0, 0)]
+    pages, wrong = pages_of(records, kinds)
+    pages = pages or [Page(0, 0)]
     count = pages[-1].record + len(pages[-1].nodes)
     ends = [one.start // 8 for one in pages[1:]] + [min(pages[-1].end // 8 + 4096, len(data))]
     said: dict[str, Json] = {"name": it.name, "order": it.order, "records": count, "hues": [*picture.HUES]}
     said |= {"kinds": kinds.said, "pages": [{"record": one.record, "start": one.start} for one in pages]}
-    reasons = "".join(f'<p class="why">{escape(one)}</p>' for one in why)
     filled = {
         "TITLE": escape(f"{it.name}: {os.path.basename(name)}"),
         "NAME": escape(it.name),
         "DOC": escape(it.doc),
-        "FILE": escape(f"{os.path.basename(name)}, {len(data)} bytes, {count} records, {it.order}"),
-        "WHY": reasons,
+        "FILE": escape(f"{os.path.basename(name)}, {len(data)} bytes, {counts(wrong, count)}, {it.order}"),
+        "WHY": reasons(wrong, count, notes),
         "SVG": "".join(kinds.pictures),
         "STYLE": part("page.css"),
         "SCRIPT": part("page.js"),

@@ -110,7 +110,7 @@ def enum_number(name: str, enum: m.EnumType, value: Value) -> int:
     if isinstance(value, str) and (found := enum.number(value)) is not None:
         return found
     if enum.other and isinstance(value, dict) and list(value) == [enum.other]:
-        held = number(name, value[enum.other], 0, (1 << enum.width) - 1)
+        held = number(f"{name}.{enum.other}", value[enum.other], 0, (1 << enum.width) - 1)
         if m.case_named(held, enum) is None:
             return held
     other = f' or {{"{enum.other}": NUMBER}}' if enum.other else ""

@@ -37,13 +37,16 @@ function node([name, start, bits, value, kind, inside], depth, above) {
   return it;
 }
 
-function record([start, bits, nodes], index) {
-  const it = { name: `${said.name} ${said.pages[number].record + index}`, start, bits, value: "", type: "", doc: "" };
-  Object.assign(it, { range: "", cases: [], hidden: 0, of: 0, line: -1, depth: 0, above: null, hue: 210 });
+// A record has nodes, or it is refused or torn: then `why` says so.
+function record([start, bits, nodes, why], index) {
+  const it = { name: `${said.name} ${said.pages[number].record + index}`, start, bits, type: "", doc: "" };
+  Object.assign(it, { range: "", cases: [], hidden: 0, of: 0, line: -1, depth: 0, above: null, hue: why ? 0 : 210 });
+  it.value = why.replace(/^record \d+ begins at byte \d+ and is /, "");
   it.big = said.order === "BE" ? 1 : 0;
   it.open = index === 0;
   items.push(it);
   it.inside = nodes.map(one => node(one, 1, it));
+  if (why) addLeaf(it);
 }
 
 // ---- the tree
@@ -195,6 +198,13 @@ function show(it) {
   draw();
 }
 
+// Scrolls a box, and nothing around it, to what is inside.
+function reveal(box, it) {
+  const around = box.getBoundingClientRect(), place = it.getBoundingClientRect();
+  if (place.top < around.top) box.scrollTop -= around.top - place.top;
+  else if (place.bottom > around.bottom) box.scrollTop += place.bottom - around.bottom;
+}
+
 function mark() {
   document.querySelectorAll(".on").forEach(it => it.classList.remove("on"));
   document.querySelectorAll("[aria-selected=true]").forEach(it => it.setAttribute("aria-selected", false));
@@ -202,10 +212,10 @@ function mark() {
   cells(chosen, one => one.classList.add("on"));
   if (chosen.row) {
     chosen.row.setAttribute("aria-selected", true);
-    chosen.row.scrollIntoView({ block: "nearest" });
+    reveal($("left"), chosen.row);
   }
   const first = cell(chosen.start >> 3);
-  if (first) first.scrollIntoView({ block: "nearest" });
+  if (first) reveal($("hex"), first);
   markPicture();
   bitsOf(chosen);
   detail(chosen);
@@ -371,6 +381,7 @@ document.querySelectorAll("svg .cell").forEach(it => {
   it.onclick = () => {
     const of = +it.closest("figure").dataset.of;
     let above = chosen;
+    if (!above) return;
     while (above.above && !above.inside.some(one => one.of === of)) above = above.above;
     const found = above.inside.find(one => one.of === of && one.line === +it.dataset.kind);
     if (found) show(found);
@@ -380,5 +391,12 @@ document.querySelectorAll("svg .cell").forEach(it => {
 if (location.hash.includes("dark") || matchMedia("(prefers-color-scheme: dark)").matches) $("theme").click();
 keys($("tree"), treeKeys);
 keys($("hex"), hexKeys);
-const asked = /at=(\d+)/.exec(location.hash);
-turn(asked ? pageOf(+asked[1]) : 0, asked ? +asked[1] : undefined).then(() => $("tree").focus());
+
+// Draws the page with the bit that a link names, or the first page.
+function follow(hash) {
+  const asked = /at=(\d+)/.exec(hash);
+  return turn(asked ? pageOf(+asked[1]) : 0, asked ? +asked[1] : undefined);
+}
+
+document.querySelectorAll(".why a").forEach(it => (it.onclick = () => follow(it.hash)));
+follow(location.hash).then(() => $("tree").focus({ preventScroll: true }));

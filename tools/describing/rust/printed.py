@@ -84,7 +84,7 @@ def imported(f: Format, text: str) -> list[str]:
 
 def struct_code(f: Format) -> list[str]:
     """Returns the struct, with the picture of its bits."""
-    drawn = [f"/// {it}".rstrip() for it in picture.text(f.description.kinds)]
+    drawn = [f"/// {it}".rstrip() for it in picture.text(f.description.kinds, decimal=True)]
     derives = "Debug, Drop" if f.grows else "Clone, Copy, Debug, PartialEq"
     out = [f"/// {f.doc}", *drawn, f"#[derive({derives})]", f"pub struct {f.type} {{"]
     for it in f.fields:
