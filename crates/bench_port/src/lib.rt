@@ -233,7 +233,7 @@ pub extern "C" fn bench_write_bytes(
     }
 }
 
-/// Reads numbers as runs from a slice's bytes.
+/// Reads unary numbers from a slice's bytes.
 #[unsafe(no_mangle)]
 pub extern "C" fn bench_read_unary(order: u32, stop: u32, data: &[u8], count: u64) -> u64 {
     if order == 0 {
@@ -243,7 +243,7 @@ pub extern "C" fn bench_read_unary(order: u32, stop: u32, data: &[u8], count: u6
     }
 }
 
-/// Reads numbers as runs from a `Slice`.
+/// Reads unary numbers from a `Slice`.
 #[unsafe(no_mangle)]
 pub extern "C" fn bench_read_unary_slice(order: u32, stop: u32, data: &[u8], count: u64) -> u64 {
     if order == 0 {
@@ -253,7 +253,7 @@ pub extern "C" fn bench_read_unary_slice(order: u32, stop: u32, data: &[u8], cou
     }
 }
 
-/// Writes numbers as runs.
+/// Writes unary numbers.
 #[unsafe(no_mangle)]
 pub extern "C" fn bench_write_unary(
     order: u32,

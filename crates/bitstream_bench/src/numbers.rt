@@ -3,7 +3,7 @@
 use crate::asserts::each_holds;
 use bitstream_io::Numeric;
 
-/// Returns true if these operators return the right values for 5 and 3, and the default is 0.
+/// Returns true if `&`, `|`, `^` and `!` return the right values for 5 and 3, and the default is 0.
 fn operates<N: Numeric>(five: N, three: N) -> bool {
     (five & three == N::ONE)
         & (five | three == N::from_u8(7))

@@ -1,6 +1,6 @@
-//! Types that own memory: the comment of a FLAC file and its picture, and a parameter set with a
-//! list of parts. No clause states that they are not always refused memory; `.ci/memory` refuses
-//! each growth of a comment.
+//! Types that own memory: the comment and the picture of a FLAC file, and a parameter set with a
+//! list of parts. No clause excludes a body that reports every allocation as failed, so these tests do;
+//! `.ci/memory` makes each allocation of a comment fail.
 use crate::asserts::{each_holds, holds, same};
 use bitstream_callers::block_header::BlockHeader;
 use bitstream_callers::client_hello::{ClientHello, ClientHelloError};

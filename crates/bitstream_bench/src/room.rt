@@ -26,8 +26,8 @@ fn write_packet<W: BitWrite>(writer: &mut W) -> Result<(), Error> {
     first_error(answer, writer.byte_align())
 }
 
-/// A packet written into a number of bytes: the number of bytes written, and all the memory then, in
-/// either order. The memory was filled with `ee` before.
+/// The outcome of writing the packet to `room` bytes of a buffer: the number of bytes written, and the
+/// whole buffer afterwards, in each bit order. Each byte of the buffer was `ee` before.
 struct Row {
     room: usize,
     written: usize,

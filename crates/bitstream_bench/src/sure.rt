@@ -38,7 +38,7 @@ pub fn first_track(bytes: &[u8]) -> Result<NonZero<u8>, Error>
     reader.read_var(4)
 }
 
-/// Returns the numbers of the first three words of 9 bits.
+/// Returns the first three numbers of 9 bits each.
 ///
 /// # Errors
 ///

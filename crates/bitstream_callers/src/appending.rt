@@ -6,18 +6,18 @@ ghost use Rattle.bitstream_callers.specs.BlockHeader.{block_header_writes};
 use crate::block_header::BlockHeader;
 use bitstream_io::{BitWrite, BitWriteExt, Error, ToBitStream};
 
-/// Writes a header, and returns its number of bits. This is the number of bits written if the sink was
-/// at the end of a byte.
+/// Writes a header, and returns its number of bits. If the sink was at a byte boundary, this is the
+/// number of bits written.
 ///
 /// # Errors
 ///
 /// `Checked` for a field that does not fit its bits. Nothing is written then. Otherwise the errors of
 /// the sink: the fields before the error stay written.
 pub fn append<W: BitWrite>(writer: &mut W, header: &BlockHeader) -> Result<u32, Error>
-    // If it succeeds, only the header's words were written.
+    // If it succeeds, only the header's encodings were written.
     ensures writes { IfOk result (λ bits. WritesAll W.sink
         (block_header_writes W.sink.order header.now) writer.old (Ok tt) writer.new) }
-    // At the end of a byte, the result is the number of bytes written.
+    // At a byte boundary, the result is the number of bits written.
     ensures counts { W.sink.len writer.old % 8 ≡ 0
         → IfOk result (λ bits. W.sink.len writer.new ≡ W.sink.len writer.old + bits) }
     // After an error the sink is unchanged, or a write of the header had this error.

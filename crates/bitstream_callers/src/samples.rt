@@ -44,7 +44,7 @@ pub fn parse_samples(alloc: Global, bytes: &[u8], count: usize) -> Result<Vec<u1
     read_samples(alloc, &mut BitReader::<_, BE>::over(bytes), count)
 }
 
-/// Writes samples.
+/// Writes samples of 12 bits.
 ///
 /// # Errors
 ///

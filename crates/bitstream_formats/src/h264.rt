@@ -58,7 +58,7 @@ pub enum H264Error {
     /// A command on references is reserved.
     #[error("the command {0} on references is reserved")]
     Command(u32),
-    /// A slice has more than 66 commands on a list of references.
+    /// A slice has more than 66 changes to a list of references, or more than 66 commands that mark them.
     #[error("more than 66 commands on references")]
     TooManyCommands,
     /// A bit `cabac_alignment_one_bit` before the data of a slice is 0.

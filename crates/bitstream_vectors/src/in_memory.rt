@@ -153,7 +153,7 @@ fn run_agrees<E: Endianness>(order: Order, bits: u32, run: u32, stop: bool) -> b
     endless & ended & more
 }
 
-/// Returns the number of runs of either stop bit that differ after some bits.
+/// Returns the number of run lengths at which `run_agrees` is false for one of the stop bits.
 fn differing_runs<E: Endianness>(order: Order, bits: u32) -> u32 {
     let mut differing = 0u32;
     for run in 0..RUNS {

@@ -1,4 +1,4 @@
-//! The reasons that a row does not hold.
+//! The reasons for which a row fails.
 
 use std::alloc::{AllocError, AllocFailed};
 
@@ -51,7 +51,7 @@ impl Difference {
     }
 }
 
-/// The reasons that a row does not hold.
+/// The reasons for which a row fails.
 #[derive(Clone, Copy, Drop)]
 pub enum Objection {
     /// The row and a play differ.

@@ -13,7 +13,7 @@ use std::alloc::Global;
 struct Played {
     /// The number of bits that it holds.
     recorded: u32,
-    /// The order of the writer on which it is played.
+    /// The order of the writer to which it is played.
     to: Order,
     /// The bits written before: their number, and their value.
     behind: (u32, u8),

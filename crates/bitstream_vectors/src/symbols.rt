@@ -46,7 +46,7 @@ pub fn read_symbol<R: BitRead>(
     Ok(is_number(want, reader.read_huffman(&code(alloc, tree)?)))
 }
 
-/// Writes the symbol of a tree that a text spells.
+/// Writes a symbol, given as text, in the code of a tree.
 pub fn write_symbol<W: BitWrite>(
     alloc: Global,
     writer: &mut W,
@@ -62,7 +62,7 @@ pub fn write_symbol<W: BitWrite>(
     })
 }
 
-/// Reads a run of at most `most` digits, and returns true if the result is the expected one.
+/// Reads a unary number limited to `most` bits, and returns true if the result is the expected one.
 pub fn read_limited<R: BitRead>(
     reader: &mut R,
     stop: bool,
@@ -80,7 +80,7 @@ pub fn read_limited<R: BitRead>(
     Ok(is_optional(want, answer))
 }
 
-/// Writes the run that a text spells: at most `most` digits, a number or none.
+/// Writes a unary number limited to `most` bits, given as text: a number or `none`.
 pub fn write_limited<W: BitWrite>(writer: &mut W, stop: bool, most: u32, value: &str) -> Answer {
     let run: Option<u32> = match value {
         "none" => None,

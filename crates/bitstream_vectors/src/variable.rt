@@ -112,7 +112,7 @@ impl<W: BitWrite> GroupedCall for Writing<'_, W> {
     }
 }
 
-/// Makes a call for a value of the types of a size.
+/// Makes the call for a kind of value, with the unsigned and the signed type of one size.
 macro_rules! make {
     ($call:ident, $value:ident, $unsigned:ident, $signed:ident) => {
         match $value {

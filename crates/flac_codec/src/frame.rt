@@ -43,7 +43,7 @@ struct ChannelsAt {
 /// # Errors
 ///
 /// Returns the first error in this order: an error of [`read_header`], `HeaderChecksum`, an error of [`read_channels`],
-/// `FrameChecksum`. If the bytes end before, it returns `Reader(EndOfInput)`, and if an allocation fails,
+/// `FrameChecksum`. If the bytes end first, it returns `Reader(EndOfInput)`, and if an allocation fails,
 /// `Reader(OutOfMemory)`.
 pub fn decode_frame(alloc: Global, sample_size: u8, bytes: &[u8]) -> Result<Frame, FlacError>
     ensures { IsUnlessRefused (frame_at sample_size bytes.now)

@@ -37,21 +37,21 @@ use std::num::NonZero;
 /// ```
 #[derive(Clone, Copy, Debug, PartialEq)]
 pub struct StreamInfo {
-    /// The fewest samples of a block, of each channel.
+    /// The number of samples per channel in the smallest block.
     pub minimum_block_size: u16,
-    /// The most samples of a block, of each channel.
+    /// The number of samples per channel in the largest block.
     pub maximum_block_size: u16,
-    /// The bytes of the smallest frame, or 0 if they are not known. Below 2^24.
+    /// The size of the smallest frame in bytes, or 0 if it is not known. Below 2^24.
     pub minimum_frame_size: u32,
-    /// The bytes of the largest frame, or 0 if they are not known. Below 2^24.
+    /// The size of the largest frame in bytes, or 0 if it is not known. Below 2^24.
     pub maximum_frame_size: u32,
-    /// Samples a second, of each channel. Below 2^20.
+    /// The number of samples per second in each channel. Below 2^20.
     pub sample_rate: u32,
     /// The number of channels. At most 2^3.
     pub channels: NonZero<u8>,
-    /// The bits of a sample. At most 2^5.
+    /// The number of bits of a sample. At most 2^5.
     pub bits_per_sample: NonZero<u8>,
-    /// The samples of the file, of each channel, or 0 if they are not known. Below 2^36.
+    /// The number of samples per channel in the file, or 0 if it is not known. Below 2^36.
     pub total_samples: u64,
     /// The MD5 of all samples, or zeros if it is not known.
     pub checksum: [u8; 16],

@@ -71,7 +71,7 @@ impl Walk {
         Ok(None)
     }
 
-    /// Adds the places of a directory.
+    /// Adds the entries of a directory.
     fn open(&mut self, rt: &HostRuntime, path: String) -> Result<(), AllocError> {
         match places(rt, path.as_str()) {
             Ok(mut places) => {
@@ -93,7 +93,7 @@ impl Walk {
     }
 }
 
-/// Returns the places of a directory, in any order.
+/// Returns the entries of a directory, in any order.
 fn places(rt: &HostRuntime, directory: &str) -> io::Result<Vec<Place>> {
     let alloc = rt.alloc();
     let mut places = Vec::new(alloc);

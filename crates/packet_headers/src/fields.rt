@@ -1,4 +1,4 @@
-//! The values of JSON.
+//! Conversions between JSON and the fields of a record.
 //!
 //! Made by `./format --program` from ../bitstream_callers/formats/primary_header.fields: edit that file and make this one anew.
 ghost use Rattle.std.specs.Prelude.{◌≤◌, IfOk, IsErr};
@@ -52,7 +52,7 @@ pub fn check_object(alloc: Global, name: &str, value: &Value) -> Result<(), Unfi
     }
 }
 
-/// Refuses fields of an object that the record `kind` does not have.
+/// Returns an error if an object has a field that the record `kind` does not have.
 pub fn check_names(alloc: Global, object: &Value, kind: &str, names: &[&str]) -> Result<(), Unfit> {
     let Some(fields) = object.as_object() else {
         return Ok(());

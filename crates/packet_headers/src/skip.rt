@@ -6,12 +6,12 @@ use crate::ended::Ended;
 use crate::primary_header_json::primary_header_number;
 use bitstream_callers::primary_header::PrimaryHeader;
 
-/// The number of bytes after a record.
+/// The number of bytes to skip after a record.
 #[derive(Clone, Copy, Debug)]
 pub enum Skip<'a> {
     /// The same number after each record.
     Bytes(u64),
-    /// `times` a number of the record, and `plus`.
+    /// `times` the number in the field `path`, plus `plus`.
     Field {
         path: &'a str,
         times: i128,
@@ -56,7 +56,7 @@ impl Skip<'_> {
     }
 }
 
-/// Returns the number of some digits, and nothing else.
+/// Parses a number without a sign: decimal, or hex after `0x`.
 fn number_of(digits: &str) -> Option<u64> {
     if digits.starts_with('+') {
         return None;

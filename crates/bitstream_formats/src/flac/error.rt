@@ -60,7 +60,7 @@ pub enum FlacError {
     /// The coding of the residual is reserved.
     #[error("the coding of the residual is reserved")]
     ReservedResidual,
-    /// The block is not of whole partitions, or the first one has fewer samples than come before it.
+    /// The block does not divide into its partitions, or one is shorter than the prediction's order.
     #[error("the partitions do not fit the block")]
     Partitions,
     /// The frame has another number of channels than STREAMINFO.

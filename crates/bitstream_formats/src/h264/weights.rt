@@ -53,7 +53,7 @@ pub(super) fn read_weights(
     Ok(())
 }
 
-/// Reads the weights of a list whose last picture has this index.
+/// Reads the weights of a list of pictures. `last` is the index of its last picture.
 fn read_list(
     syntax: &mut Syntax<'_, '_, '_, BE>,
     names: &Names,

@@ -180,7 +180,8 @@ fn read_pps_layers(syntax: &mut Nal<'_, '_, '_>) -> Result<(), H265Error> {
     Ok(())
 }
 
-/// Reads the place of a picture in the picture of another layer, and its sampling.
+/// Reads the region of a picture that matches a region of another layer's picture, and the resampling
+/// phases.
 fn read_layer_offsets(syntax: &mut Nal<'_, '_, '_>, at: u32) -> Result<(), Error> {
     syntax.index = Some(Index::One(at));
     let layer = Some(Index::One(syntax.number("ref_loc_offset_layer_id", 6)?));

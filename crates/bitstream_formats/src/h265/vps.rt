@@ -88,7 +88,7 @@ pub(super) fn read_ordering(
     Ok(())
 }
 
-/// Reads the sets of layers, and returns their number.
+/// Reads the layer sets, and returns their number.
 fn read_layer_sets(syntax: &mut Nal<'_, '_, '_>) -> Result<u32, H265Error> {
     let highest = syntax.number("vps_max_layer_id", 6)?;
     let more = read_ue(syntax, "vps_num_layer_sets_minus1")?;
@@ -101,7 +101,7 @@ fn read_layer_sets(syntax: &mut Nal<'_, '_, '_>) -> Result<u32, H265Error> {
     Ok(more + 1)
 }
 
-/// Reads the layers of a set of layers.
+/// Reads which layers a layer set includes.
 fn read_layer_set(syntax: &mut Nal<'_, '_, '_>, set: u32, highest: u32) -> Result<(), Error> {
     for layer in 0..=highest {
         syntax.index = Some(Index::Two(set, layer));

@@ -52,7 +52,7 @@ impl Section {
         self.id
     }
 
-    /// Returns the bytes that came.
+    /// Returns the bytes that came so far.
     pub(super) fn bytes(&self) -> &[u8] {
         self.bytes.as_slice()
     }

@@ -265,7 +265,7 @@ fn length_at(bytes: &[u8], at: usize) -> usize {
     }
 }
 
-/// Notes a block of metadata that begins at a byte.
+/// Adds to the unit the elements of a metadata block that begins at a byte.
 fn note_block(
     alloc: Global,
     unit: &mut Unit,
@@ -317,7 +317,7 @@ fn note_block(
     }
 }
 
-/// Notes the fields of STREAMINFO.
+/// Adds the fields of STREAMINFO to the unit.
 fn note_stream_info(
     alloc: Global,
     unit: &mut Unit,
@@ -348,7 +348,7 @@ fn note_stream_info(
     unit.note_text("MD5", None, digits)
 }
 
-/// Notes the points of a seek table.
+/// Adds the points of a seek table to the unit.
 fn note_seek_points(unit: &mut Unit, place: u64, bytes: &[u8]) -> Result<(), AllocError> {
     for (at, point) in bytes.chunks_exact(18).enumerate() {
         let place = place.saturating_add((at as u64).saturating_mul(144));
@@ -374,7 +374,7 @@ fn split_text(bytes: &[u8]) -> Option<(&[u8], &[u8])> {
     rest.split_at_checked(u32::from_le_bytes(*length) as usize)
 }
 
-/// Notes the texts of a Vorbis comment.
+/// Adds the texts of a Vorbis comment to the unit.
 fn note_comments(alloc: Global, unit: &mut Unit, bytes: &[u8]) -> Result<(), AllocError> {
     let Some((vendor, rest)) = split_text(bytes) else {
         return Ok(());
@@ -395,7 +395,7 @@ fn note_comments(alloc: Global, unit: &mut Unit, bytes: &[u8]) -> Result<(), All
     Ok(())
 }
 
-/// Notes the kind and the sizes of a picture.
+/// Adds the kind and the sizes of a picture to the unit.
 fn note_picture(
     alloc: Global,
     unit: &mut Unit,
@@ -418,7 +418,7 @@ fn note_picture(
     Ok(())
 }
 
-/// Notes the header of a frame that begins at a bit.
+/// Adds to the unit the header of a frame that begins at a bit.
 fn note_frame(alloc: Global, unit: &mut Unit, place: u64, frame: &Frame) -> Result<(), AllocError> {
     let header = frame.header;
     let fields = [
