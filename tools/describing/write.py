@@ -1,6 +1,7 @@
 """Writes records by a description: the bytes that are read back as the values."""
 from __future__ import annotations
 
+import json
 import re
 from typing import Callable, TypeAlias, assert_never
 
@@ -58,19 +59,25 @@ class Bits:
 Record: TypeAlias = dict[str, Value]
 
 
-def unfit(name: str, value: Value, what: str) -> Unfit:
-    """Returns the refusal of a value; `what` says what is written there."""
-    said = repr(value)
-    return Unfit(f"`{name}` is {said if len(said) < 60 else said[:57] + '...'}: {what}")
+def unfit(name: str, value: Value, what: str, join: str = ": ") -> Unfit:
+    """Returns the refusal of a value; `what` says what is written there, or what is wrong."""
+    said = json.dumps(value, default=bytes.hex, ensure_ascii=False)
+    return Unfit(f"`{name}` is {said if len(said) < 60 else said[:57] + '...'}{join}{what}")
 
 
-def number(name: str, value: Value, least: int, most: int) -> int:
-    """Returns a number in a range. One that JSON does not hold exactly may be a string of its decimal digits."""
+def number(name: str, value: Value, least: int, most: int, null: bool = False) -> int:
+    """Returns a number in a range, where also `null` may stand if it is true.
+
+    A number that JSON does not hold exactly may be a string of its decimal digits.
+    """
+    found = value
     if isinstance(value, str) and most > EXACT and re.fullmatch(r"-?(0|[1-9]\d*)", value):
-        value = int(value)
-    if isinstance(value, bool) or not isinstance(value, int) or not least <= value <= most:
-        raise unfit(name, value, f"a number from {least} to {most}")
-    return value
+        found = int(value)
+    if isinstance(found, bool) or not isinstance(found, int) or not least <= found <= most:
+        if null:
+            raise unfit(name, value, f"must be null, or in {least}..={most}")
+        raise unfit(name, value, f"not in {least}..={most}", ", and ")
+    return found
 
 
 def raw(name: str, value: Value) -> bytes:
@@ -187,7 +194,7 @@ def put_field(bits: Bits, kind: m.Described, value: Value, whole: Record, name: 
         case m.NonZero(integer=it):
             bits.put(number(name, value, 1, it.most + 1) - 1, it.width)
         case m.MaybeNonZero(integer=it):
-            bits.put(0 if value is None else number(name, value, 1, it.most), it.width)
+            bits.put(0 if value is None else number(name, value, 1, it.most, null=True), it.width)
         case m.Unary():
             put_unary(bits, number(name, value, 0, (1 << 32) - 1), kind.stop)
         case m.Groups():

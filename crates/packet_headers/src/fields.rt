@@ -33,14 +33,14 @@ impl From<serde_json::Error> for Unfit {
     }
 }
 
-/// Returns the error of a value; `what` says what it should be.
+/// Returns the error of a value; `what` is the rest of the message.
 pub fn misfit<T: Drop>(alloc: Global, name: &str, value: &Value, what: &str) -> Result<T, Unfit>
     ensures { IsErr result }
 {
     let said = value.to_string(alloc)?;
     Err(Unfit::Field {
         path: String::from_str(alloc, name)?,
-        why: format!(in alloc; "is {}: {what}", said.as_str())?,
+        why: format!(in alloc; "is {}{what}", said.as_str())?,
     })
 }
 
@@ -48,7 +48,7 @@ pub fn misfit<T: Drop>(alloc: Global, name: &str, value: &Value, what: &str) -> 
 pub fn check_object(alloc: Global, name: &str, value: &Value) -> Result<(), Unfit> {
     match value.as_object() {
         Some(_) => Ok(()),
-        None => misfit(alloc, name, value, "an object"),
+        None => misfit(alloc, name, value, ": an object"),
     }
 }
 
@@ -83,7 +83,7 @@ pub fn field<'a>(alloc: Global, object: &'a Value, name: &str) -> Result<&'a Val
 pub fn boolean(alloc: Global, name: &str, value: &Value) -> Result<bool, Unfit> {
     match value.as_bool() {
         Some(bit) => Ok(bit),
-        None => misfit(alloc, name, value, "true or false"),
+        None => misfit(alloc, name, value, ": true or false"),
     }
 }
 
@@ -100,7 +100,7 @@ pub fn unsigned(
     match value.as_u64() {
         Some(number) if least <= number && number <= most => Ok(number),
         _ => {
-            let what = format!(in alloc; "a number from {least} to {most}")?;
+            let what = format!(in alloc; ", and not in {least}..={most}")?;
             misfit(alloc, name, value, what.as_str())
         }
     }

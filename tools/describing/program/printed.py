@@ -17,7 +17,7 @@ HERE = os.path.dirname(os.path.abspath(__file__))
 MADE = re.compile(r"^//! Made by `./format --program` from (\S+): ", re.MULTILINE)
 HELPERS = (
     "at_item boolean check_names check_object field fill_octets inside items list misfit octets other_case part_item "
-    "put_octets put_wide put_wide_signed signed unsigned wide_signed wide_unsigned"
+    "put_octets put_wide put_wide_signed signed unsigned unsigned_or_null wide_signed wide_unsigned wide_unsigned_or_null"
 ).split()
 
 
@@ -154,7 +154,8 @@ def json_code(p: Program, module: str, it: m.Description) -> str:
         part = snake(use.name)
         named = [name for name in (f"print_{part}", f"{part}_number", f"{part}_of") if re.search(rf"\b{name}\b", body)]
         uses.append(f"use crate::{use.module}_json::{{{', '.join(named)}}};")
-        uses += [f"use {p.place(use.module)}::{use.name};"] * (f"Vec<{use.name}>" in body)
+        named_type = re.search(rf"^.*Result<.*[<( ]{use.name}[>,)]", body, re.MULTILINE)
+        uses += [f"use {p.place(use.module)}::{use.name};"] * bool(named_type)
     uses.append(
         f"use {p.place(module)}::{{{', '.join(types)}}};" if types[1:] else f"use {p.place(module)}::{it.name};"
     )

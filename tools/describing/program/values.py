@@ -9,6 +9,8 @@ from describing.layout import enum_bits
 from describing.model import Refused, snake
 from describing.write import EXACT
 
+# The greatest number of fields that one function reads: the time of its proof grows much faster than that number.
+GROUP = 8
 # The fields whose values a program prints and reads.
 Shown: TypeAlias = (
     m.Bool | m.Number | m.NonZero | m.MaybeNonZero | m.Enum | m.Array | m.Unary | m.Groups | m.Golomb | m.Part
@@ -166,34 +168,52 @@ def read_value(it: m.Description, kind: Shown) -> str:
             least, most = m.range_of(kind) or (0, 0)
             call = "signed" if least else "unsigned"
             return f"{call}(alloc, {name}, {value}, {least}, {most})? as {m.rust_type(kind)}"
-        case m.NonZero(integer=whole):
-            return f"{{ let value = {value}; {non_zero(whole, whole.most + 1, name)} }}"
-        case m.MaybeNonZero(integer=whole):
-            return some(value, non_zero(whole, whole.most, name))
         case m.Enum(enum=enum):
             return f"{snake(enum.name)}_of(alloc, {name}, {value})?"
         case m.List(item=m.Octet()):
             return f"octets(alloc, {name}, {value}, {most_items(it, kind)})?"
-        case m.Array() | m.List():
-            return f"read_{kind.name}(alloc, {value})?"
         case m.Part(use=use):
             return f"{{ let value = {value}; {read_part(use, name)} }}"
-        case m.Optional(use=use) | m.If(use=use):
-            return some(value, read_part(use, name))
+        case m.NonZero() | m.MaybeNonZero() | m.Optional() | m.If() | m.Array() | m.List():
+            return f"read_{kind.name}(alloc, {value})?"
     assert_never(kind)
 
 
-def some(value: str, present: str) -> str:
-    """Returns the expression of a value that is there or not."""
-    return f"match {value} {{ value if value.is_null() => None, value => Some({{ {present} }}), }}"
+def read_branch(kind: Shown) -> list[str]:
+    """Returns the function that makes a field of JSON whose value asks for a branch, or no lines."""
+    name = f'"{kind.name}"'
+    match kind:
+        case m.NonZero(integer=whole):
+            made = non_zero(whole, name)
+        case m.MaybeNonZero(integer=whole):
+            made = non_zero_or_null(whole, name)
+        case m.Optional(use=use) | m.If(use=use):
+            made = ["if value.is_null() {", "return Ok(None);", "}", f"Ok(Some({{ {read_part(use, name)} }}))"]
+        case _:
+            return []
+    return [
+        f"/// Returns the field `{kind.name}`.",
+        f"fn read_{kind.name}(alloc: Global, value: &Value) -> Result<{m.rust_type(kind)}, Unfit> {{",
+        *made,
+        "}",
+        "",
+    ]
 
 
-def non_zero(whole: m.Integer, most: int, name: str) -> str:
-    """Returns the expression of a number that is not 0, of the JSON `value`."""
+def non_zero(whole: m.Integer, name: str) -> list[str]:
+    """Returns the body of a function that makes a number that is not 0."""
+    most = whole.most + 1
     call = "wide_unsigned" if most > EXACT else "unsigned"
     number = f"NonZero::<{whole.base}>::new({call}(alloc, {name}, value, 1, {most})? as {whole.base})"
-    refused = f'misfit(alloc, {name}, value, "a number from 1 to {most}")?'
-    return f"match {number} {{ Some(number) => number, None => {refused}, }}"
+    refused = f'misfit(alloc, {name}, value, ", and not in 1..={most}")'
+    return [f"match {number} {{", "Some(number) => Ok(number),", f"None => {refused},", "}"]
+
+
+def non_zero_or_null(whole: m.Integer, name: str) -> list[str]:
+    """Returns the body of a function that makes a number that is not 0, or `None` of null."""
+    call = "wide_unsigned_or_null" if whole.most > EXACT else "unsigned_or_null"
+    some = f"Some(number) => Ok(NonZero::<{whole.base}>::new(number as {whole.base})),"
+    return [f"match {call}(alloc, {name}, value, {whole.most})? {{", some, "None => Ok(None),", "}"]
 
 
 def read_part(use: m.Use, name: str) -> str:
@@ -258,11 +278,32 @@ def check_there(kind: m.If) -> list[str]:
     """Returns the statements that refuse a part that its condition contradicts."""
     number = f"record.{kind.field}{'' if kind.asked[:1].isdigit() else '.number()'}"
     asked = f"{number} {kind.how} {kind.value}" if kind.how else f"record.{kind.field}"
-    what = f"it is there if, and only if, {kind.condition}"
+    what = f": it is there if, and only if, {kind.condition}"
     return [
         f"if record.{kind.name}.is_some() != ({asked}) {{",
         f'return misfit(alloc, "{kind.name}", field(alloc, object, "{kind.name}")?, "{what}");',
         "}",
+    ]
+
+
+def groups(it: m.Description) -> list[list[Shown]]:
+    """Returns the fields in groups, each of which a function of its own reads; none if one function reads all."""
+    fields = shown(it)
+    return [fields[k : k + GROUP] for k in range(0, len(fields), GROUP)] if len(fields) > GROUP else []
+
+
+def read_group(it: m.Description, number: int, group: list[Shown]) -> list[str]:
+    """Returns the function that makes the fields of a group of an object."""
+    types = ", ".join(m.rust_type(kind) for kind in group)
+    comma = "," * (len(group) == 1)
+    return [
+        f"/// Returns the fields `{group[0].name}` to `{group[-1].name}` of an object.",
+        f"fn {snake(it.name)}_{number}(alloc: Global, object: &Value) -> Result<({types}{comma}), Unfit> {{",
+        "Ok((",
+        *(f"{read_value(it, kind)}," for kind in group),
+        "))",
+        "}",
+        "",
     ]
 
 
@@ -271,16 +312,25 @@ def read_record(it: m.Description) -> list[str]:
     names = ", ".join(f'"{kind.name}"' for kind in it.fields)
     values = [f"{kind.name}: {read_value(it, kind)}," for kind in shown(it)]
     checks = [line for kind in it.fields if isinstance(kind, m.If) for line in check_there(kind)]
-    made = [f"Ok({it.name} {{", *values, "})"]
+    parts = list(enumerate(groups(it), 1))
+    calls = list[str]()
+    for number, group in parts:
+        found = ", ".join(f"{kind.name}_found" for kind in group) + "," * (len(group) == 1)
+        calls.append(f"let ({found}) = {snake(it.name)}_{number}(alloc, object)?;")
+    if parts:
+        values = [f"{kind.name}: {kind.name}_found," for kind in shown(it)]
+    made = [*calls, f"Ok({it.name} {{", *values, "})"]
     if checks:
-        made = [f"let record = {it.name} {{", *values, "};", *checks, "Ok(record)"]
+        made = [*calls, f"let record = {it.name} {{", *values, "};", *checks, "Ok(record)"]
     return [
+        *(line for number, group in parts for line in read_group(it, number, group)),
         "/// Returns the record of an object.",
         f"pub fn {snake(it.name)}_of(alloc: Global, object: &Value) -> Result<{it.name}, Unfit> {{",
         f'check_names(alloc, object, "{it.name}", &[{names}])?;',
         *made,
         "}",
         "",
+        *(line for kind in shown(it) for line in read_branch(kind)),
         *(line for kind in it.fields if isinstance(kind, m.Array) for line in read_array(kind)),
         *(line for kind in it.fields if isinstance(kind, m.List) for line in read_list(it, kind)),
     ]
@@ -289,7 +339,7 @@ def read_record(it: m.Description) -> list[str]:
 def read_enum(enum: m.EnumType) -> list[str]:
     """Returns the function that makes a case of JSON."""
     arms = [f'Some("{case}") => Ok({enum.name}::{case}),' for _, case in enum.cases]
-    what = f"one of {', '.join(case for _, case in enum.cases)}"
+    what = f": one of {', '.join(case for _, case in enum.cases)}"
     if enum.other:
         what += f' or {{\\"{enum.other}\\": NUMBER}}'
     refused = f'misfit(alloc, name, value, "{what}")'
