@@ -1,8 +1,8 @@
 -- The place of a number among the bits of bytes.
-use Rattle.std.proofs.Common.{◌≡◌, ◌∙◌, ◌+◌, ◌-◌, ◌*◌, ◌/◌, ◌%◌, ◌≤◌, ℕ, Bool, List, Ok, length, take, drop, sym, ap, subst, arith}
+use Rattle.std.proofs.Common.{◌≡◌, ◌∙◌, ◌+◌, ◌-◌, ◌*◌, ◌/◌, ◌%◌, ◌^◌, ◌<◌, ◌≤◌, ℕ, Bool, List, Ok, length, take, drop, sym, ap, subst, arith}
 use Rattle.std.proofs.lemmas.Bool.{le-leb}
-use Rattle.std.proofs.lemmas.List.{drop-drop, drop_at, length-take-le, take-append-drop}
-use Rattle.bitstream_io.proofs.WordLemmas.{bits-append, length-bits}
+use Rattle.std.proofs.lemmas.List.{drop-drop, drop_at, length-drop, length-take-le, take-append-drop}
+use Rattle.bitstream_io.proofs.WordLemmas.{bits-append, length-bits, number-lt}
 use Rattle.bitstream_io.specs.Callers.{bits, and_then, pure, number, signed_number, skip_decoder, unsigned_decoder, signed_decoder, Order}
 use Rattle.bitstream_io.proofs.CallerLemmas.{Finds, skip-finds, unsigned-finds, signed-finds, pure-finds}
 
@@ -50,3 +50,11 @@ bits-from o at xs le =
     let whole : 8 * (at / 8) + at % 8 ≡ at = omega arith in
     ap (drop (at % 8)) (bits-after o (at / 8) xs le) ∙ drop-drop (at % 8) (8 * (at / 8)) (bits o xs)
     ∙ ap (λ (k : ℕ). drop k (bits o xs)) whole
+
+-- bits that were read as a number are fewer than the number's
+pub part_below : (o : Order) (n k v : ℕ) (xs : List Bool) → k + n ≤ length xs → v ≡ number o (take n (drop k xs))
+    → v < 2 ^ n
+part_below o n k v xs within is =
+    let d = length-drop k xs in
+    rw is (subst (λ (j : ℕ). number o (take n (drop k xs)) < 2 ^ j)
+    (length-take-le n (drop k xs) (omega (arith, d, within))) (number-lt o (take n (drop k xs))))

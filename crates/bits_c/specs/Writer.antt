@@ -1,8 +1,7 @@
 -- What calls do to a writer of C.
-use Rattle.std.specs.Prelude.{◌≡◌, ℕ, ◌+◌, ◌*◌, ◌^◌, ◌<◌, ◌≤◌, Bool, List, [], ◌∷◌, ◌++◌, length, take, drop}
-use Rattle.bitstream_io.specs.Callers.{Encoder, Order, bits, unsigned}
+use Rattle.std.specs.Prelude.{◌≡◌, ℕ, ℤ, pos, negsuc, ◌+◌, ◌*◌, ◌^◌, ◌<◌, ◌≤◌, Bool, List, ◌++◌, length, take, drop}
+use Rattle.bitstream_io.specs.Callers.{Order, bits}
 use Rattle.bits_c.specs.declared.writer.BitsWriter.{BitsWriter}
-use Rattle.bits_c.specs.declared.writer.parts.Parts.{Parts}
 
 -- the buffer has `count` more bits, and the place after them is below 2^64: this lacks only in more than 2^61 bytes
 abbrev pub HasRoom : BitsWriter → ℕ → Type 0
@@ -24,18 +23,12 @@ pub record Wrote (o : Order) (w : List Bool) (old new : BitsWriter) : Type 0 whe
   pub bytes : bits o new.bytes.now ≡ replaced old.at w (bits o old.bytes.now)
   pub at : new.at ≡ old.at + length w
 
--- the writes of three numbers
-abbrev pub parts_writes : Order → Parts → List Encoder
-parts_writes o parts = unsigned o 64 parts.before_bits parts.before ∷ unsigned o 64 parts.bits parts.number
-    ∷ unsigned o 64 parts.after_bits parts.after ∷ []
+-- a write of this word: it is written and the status is 0 if the buffer has room for it, else the status is 4
+pub record WritesBits (o : Order) (w : List Bool) (old : BitsWriter) (status : ℤ) (new : BitsWriter) : Type 0 where
+  pub there : HasRoom old (length w) → (status ≡ pos 0) × Wrote o w old new
+  pub short : ¬ HasRoom old (length w) → (status ≡ pos 4) × IsSameWriter old new
 
--- each number has few enough bits, and fits them; together they are whole bytes
-pub record AreWhole (parts : Parts) : Type 0 where
-  pub before_few : parts.before_bits ≤ 64
-  pub few : parts.bits ≤ 64
-  pub after_few : parts.after_bits ≤ 64
-  pub before_fits : parts.before < 2 ^ parts.before_bits
-  pub fits : parts.number < 2 ^ parts.bits
-  pub after_fits : parts.after < 2 ^ parts.after_bits
-  pub count : ℕ
-  pub whole : parts.before_bits + (parts.bits + parts.after_bits) ≡ 8 * count
+-- a number, or for a negative number -1 minus it
+abbrev pub magnitude : ℤ → ℕ
+magnitude (pos n) = n
+magnitude (negsuc n) = n

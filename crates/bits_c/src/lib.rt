@@ -4,5 +4,6 @@
 //! Each function is proved to do what its contract says, in each call that meets what the header asks for.
 #![tactic(auto)]
 
+mod numbers;
 mod reader;
 mod writer;

@@ -1,13 +1,14 @@
 //! The writer.
-mod parts;
+mod bytes;
+mod golomb;
+mod signed;
 
-ghost use Rattle.std.specs.Prelude.{◌≡◌, ◌+◌, ◌*◌, ◌/◌, ◌<◌, ◌≤◌, ◌^◌, ◌↔◌, IsTrue, Ok, Err, false, length, take, drop, replicate, pos};
-ghost use Rattle.bitstream_io.specs.Callers.{High, Low, Reads, and_then, pure, number, bits, word, skip_decoder, unsigned_decoder};
+ghost use Rattle.std.specs.Prelude.{◌≡◌, ◌+◌, ◌*◌, ◌/◌, ◌<◌, ◌≤◌, ◌^◌, ◌↔◌, IsTrue, false, length, replicate, pos};
+ghost use Rattle.bitstream_io.specs.Callers.{High, Low, bits, word};
 ghost use Rattle.bitstream_io.specs.Alignment.{to_boundary};
 ghost use Rattle.bits_c.specs.Writer.{HasRoom, IsSameWriter, Wrote, replaced};
 
-use self::parts::Parts;
-use bitstream_io::{BE, BitRead, BitReader, Endianness, Error, LE};
+use bitstream_io::{BE, Endianness, LE};
 
 /// `struct bits_writer` of C: the buffer, and the number of bits that were written.
 #[repr(C)]
@@ -19,84 +20,45 @@ pub struct BitsWriter<'a> {
     pub at: u64,
 }
 
-/// Skips bits, and reads a number after them.
+/// Puts a number in place of the bits of a byte after its first `skipped` ones.
 #[inline(always)]
-fn read_after<R: BitRead>(reader: &mut R, skipped: u32, width: u32) -> Result<u64, Error>
-    ensures { Reads R.source (and_then (skip_decoder skipped) (λ _. and_then (unsigned_decoder R.source.order 64 width) (λ v. pure v)))
-        reader.old result reader.new }
-{
-    reader.skip(skipped)?;
-    let value = reader.read_unsigned_var::<u64>(width)?;
-    Ok(value)
-}
-
-/// Reads the number in `width` bits after `skipped` bits.
-#[inline(always)]
-fn number_after<O: Endianness>(bytes: &[u8], skipped: u32, width: u32) -> Result<u64, Error>
-    requires few { width ≤ 64 }
-    requires there { skipped + width ≤ 8 * length bytes.now }
-    ensures { result ≡ Ok (number O.order (take width (drop skipped (bits O.order bytes.now)))) }
-{
-    read_after(&mut BitReader::<_, O>::over(bytes), skipped, width)
-}
-
-/// Returns the number in `width` bits after `skipped` bits.
-#[inline(always)]
-fn number_in<O: Endianness>(bytes: &[u8], skipped: u32, width: u32) -> u64
-    requires few { width ≤ 64 }
-    requires there { skipped + width ≤ 8 * length bytes.now }
-    ensures { result ≡ number O.order (take width (drop skipped (bits O.order bytes.now))) }
-{
-    match number_after::<O>(bytes, skipped, width) {
-        Ok(value) => value,
-        Err(_) => unreachable!(),
-    }
-}
-
-/// Puts a number in place of the bits after the first `skipped` ones. The bytes are those that the number lies in.
-fn replace<O: Endianness>(window: &mut [u8], skipped: u32, width: u32, value: u64)
-    requires first { skipped < 8 }
-    requires few { width ≤ 64 }
-    requires fits { value < 2 ^ width }
-    requires there { skipped + width ≤ 8 * length window.old }
-    requires last { 8 * length window.old < skipped + width + 8 }
-    ensures { bits O.order window.new ≡ replaced skipped (word O.order width value) (bits O.order window.old) }
+fn put_in<O: Endianness>(byte: u8, skipped: u32, width: u32, part: u8) -> u8
+    requires within { skipped + width ≤ 8 }
+    requires fits { part < 2 ^ width }
+    ensures { word O.order 8 result ≡ replaced skipped (word O.order width part) (word O.order 8 byte) }
 {
     let end = skipped + width;
-    let after_bits = 8 * window.len() as u32 - end;
-    let before = number_in::<O>(window, 0, skipped);
-    let after = number_in::<O>(window, end, after_bits);
-    let parts = Parts {
-        before_bits: skipped,
-        before,
-        bits: width,
-        number: value,
-        after_bits,
-        after,
-    };
-    let mut whole = [0u8; 9];
-    window.copy_from_slice(parts.pack::<O>(&mut whole).as_slice());
+    let before = O::cut(byte, 8, 0, skipped);
+    let after = O::cut(byte, 8, end, 8 - end);
+    O::put(O::put(before, skipped, part, width), end, after, 8 - end)
 }
 
-/// Puts a number in place of the bits from a place on.
+/// Puts a number in place of the bits from a place on, byte by byte.
 fn put<O: Endianness>(bytes: &mut [u8], at: u64, width: u32, value: u64)
     requires few { width ≤ 64 }
-    requires fits { value < 2 ^ width }
     requires there { at + width ≤ 8 * length bytes.old }
+    requires below { at + width < 2 ^ 64 }
     ensures { bits O.order bytes.new ≡ replaced at (word O.order width value) (bits O.order bytes.old) }
 {
-    let first = (at / 8) as usize;
-    let skipped = (at % 8) as u32;
-    let end = first + ((skipped + width + 7) / 8) as usize;
-    replace::<O>(&mut bytes[first..end], skipped, width, value);
+    let mut done = 0u32;
+    while done < width {
+        let place = at + u64::from(done);
+        let index = (place / 8) as usize;
+        let skipped = (place % 8) as u32;
+        let count = (8 - skipped).min(width - done);
+        let part = O::cut(value, width, done, count);
+        bytes[index] = put_in::<O>(bytes[index], skipped, count, part);
+        done += count;
+    }
 }
 
 /// Returns true if the buffer has `count` more bits.
 #[inline(always)]
-fn has_room(writer: &BitsWriter, count: u64) -> bool
+fn has_room(writer: &BitsWriter, count: u128) -> bool
+    requires { count < 2 ^ 70 }
     ensures { IsTrue result ↔ HasRoom writer.now count }
 {
-    let end = u128::from(writer.at) + u128::from(count);
+    let end = u128::from(writer.at) + count;
     end <= 8 * writer.bytes.len() as u128 && end <= u128::from(u64::MAX)
 }
 
@@ -107,6 +69,17 @@ fn fits(width: u32, value: u64) -> bool
     ensures { IsTrue result ↔ value < 2 ^ width }
 {
     u128::from(value) < 1u128 << width
+}
+
+/// Writes a number that the buffer has room for.
+#[inline(always)]
+fn append<O: Endianness>(writer: &mut BitsWriter, width: u32, value: u64)
+    requires few { width ≤ 64 }
+    requires room { HasRoom writer.old width }
+    ensures { Wrote O.order (word O.order width value) writer.old writer.new }
+{
+    put::<O>(writer.bytes, writer.at, width, value);
+    writer.at += u64::from(width);
 }
 
 /// Writes a number of at most 64 bits.
@@ -125,11 +98,10 @@ fn write_unsigned<O: Endianness>(writer: &mut BitsWriter, width: u32, value: u64
     if !fits(width, value) {
         return 5;
     }
-    if !has_room(writer, u64::from(width)) {
+    if !has_room(writer, u128::from(width)) {
         return 4;
     }
-    put::<O>(writer.bytes, writer.at, width, value);
-    writer.at += u64::from(width);
+    append::<O>(writer, width, value);
     0
 }
 

@@ -1,26 +1,39 @@
-use Rattle.std.proofs.Common.{◌≡◌, ◌+◌, ◌-◌, ◌*◌, ◌/◌, ◌%◌, ◌≤◌, ℕ, length, subst, arith}
-use borrow.Rule.Slice.PartMut.{put_mid}
-use Rattle.bitstream_io.proofs.WordLemmas.{length-word}
+use Rattle.std.proofs.Common.{◌≡◌, ◌∙◌, ◌+◌, ◌-◌, ◌%◌, ◌≤◌, ap, sym, arith, take_all}
 use Rattle.bitstream_io.specs.Callers.{bits, word}
+use Rattle.bitstream_io.proofs.WordLemmas.{length-word}
 use Rattle.bits_c.specs.Writer.{replaced}
-use Rattle.bits_c.proofs.WriterLemmas.{replaced-bytes}
+use Rattle.bits_c.proofs.PutLemmas.{piece-below, put-step, replaced-none}
 use Rattle.bits_c.proofs.writer.put.Goals as goal
+
+pub loop-done-init : goal.loop-done-init
+loop-done-init g c =
+    let o = g.O.Endianness.order in
+    record { most = omega arith; put = sym (replaced-none c.args.at (bits o c.args.bytes.now)) }
+
+pub loop-done-preserved : goal.loop-done-preserved
+loop-done-preserved g c =
+    let o = g.O.Endianness.order in
+    let less = c.loop-done-test.true in
+    let most = c.loop-done.invariant.most in
+    let is : c.args.at + c.from.result ≡ c.args.at + c.loop-done.done = omega (arith, c.from.ensures) in
+    let few : c.min-count.result ≤ 8 - (c.args.at + c.from.result) % 8 = omega (arith, c.min-count.ensures) in
+    let le : c.loop-done.done + c.min-count.result ≤ c.args.width = omega (arith, c.min-count.ensures, most) in
+    record {
+      most = le;
+      put = put-step o c.args.at c.args.width c.args.value c.loop-done.done c.min-count.result (c.args.at + c.from.result)
+          c.put_in.result c.cut-part.result c.loop-done.bytes c.args.bytes.now is few less le c.requires.there
+          c.loop-done.auto.bytes c.cut-part.ensures c.put_in.ensures c.loop-done.invariant.put;
+    }
+
+pub put_in-requires-clause-fits : goal.put_in-requires-clause-fits
+put_in-requires-clause-fits g c = rw c.cut-part.ensures (piece-below _ _ _ _ _)
 
 pub returns : goal.returns
 returns g c =
     let o = g.O.Endianness.order in
-    let at = c.args.at in
-    let a = at / 8 in
-    let s = at % 8 in
-    let n = c.args.width in
-    let k = a + (s + n + 7) / 8 - a in
-    let w = word o n c.args.value in
-    let there = c.requires.there in
-    let long = length-word o n c.args.value in
-    let whole : 8 * (at / 8) + at % 8 ≡ at = omega arith in
-    let within : at / 8 + (at / 8 + (at % 8 + c.args.width + 7) / 8 - at / 8) ≤ length c.args.bytes.now =
-    omega (arith, there) in
-    let room : at % 8 + length (word o c.args.width c.args.value)
-    ≤ 8 * (at / 8 + (at % 8 + c.args.width + 7) / 8 - at / 8) = omega (arith, long) in
-    subst (λ (p : ℕ). bits o (put_mid a k c.args.bytes.now c.replace.new.window) ≡ replaced p w (bits o c.args.bytes.now))
-    whole (replaced-bytes o c.args.bytes.now c.replace.new.window a k s w within room c.replace.ensures)
+    let w = word o c.args.width c.args.value in
+    let long = length-word o c.args.width c.args.value in
+    let most = c.loop-done.invariant.most in
+    let end = c.loop-done-test.false in
+    c.loop-done.invariant.put
+    ∙ ap (λ it. replaced c.args.at it (bits o c.args.bytes.now)) (take_all c.loop-done.done w (omega (arith, long, most, end)))

@@ -1,9 +1,0 @@
-use Rattle.bitstream_io.proofs.CallerLemmas.{fields_there, slice_ends}
-use Rattle.std.proofs.Common.{refl}
-use Rattle.bitstream_io.specs.Callers.{bits}
-use Rattle.bits_c.proofs.ReaderLemmas.{number-found}
-use Rattle.bits_c.proofs.writer.number_after.Goals as goal
-
-pub returns : goal.returns
-returns g c = fields_there slice_ends c.over.ensures.state refl c.read_after.ensures (number-found (bits
-    g.O.Endianness.order c.args.bytes.now) g.O.Endianness.order c.args.skipped c.args.width c.requires.few) c.requires.there

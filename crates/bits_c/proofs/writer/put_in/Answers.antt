@@ -1,0 +1,16 @@
+use Rattle.bits_c.proofs.PutLemmas.{byte-put, piece-below, put-below}
+use Rattle.bits_c.proofs.writer.put_in.Goals as goal
+
+pub put-requires-2-clause-below : goal.put-requires-2-clause-below
+put-requires-2-clause-below g c =
+    let o = g.O.Endianness.order in
+    rw (c.put.ensures, c.cut-before.ensures)
+    (put-below o _ c.args.skipped c.args.part c.args.width (piece-below o 8 c.args.byte 0 c.args.skipped) c.requires.fits)
+
+pub returns : goal.returns
+returns g c =
+    let o = g.O.Endianness.order in
+    let s = c.args.skipped in
+    let n = c.args.width in
+    rw (c.put-2.ensures, c.put.ensures, c.cut-before.ensures, c.cut-after.ensures)
+    (byte-put o c.args.byte s n c.args.part c.requires.within c.requires.fits)
