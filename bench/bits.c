@@ -11,6 +11,17 @@
 #include <string.h>
 
 enum { CALLS = 4000 };
+enum call { NONE, READ, READ_BY_HAND, WRITE, WRITE_BY_HAND };
+
+/* Returns the call of a name. */
+static enum call named(const char *name)
+{
+    static const char *const names[] = {"none", "read", "read-hand", "write", "write-hand"};
+    for (int k = NONE; k <= WRITE_BY_HAND; k++)
+        if (!strcmp(name, names[k]))
+            return (enum call)k;
+    return NONE;
+}
 
 /* Reads a number, a part of a byte at a time. */
 static __attribute__((noinline)) int read_by_hand(struct bits_reader *it, uint32_t width, uint64_t *value)
@@ -57,7 +68,7 @@ static __attribute__((noinline)) int write_by_hand(struct bits_writer *it, uint3
 int main(int count, char **words)
 {
     static uint8_t bytes[8 * CALLS];
-    const char *call = count > 1 ? words[1] : "none";
+    enum call which = named(count > 1 ? words[1] : "none");
     uint32_t width = count > 2 ? (uint32_t)atoi(words[2]) : 0;
     uint64_t sum = 0, value = 0;
     struct bits_reader reader;
@@ -68,13 +79,13 @@ int main(int count, char **words)
     bits_writer_open(&writer, bytes, sizeof bytes);
     for (int k = 0; k < CALLS; k++) {
         uint64_t given = (uint64_t)k * 0x9e3779b97f4a7c15u >> (64 - width) % 64;
-        if (!strcmp(call, "read"))
+        if (which == READ)
             sum += (uint64_t)bits_read_unsigned(&reader, width, &value);
-        else if (!strcmp(call, "read-hand"))
+        else if (which == READ_BY_HAND)
             sum += (uint64_t)read_by_hand(&reader, width, &value);
-        else if (!strcmp(call, "write"))
+        else if (which == WRITE)
             sum += (uint64_t)bits_write_unsigned(&writer, width, given);
-        else if (!strcmp(call, "write-hand"))
+        else if (which == WRITE_BY_HAND)
             sum += (uint64_t)write_by_hand(&writer, width, given);
         sum = sum * 31 + value;
     }

@@ -1,7 +1,7 @@
 -- A word that is put in place of bits, byte by byte.
-use Rattle.std.proofs.Common.{◌≡◌, ◌∙◌, ◌+◌, ◌-◌, ◌*◌, ◌/◌, ◌%◌, ◌^◌, ◌<◌, ◌≤◌, ◌++◌, ◌∷◌, [], zero, suc, ℕ, Bool, true, List, length, take, drop, get_or, set, replicate, reverse, sym, ap, subst, arith, append_assoc, length-append}
+use Rattle.std.proofs.Common.{◌≡◌, ◌∙◌, ◌+◌, ◌-◌, ◌*◌, ◌/◌, ◌%◌, ◌^◌, ◌<◌, ◌≤◌, ◌++◌, ◌∷◌, [], zero, suc, ℕ, Bool, true, List, length, take, drop, get_or, set, replicate, reverse, sym, ap, subst, arith, append_assoc, length-append, append-nil}
 use Rattle.std.proofs.Math.Nat.{pow-suc}
-use Rattle.std.proofs.lemmas.List.{drop-append-le, drop-drop, drop-set, drop_at, drop_more, length-drop, length-take-le, take-append-drop, take-append-le, take-set, take_all, take_at}
+use Rattle.std.proofs.lemmas.List.{drop-append-le, drop-drop, drop-set, drop_all, drop_at, drop_more, length-drop, length-take-le, take-append-drop, take-append-le, take-set, take_all, take_at}
 use Rattle.std.proofs.lemmas.Nat.{mod_below, mul-add-lt, pow-add, pow_pos}
 use lib.Seq.{take-add}
 use Rattle.bitstream_io.specs.Callers.{Order, High, Low, bits, word}
@@ -205,3 +205,13 @@ put-step o at n v done k p b part now was is few less le room same cut made befo
     ∙ ap (λ (j : ℕ). replaced (at + done) (word o k j) (bits o now)) cut in
     piece-put o n v at done k (bits o now) (bits o (set now (p / 8) b)) (bits o was) le (omega (arith, room, size)) before
     next
+
+-- a whole byte
+pub byte-whole : (o : Order) (byte s n part : ℕ) → n ≡ 8 → s + n ≤ 8 → word o 8 part ≡ replaced s (word o n part) (word o 8 byte)
+byte-whole o byte s n part is within =
+    let none : s ≡ 0 = omega (arith, is, within) in
+    let long = length-word o 8 byte in
+    let size = length-word o 8 part in
+    let rest : drop (0 + length (word o 8 part)) (word o 8 byte) ≡ [] =
+    drop_all (0 + length (word o 8 part)) (word o 8 byte) (omega (arith, long, size)) in
+    rw (none, is) (sym (ap (λ it. word o 8 part ++ it) rest ∙ append-nil (word o 8 part)))

@@ -27,6 +27,9 @@ fn put_in<O: Endianness>(byte: u8, skipped: u32, width: u32, part: u8) -> u8
     requires fits { part < 2 ^ width }
     ensures { word O.order 8 result ≡ replaced skipped (word O.order width part) (word O.order 8 byte) }
 {
+    if width == 8 {
+        return part;
+    }
     let end = skipped + width;
     let before = O::cut(byte, 8, 0, skipped);
     let after = O::cut(byte, 8, end, 8 - end);

@@ -1,5 +1,9 @@
-use Rattle.bits_c.proofs.PutLemmas.{byte-put, piece-below, put-below}
+use Rattle.bits_c.proofs.PutLemmas.{byte-put, byte-whole, piece-below, put-below}
 use Rattle.bits_c.proofs.writer.put_in.Goals as goal
+
+pub returns-then-width-eq8 : goal.returns-then-width-eq8
+returns-then-width-eq8 g c =
+    byte-whole g.O.Endianness.order c.args.byte c.args.skipped c.args.width c.args.part c.if-width-eq8.true c.requires.within
 
 pub put-requires-2-clause-below : goal.put-requires-2-clause-below
 put-requires-2-clause-below g c =
