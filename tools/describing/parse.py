@@ -16,7 +16,7 @@ from describing.words import Early, Words, number
 UNSIGNED = ("u8", "u16", "u32", "u64", "u128")
 SIGNED = ("i8", "i16", "i32", "i64", "i128")
 HEADS = {"struct": "`struct NAME: DOC`", "order": "`order BE` or `order LE`", "error": "`error NAME`"}
-GIVEN = "`0 CASE, 1 CASE, ..` behind a colon"
+GIVEN = "`0 CASE, 1 CASE` and so on, behind a colon"
 INTEGER = "`NAME TYPE BITS` or `NAME TYPE BITS x COUNT`"
 ENUM = "`NAME enum TYPE BITS{}: NUMBER CASE, ..; DOC`"
 LIST = "`{0} NAME TYPE BITS`, `{0} NAME bytes`, `{0} NAME enum TYPE BITS: ..` or `{0} NAME TYPE of MODULE`"
@@ -141,6 +141,8 @@ def new_enum(words: Words, name: str, width: int) -> tuple[m.EnumType, str]:
     found: list[tuple[int, str]] = []
     other = ""
     for said in cases.split(","):
+        if len(said.split()) > 2:
+            raise Refused(f"`{said.strip()}`: a comma stands between two cases", words.place(1))
         value, case = said.split()
         if value == "..":
             other = case

@@ -49,7 +49,7 @@ const char *primary_header_status_text(enum primary_header_status status)
     case PRIMARY_HEADER_NO_ROOM:
         return "the buffer is too short";
     case PRIMARY_HEADER_DOES_NOT_FIT:
-        return "a field does not fit its bits";
+        return "a field has a value that the format does not allow";
     case PRIMARY_HEADER_NULL:
         return "a pointer is null";
     case PRIMARY_HEADER_WRONG_VERSION:

@@ -47,7 +47,7 @@ enum primary_header_status {
     PRIMARY_HEADER_END_OF_INPUT = 1,
     /* The buffer is too short. */
     PRIMARY_HEADER_NO_ROOM = 2,
-    /* A field does not fit its bits. */
+    /* A field has a value that the format does not allow. */
     PRIMARY_HEADER_DOES_NOT_FIT = 3,
     /* A pointer is null. */
     PRIMARY_HEADER_NULL = 4,
@@ -59,17 +59,18 @@ enum primary_header_status {
 const char *primary_header_status_text(enum primary_header_status status);
 
 /* Parses the fields at the start of `length` bytes into `*out`, and returns PRIMARY_HEADER_OK.
- * After an error `*out` is as before. The errors are: PRIMARY_HEADER_WRONG_VERSION if the version
- * is not 0; PRIMARY_HEADER_END_OF_INPUT for fewer than 6 bytes; PRIMARY_HEADER_NULL if `out` is
- * null, or `bytes` is null and `length` is not 0. */
+ * After an error `*out` is as before. The errors are: PRIMARY_HEADER_NULL if `out` is null, or
+ * `bytes` is null and `length` is not 0; else the first in the order of the bits:
+ * PRIMARY_HEADER_WRONG_VERSION if the version is not 0; PRIMARY_HEADER_END_OF_INPUT for fewer than
+ * 6 bytes, if nothing in them is refused. */
 enum primary_header_status primary_header_parse(const uint8_t *bytes, size_t length, struct primary_header *out);
 
 /* Writes the fields to the first 6 of `length` bytes, sets `*written` to 6 unless `written` is
  * null, and returns PRIMARY_HEADER_OK. The bytes after them are as before. After an error all bytes
  * are as before, and `*written` is 0. `*in` and the buffer may not overlap. The errors are:
- * PRIMARY_HEADER_DOES_NOT_FIT if a field does not fit its bits; else PRIMARY_HEADER_NO_ROOM for
- * fewer than 6 bytes; PRIMARY_HEADER_NULL if `in` is null, or `buffer` is null and `length` is not
- * 0. */
+ * PRIMARY_HEADER_NULL if `in` is null, or `buffer` is null and `length` is not 0; else
+ * PRIMARY_HEADER_DOES_NOT_FIT if a field has a value that the format does not allow; else
+ * PRIMARY_HEADER_NO_ROOM for fewer than 6 bytes. */
 enum primary_header_status primary_header_pack(
     const struct primary_header *in, uint8_t *buffer, size_t length, size_t *written);
 

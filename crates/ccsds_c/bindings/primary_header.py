@@ -20,7 +20,7 @@ from ._library import library, number
 
 
 class PrimaryHeaderError(ValueError):
-    """The reason why a `PrimaryHeader` was not parsed or packed."""
+    """The reason why no `PrimaryHeader` was parsed or packed."""
 
     status: ClassVar[int]
 
@@ -35,12 +35,12 @@ class EndOfInput(PrimaryHeaderError):
 
 
 class DoesNotFit(PrimaryHeaderError):
-    """A field does not fit its bits."""
+    """A field has a value that the format does not allow."""
 
     status = 3
 
     def __init__(self, *reason: object) -> None:
-        super().__init__(*(reason or ["a field does not fit its bits"]))
+        super().__init__(*(reason or ["a field has a value that the format does not allow"]))
 
 
 class WrongVersion(PrimaryHeaderError):
@@ -90,7 +90,8 @@ class PrimaryHeader:
     def parse(cls, data: bytes | bytearray | memoryview) -> PrimaryHeader:
         """Parses the fields at the start of `data`.
 
-        Raises `WrongVersion`, `EndOfInput` for fewer than 6 bytes.
+        Raises the first in the order of the bits: `WrongVersion`; `EndOfInput` for fewer than 6
+        bytes, if nothing in them is refused.
         """
         first, out = bytes(data[: cls.SIZE]), _C()
         status = library.primary_header_parse(first, len(first), ctypes.byref(out))
@@ -99,7 +100,10 @@ class PrimaryHeader:
         return cls._from_c(out)
 
     def pack(self) -> bytes:
-        """Returns the 6 bytes of the fields; raises `DoesNotFit` if one does not fit its bits."""
+        """Returns the 6 bytes of the fields.
+
+        Raises `DoesNotFit` if the format does not allow the value of a field, and `TypeError` for another type.
+        """
         try:
             fields = self._to_c()
         except OverflowError as it:
@@ -110,14 +114,14 @@ class PrimaryHeader:
             raise _ERRORS[status]()
         return buffer.raw[: written.value]
 
-    def _to_c(self) -> _C:
+    def _to_c(self, at: str = "") -> _C:
         return _C(
             1 if self.telecommand else 0,
             1 if self.secondary else 0,
-            number(self.apid, 0, 65535),
-            number(self.sequence, 0, 255),
-            number(self.count, 0, 65535),
-            number(self.length, 0, 65535),
+            number(self.apid, 0, 2047, at + "apid"),
+            number(self.sequence, 0, 3, at + "sequence"),
+            number(self.count, 0, 16383, at + "count"),
+            number(self.length, 0, 65535, at + "length"),
         )
 
     @classmethod

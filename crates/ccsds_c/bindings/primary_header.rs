@@ -29,14 +29,14 @@ pub struct PrimaryHeader {
     pub length: u16,
 }
 
-/// The reason why a `PrimaryHeader` was not parsed or packed.
+/// The reason why no `PrimaryHeader` was parsed or packed.
 #[derive(Clone, Copy, Debug, PartialEq, Eq, Hash)]
 pub enum PrimaryHeaderError {
     /// The bytes end before the fields do.
     EndOfInput,
     /// The buffer is too short.
     NoRoom,
-    /// A field does not fit its bits.
+    /// A field has a value that the format does not allow.
     DoesNotFit,
     /// The version is not 0.
     WrongVersion,
@@ -47,7 +47,7 @@ impl core::fmt::Display for PrimaryHeaderError {
         f.write_str(match self {
             PrimaryHeaderError::EndOfInput => "the bytes end before the fields do",
             PrimaryHeaderError::NoRoom => "the buffer is too short",
-            PrimaryHeaderError::DoesNotFit => "a field does not fit its bits",
+            PrimaryHeaderError::DoesNotFit => "a field has a value that the format does not allow",
             PrimaryHeaderError::WrongVersion => "the version is not 0",
         })
     }
@@ -129,7 +129,8 @@ impl PrimaryHeader {
     ///
     /// # Errors
     ///
-    /// `WrongVersion`, `EndOfInput` for fewer than 6 bytes.
+    /// The first in the order of the bits: `WrongVersion`; `EndOfInput` for fewer than 6 bytes, if
+    /// nothing in them is refused.
     pub fn parse(bytes: &[u8]) -> Result<PrimaryHeader, PrimaryHeaderError> {
         // SAFETY: the pointer and the length are a slice's.
         let parsed = unsafe { proved_primary_header_parse(bytes.as_ptr(), bytes.len()) };
@@ -142,7 +143,8 @@ impl PrimaryHeader {
     ///
     /// # Errors
     ///
-    /// `DoesNotFit` if a field does not fit its bits; else `NoRoom` for fewer than 6 bytes.
+    /// `DoesNotFit` if a field has a value that the format does not allow; else `NoRoom` for fewer than
+    /// 6 bytes.
     pub fn pack_into(&self, buffer: &mut [u8]) -> Result<usize, PrimaryHeaderError> {
         let value = PrimaryHeaderC::new(self);
         // SAFETY: the pointer and the length are a slice's, which is borrowed mutably.
@@ -155,7 +157,7 @@ impl PrimaryHeader {
     ///
     /// # Errors
     ///
-    /// `DoesNotFit` if a field does not fit its bits.
+    /// `DoesNotFit` if a field has a value that the format does not allow.
     pub fn pack(&self) -> Result<[u8; 6], PrimaryHeaderError> {
         let mut bytes = [0; 6];
         self.pack_into(&mut bytes)?;

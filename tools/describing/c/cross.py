@@ -94,7 +94,8 @@ def limits(kind: Crossed) -> str:
         case m.MaybeNonZero():
             return f"At most {kind.integer.most}; 0 stands for none."
         case m.Enum():
-            return f"A number of `{m.snake(kind.enum.name)}`{', or another one' if kind.enum.other else ''}."
+            other = f", or another one below 2^{kind.enum.width}" if kind.enum.other else ""
+            return f"A number of `{m.snake(kind.enum.name)}`{other}."
     return ""
 
 

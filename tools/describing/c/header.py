@@ -26,9 +26,9 @@ def header(t: Target) -> str:
 def enum_code(t: Target, enum: m.EnumType) -> list[str]:
     """Returns the numbers of an enum."""
     name = f"{t.f.m}_{snake(enum.name)}"
-    more = "; a field may have another number" if enum.other else ""
+    more = f"; a field may have another number below 2^{enum.width}" if enum.other else ""
     rows = [f"    {name.upper()}_{snake(case).upper()} = {number}" for number, case in enum.cases]
-    return [f"/* The numbers of a `{snake(enum.name)}`{more}. */", f"enum {name} {{", ",\n".join(rows), "};", ""]
+    return [f"/* The numbers of `{snake(enum.name)}`{more}. */", f"enum {name} {{", ",\n".join(rows), "};", ""]
 
 
 def c_type(kind: Crossed) -> str:
@@ -71,17 +71,19 @@ def calls_code(t: Target) -> list[str]:
     """Returns the declarations of the two functions."""
     f, up, name = t.f, t.f.m.upper(), f"{t.f.m}_status"
     n, own_errors = f.bytes, "".join(f"{up}_{it.name} if {it.short}; " for it in own(f))
+    first = "the first in the order of the bits: " if own_errors else ""
+    here = ", if nothing in them is refused" if own_errors else ""
     parses = (
         f"Parses the fields at the start of `length` bytes into `*out`, and returns {up}_OK. After an error `*out` is as"
-        f" before. The errors are: {own_errors}{up}_END_OF_INPUT for fewer than {n} bytes; {up}_NULL if `out` is null, or"
-        " `bytes` is null and `length` is not 0."
+        f" before. The errors are: {up}_NULL if `out` is null, or `bytes` is null and `length` is not 0; else {first}"
+        f"{own_errors}{up}_END_OF_INPUT for fewer than {n} bytes{here}."
     )
     packs = (
         f"Writes the fields to the first {n} of `length` bytes, sets `*written` to {n} unless `written` is null, and"
         f" returns {up}_OK. The bytes after them are as before. After an error all bytes are as before, and `*written` is"
-        f" 0. `*in` and the buffer may not overlap. The errors are: {up}_DOES_NOT_FIT if a field does not fit its bits;"
-        f" else {up}_NO_ROOM for fewer than {n} bytes; {up}_NULL if `in` is null, or `buffer` is null and `length` is not"
-        " 0."
+        f" 0. `*in` and the buffer may not overlap. The errors are: {up}_NULL if `in` is null, or `buffer` is null and"
+        f" `length` is not 0; else {up}_DOES_NOT_FIT if a field has a value that the format does not allow; else"
+        f" {up}_NO_ROOM for fewer than {n} bytes."
     )
     return [
         *c_comment(parses),

@@ -11,38 +11,65 @@ from describing.c.words import drawn, paragraph, python_name, quoted
 
 LIBRARY = '''"""MADE
 
-The library of C, from the place that the variable NAME_LIBRARY names, or from the folders around this file.
+The library of C, from the path that the variable NAME_LIBRARY names, or from the folders around this file.
 """
 from __future__ import annotations
 
 import ctypes
+import enum
+import operator
 import os
 from pathlib import Path
-from typing import Sequence
+from typing import Sequence, TypeVar
+
+_Part = TypeVar("_Part")
 
 
 def _find() -> str:
     named = os.environ.get("NAME_LIBRARY")
-    folders = list(Path(__file__).resolve().parents)[:3]
-    found = [named] if named else [str(it / "libLIB.so") for it in folders if (it / "libLIB.so").exists()]
+    around = list(Path(__file__).resolve().parents)[:3]
+    places = [folder / "libLIB.so" for it in around for folder in (it, it / "shared")]
+    found = [named] if named else [str(it) for it in places if it.exists()]
     return found[0] if found else "libLIB.so"
 
 
 library = ctypes.CDLL(_find())
 
 
-def number(value: int, least: int, most: int) -> int:
-    """Returns a number that the type of C has, or raises `OverflowError`."""
-    if not least <= value <= most:
-        raise OverflowError(f"{value} is not from {least} to {most}")
-    return value
+def number(value: int, least: int, most: int, name: str = "") -> int:
+    """Returns the number of a field; raises `OverflowError` for another one, and `TypeError` for another type."""
+    at = f"{name}: " if name else ""
+    try:
+        found = operator.index(value)
+    except TypeError:
+        raise TypeError(f"{at}an int is wanted, and not {type(value).__name__}") from None
+    if not least <= found <= most:
+        raise OverflowError(f"{at}{found} is not from {least} to {most}")
+    return found
 
 
-def items(values: Sequence[int], count: int, least: int, most: int) -> tuple[int, ...]:
-    """Returns the items of an array of C, or raises `OverflowError`."""
+def case(value: int, cases: type[enum.IntEnum], name: str) -> int:
+    """Returns the number of a case; raises `OverflowError` for another number, and `TypeError` for another type."""
+    found = number(value, 0, 2**64 - 1, name)
+    if found not in list(cases):
+        raise OverflowError(f"{name}: {found} is no number of {cases.__name__}")
+    return found
+
+
+def items(values: Sequence[int], count: int, least: int, most: int, name: str) -> tuple[int, ...]:
+    """Returns the items of an array of C, or raises as `number` does."""
+    if not hasattr(values, "__len__"):
+        raise TypeError(f"{name}: a sequence is wanted, and not {type(values).__name__}")
     if len(values) != count:
-        raise OverflowError(f"{len(values)} items, and not {count}")
-    return tuple(number(it, least, most) for it in values)
+        raise OverflowError(f"{name}: {len(values)} items, and not {count}")
+    return tuple(number(it, least, most, f"{name}[{k}]") for k, it in enumerate(values))
+
+
+def part(value: _Part, kind: type[_Part], name: str) -> _Part:
+    """Returns a part of the fields, or raises `TypeError`."""
+    if not isinstance(value, kind):
+        raise TypeError(f"{name}: {kind.__name__} is wanted, and not {type(value).__name__}")
+    return value
 '''
 
 
@@ -64,11 +91,9 @@ def head_code(t: Target) -> list[str]:
     out = [f'"""{t.made}', "", *paragraph(f.doc, "", ""), "", *drawn(f.description), '"""']
     out += ["from __future__ import annotations", "", "import ctypes"] + ["import enum"] * bool(enums(f.description))
     out += ["from dataclasses import dataclass", "from typing import ClassVar", "", ""]
-    needs = ["items"] * any(isinstance(it, m.Array) for it in fields(f.description))
-    needs += ["library"] + ["number"] * any(
-        not isinstance(it, m.Bool | m.Part | m.Array) for it in fields(f.description)
-    )
-    out[-1] = f"from ._library import {', '.join(needs)}"
+    body = "".join(to_c(it) for it in fields(f.description))
+    needs = [it for it in ("case", "items", "number", "part") if f"{it}(" in body]
+    out[-1] = f"from ._library import {', '.join(sorted([*needs, 'library']))}"
     return out + [f"from . import {it.module} as _{it.module}" for it in parts(f.description)] + ["", ""]
 
 
@@ -77,7 +102,7 @@ def enum_codes(t: Target) -> list[str]:
     out = list[str]()
     for it in enums(t.f.description):
         kind = next(k for k in fields(t.f.description) if isinstance(k, m.Enum) and k.enum.name == it.name)
-        out += [f"class {it.name}(enum.IntEnum):", f'    """{kind.doc or f"A {it.name}."}"""', ""]
+        out += [f"class {it.name}(enum.IntEnum):", f'    """{kind.doc or f"The field `{kind.name}`."}"""', ""]
         out += [f"    {m.snake(case).upper()} = {number}" for number, case in it.cases] + ["", ""]
         if it.other:
             of = f"def _{m.snake(it.name)}(value: int) -> {it.name} | int:"
@@ -99,7 +124,7 @@ def raised(t: Target) -> list[Status]:
 def errors_code(t: Target) -> list[str]:
     """Returns the exceptions, one for each status."""
     e = error_name(t)
-    out = [f"class {e}(ValueError):", f'    """The reason why a `{t.f.type}` was not parsed or packed."""', ""]
+    out = [f"class {e}(ValueError):", f'    """The reason why no `{t.f.type}` was parsed or packed."""', ""]
     out += ["    status: ClassVar[int]", "", ""]
     for it in raised(t):
         out += [f"class {it.camel}({e}):", f'    """{it.text}"""', "", f"    status = {it.number}", ""]
@@ -152,6 +177,7 @@ def said(kind: Crossed) -> str:
         text = f"{kind.doc} From 1 to {kind.integer.most}, or `None`."
     if isinstance(kind, m.Enum):
         text = kind.doc or f"The field `{kind.name}`."
+        text += f" Another number is below 2^{kind.enum.width}." * bool(kind.enum.other)
     return text.strip()
 
 
@@ -163,27 +189,35 @@ def fields_code(t: Target) -> list[str]:
     return [*out, "", f"    SIZE: ClassVar[int] = {t.f.bytes}", '    """The bytes that the fields take."""', ""]
 
 
-def span(kind: Crossed, least: int | None = None) -> str:
-    """Returns the least and the greatest number of the type of C."""
-    bits = int(base(kind)[1:])
-    if base(kind)[0] == "i":
-        return f"{-(2 ** (bits - 1))}, {2 ** (bits - 1) - 1}"
-    return f"{least or 0}, {2**bits - 1}"
+def span(kind: Crossed) -> str:
+    """Returns the least and the greatest number of a field, or of each item."""
+    match kind:
+        case m.Number(integer=number) | m.Array(item=m.Integer() as number):
+            return f"{number.least}, {number.most}"
+        case m.NonZero():
+            return f"1, {kind.integer.most + 1}"
+        case m.MaybeNonZero():
+            return f"1, {kind.integer.most}"
+        case m.Enum():
+            return f"0, {2**kind.enum.width - 1}"
+    return "0, 255"
 
 
 def to_c(kind: Crossed) -> str:
     """Returns the field of C for a field."""
-    v = f"self.{python_name(kind.name)}"
+    v, at = f"self.{python_name(kind.name)}", f'at + "{python_name(kind.name)}"'
     match kind:
         case m.Bool():
             return f"1 if {v} else 0"
         case m.MaybeNonZero():
-            return f"0 if {v} is None else number({v}, {span(kind, 1)})"
+            return f"0 if {v} is None else number({v}, {span(kind)}, {at})"
+        case m.Enum() if not kind.enum.other:
+            return f"case({v}, {kind.enum.name}, {at})"
         case m.Array():
-            return f"items({v}, {kind.count}, {span(kind)})"
+            return f"items({v}, {kind.count}, {span(kind)}, {at})"
         case m.Part():
-            return f"{v}._to_c()"
-    return f"number({v}, {span(kind)})"
+            return f'part({v}, _{kind.use.module}.{kind.use.name}, {at})._to_c({at[:-1]}.")'
+    return f"number({v}, {span(kind)}, {at})"
 
 
 def from_c(kind: Crossed) -> str:
@@ -208,13 +242,16 @@ def from_c(kind: Crossed) -> str:
 def calls_code(t: Target) -> list[str]:
     """Returns the methods of the dataclass."""
     f, of_all = t.f, fields(t.f.description)
-    refusals = "".join(f"`{it.case}`, " for it in own(f))
+    refusals = f"`EndOfInput` for fewer than {f.bytes} bytes"
+    if own(f):
+        cases = ", ".join(f"`{it.case}`" for it in own(f))
+        refusals = f"the first in the order of the bits: {cases}; {refusals}, if nothing in them is refused"
     return [
         "    @classmethod",
         f"    def parse(cls, data: bytes | bytearray | memoryview) -> {f.type}:",
         '        """Parses the fields at the start of `data`.',
         "",
-        f"        Raises {refusals}`EndOfInput` for fewer than {f.bytes} bytes.",
+        *paragraph(f"Raises {refusals}.", " " * 8, " " * 8),
         '        """',
         "        first, out = bytes(data[: cls.SIZE]), _C()",
         f"        status = library.{f.m}_parse(first, len(first), ctypes.byref(out))",
@@ -223,7 +260,10 @@ def calls_code(t: Target) -> list[str]:
         "        return cls._from_c(out)",
         "",
         "    def pack(self) -> bytes:",
-        f'        """Returns the {f.bytes} bytes of the fields; raises `DoesNotFit` if one does not fit its bits."""',
+        f'        """Returns the {f.bytes} bytes of the fields.',
+        "",
+        "        Raises `DoesNotFit` if the format does not allow the value of a field, and `TypeError` for another type.",
+        '        """',
         "        try:",
         "            fields = self._to_c()",
         "        except OverflowError as it:",
@@ -234,7 +274,7 @@ def calls_code(t: Target) -> list[str]:
         "            raise _ERRORS[status]()",
         "        return buffer.raw[: written.value]",
         "",
-        "    def _to_c(self) -> _C:",
+        '    def _to_c(self, at: str = "") -> _C:',
         "        return _C(",
         *[f"            {to_c(it)}," for it in of_all],
         "        )",

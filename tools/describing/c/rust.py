@@ -40,10 +40,11 @@ def enum_code(t: Target, enum: m.EnumType) -> list[str]:
     """Returns an enum, with the functions from a number to a case and back."""
     number, name = f"u{enum_bits(enum)}", enum.name
     kind = next(it for it in fields(t.f.description) if isinstance(it, m.Enum) and it.enum.name == name)
-    out = [*doc(kind.doc or f"A {name}."), DERIVES, f"pub enum {name} {{"]
+    out = [*doc(kind.doc or f"The field `{kind.name}`."), DERIVES, f"pub enum {name} {{"]
     for value, case in enum.cases:
         out += [f"    /// {value}.", f"    {case},"]
-    out += ["    /// Another number.", f"    {enum.other}({number}),"] * bool(enum.other)
+    said = f"Another number below 2^{enum.width}. With the number of a case above it packs as that case."
+    out += [*doc(said, "    "), f"    {enum.other}({number}),"] * bool(enum.other)
     last = f"Some({name}::{enum.other}(number))" if enum.other else "None"
     numbers = [f"            {name}::{case} => {value}," for value, case in enum.cases]
     return [
@@ -78,7 +79,7 @@ def error_name(t: Target) -> str:
 def error_code(t: Target) -> list[str]:
     """Returns the error, with its texts."""
     e, cases = error_name(t), refused(t.f)
-    out = [f"/// The reason why a `{t.f.type}` was not parsed or packed.", DERIVES, f"pub enum {e} {{"]
+    out = [f"/// The reason why no `{t.f.type}` was parsed or packed.", DERIVES, f"pub enum {e} {{"]
     for it in cases:
         out += [*doc(it.text, "    "), f"    {it.camel},"]
     return [
@@ -209,7 +210,10 @@ def crossing_code(t: Target) -> list[str]:
 def calls_code(t: Target) -> list[str]:
     """Returns the two functions."""
     f, e = t.f, error_name(t)
-    refusals = ", ".join([f"`{it.case}`" for it in own(f)] + [f"`EndOfInput` for fewer than {f.bytes} bytes"])
+    refusals = f"`EndOfInput` for fewer than {f.bytes} bytes"
+    if own(f):
+        cases = ", ".join(f"`{it.case}`" for it in own(f))
+        refusals = f"The first in the order of the bits: {cases}; {refusals}, if nothing in them is refused"
     return [
         f"impl {f.type} {{",
         "    /// The bytes that the fields take.",
@@ -219,7 +223,7 @@ def calls_code(t: Target) -> list[str]:
         "    ///",
         "    /// # Errors",
         "    ///",
-        f"    /// {refusals}.",
+        *doc(f"{refusals}.", "    "),
         f"    pub fn parse(bytes: &[u8]) -> Result<{f.type}, {e}> {{",
         "        // SAFETY: the pointer and the length are a slice's.",
         f"        let parsed = unsafe {{ proved_{f.m}_parse(bytes.as_ptr(), bytes.len()) }};",
@@ -232,7 +236,8 @@ def calls_code(t: Target) -> list[str]:
         "    ///",
         "    /// # Errors",
         "    ///",
-        f"    /// `DoesNotFit` if a field does not fit its bits; else `NoRoom` for fewer than {f.bytes} bytes.",
+        "    /// `DoesNotFit` if a field has a value that the format does not allow; else `NoRoom` for fewer than",
+        f"    /// {f.bytes} bytes.",
         f"    pub fn pack_into(&self, buffer: &mut [u8]) -> Result<usize, {e}> {{",
         f"        let value = {f.type}C::new(self);",
         "        // SAFETY: the pointer and the length are a slice's, which is borrowed mutably.",
@@ -245,7 +250,7 @@ def calls_code(t: Target) -> list[str]:
         "    ///",
         "    /// # Errors",
         "    ///",
-        "    /// `DoesNotFit` if a field does not fit its bits.",
+        "    /// `DoesNotFit` if a field has a value that the format does not allow.",
         f"    pub fn pack(&self) -> Result<[u8; {f.bytes}], {e}> {{",
         f"        let mut bytes = [0; {f.bytes}];",
         "        self.pack_into(&mut bytes)?;",

@@ -36,7 +36,7 @@ FIRST = (
     Status(OK, "OK", "The call did its work."),
     Status(END_OF_INPUT, "END_OF_INPUT", "The bytes end before the fields do."),
     Status(NO_ROOM, "NO_ROOM", "The buffer is too short."),
-    Status(DOES_NOT_FIT, "DOES_NOT_FIT", "A field does not fit its bits."),
+    Status(DOES_NOT_FIT, "DOES_NOT_FIT", "A field has a value that the format does not allow."),
     Status(NULL, "NULL", "A pointer is null."),
 )
 

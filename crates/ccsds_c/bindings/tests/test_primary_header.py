@@ -65,6 +65,15 @@ def check_random() -> None:
         assert isinstance(data, bytes) and fields(data) == it == parsed(data), it
 
 
+def why_not(count: object) -> str:
+    """Returns what is said of a count that the format does not have."""
+    try:
+        PrimaryHeader(True, False, 6, 3, count, 1).pack()  # type: ignore[arg-type]
+    except (DoesNotFit, TypeError) as it:
+        return f"{type(it).__name__}: {it}"
+    return "packed"
+
+
 random.seed(1)
 for line in sys.stdin:
     row = bytes.fromhex(line)
@@ -74,4 +83,7 @@ for _ in range(20000):
     check(bytes([random.randrange(256) & random.choice([31, 31, 255]), *random.randbytes(5)]))
     check_random()
 assert str(WrongVersion()) == "the version is not 0"
+assert why_not(16383) == "packed"
+assert why_not(16384) == "DoesNotFit: count: 16384 is not from 0 to 16383"
+assert why_not("1") == "TypeError: count: an int is wanted, and not str"
 print(calls, "calls")
