@@ -1,0 +1,17 @@
+use borrow.Author.Rules.{sfits_of}
+use Rattle.std.proofs.Common.{pos, w64, SFits, slice_index_or}
+use Rattle.std.proofs.lemmas.Int.{to_z-of_z}
+use Rattle.std.proofs.lemmas.List.{take_all}
+use Rattle.std.proofs.lemmas.List.Elements.{All-more}
+use Rattle.bitstream_io.specs.Callers.{FitsSignedBits}
+use Rattle.flac_codec.proofs.fits.samples_fit.Goals as goal
+
+pub loop-sample-preserved : goal.loop-sample-preserved
+loop-sample-preserved c =
+    let fits : SFits w64 (slice_index_or c.args.samples.now c.loop-sample.sample-index (pos 0)) = search sfits_of in
+    let small = rw (to_z-of_z w64 _ fits) at (c.sample_fits.ensures c.if-not-sample_fits.false) in
+    All-more (FitsSignedBits c.args.width) c.args.samples.now c.loop-sample.sample-index (pos 0) c.loop-sample-test.true
+    c.loop-sample.invariant small
+
+pub returns : goal.returns
+returns c = λ yes. rw (take_all _ c.args.samples.now c.loop-sample-test.false) at c.loop-sample.invariant

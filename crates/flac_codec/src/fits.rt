@@ -1,0 +1,107 @@
+//! The test of what the encoder of frames requires.
+ghost use Rattle.std.specs.Prelude.{◌≡◌, ◌≤◌, length, true};
+ghost use Rattle.std.specs.List.{All};
+ghost use Rattle.bitstream_io.specs.Callers.{FitsSignedBits};
+ghost use Rattle.flac_codec.specs.Channels.{channel_count};
+ghost use Rattle.flac_codec.specs.Encodable.{IsFrame};
+ghost use Rattle.flac_codec.specs.Header.{IsChannels, IsHeader, IsSampleRate, IsSampleSize};
+
+use crate::frame::width_of;
+use crate::header::{Channels, FrameHeader};
+
+/// Returns true if a frame can have this header and these channels. `sample_size` has the bits of a sample of the file.
+pub fn is_frame(sample_size: u8, header: &FrameHeader, channels: &[Vec<i64>]) -> bool
+    ensures { result ≡ true → IsFrame sample_size header.now channels.now }
+{
+    let width = width_of(sample_size, header);
+    if !is_header(header) || width < 1 || width > 32 {
+        return false;
+    }
+    channels.len() == channel_count(header.channels) as usize
+        && all_fit(width, header.block_size as usize, channels)
+}
+
+/// Returns the number of channels of a coding.
+fn channel_count(channels: Channels) -> u8
+    ensures { result ≡ channel_count channels }
+{
+    match channels {
+        Channels::Independent(count) => count,
+        _ => 2,
+    }
+}
+
+/// Returns true if a header can be written.
+fn is_header(header: &FrameHeader) -> bool
+    ensures { result ≡ true → IsHeader header.now }
+{
+    header.block_size >= 1
+        && header.block_size < 65_536
+        && header.number < 0x10_0000_0000
+        && is_sample_rate(header.sample_rate)
+        && is_channels(header.channels)
+        && is_sample_size(header.sample_size)
+}
+
+/// Returns true if a header can state this sample rate.
+fn is_sample_rate(rate: u32) -> bool
+    ensures { result ≡ true → IsSampleRate rate }
+{
+    rate < 65_536 || (rate % 10 == 0 && rate < 655_360)
+}
+
+/// Returns true if a coding has one to eight channels.
+fn is_channels(channels: Channels) -> bool
+    ensures { result ≡ true → IsChannels channels }
+{
+    match channels {
+        Channels::Independent(count) => count >= 1 && count <= 8,
+        _ => true,
+    }
+}
+
+/// Returns true if a header can state this number of bits of a sample.
+fn is_sample_size(size: u8) -> bool
+    ensures { result ≡ true → IsSampleSize size }
+{
+    matches!(size, 0 | 8 | 12 | 16 | 20 | 24 | 32)
+}
+
+/// Returns true if each channel has `size` samples, of `width` bits each.
+fn all_fit(width: u8, size: usize, channels: &[Vec<i64>]) -> bool
+    requires some { 1 ≤ width }
+    requires within { width ≤ 32 }
+    ensures whole { result ≡ true → All (λ channel. length channel.items ≡ size) channels.now }
+    ensures fit { result ≡ true → All (λ channel. All (FitsSignedBits width) channel.items) channels.now }
+{
+    for channel in channels {
+        if channel.len() != size || !samples_fit(width, channel.as_slice()) {
+            return false;
+        }
+    }
+    true
+}
+
+/// Returns true if each sample has `width` bits.
+fn samples_fit(width: u8, samples: &[i64]) -> bool
+    requires some { 1 ≤ width }
+    requires within { width ≤ 32 }
+    ensures { result ≡ true → All (FitsSignedBits width) samples.now }
+{
+    for sample in samples {
+        if !sample_fits(width, *sample) {
+            return false;
+        }
+    }
+    true
+}
+
+/// Returns true if a sample has `width` bits.
+fn sample_fits(width: u8, sample: i64) -> bool
+    requires some { 1 ≤ width }
+    requires within { width ≤ 32 }
+    ensures { result ≡ true → FitsSignedBits width sample }
+{
+    let rest = sample >> (width as u32 - 1);
+    rest == 0 || rest == -1
+}
