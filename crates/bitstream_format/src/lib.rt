@@ -16,10 +16,13 @@
 //!   limits the reader: the part is read over these bytes alone.
 //! - `Within`, `Filled`: parts of a stated size, and lists that fill one, as `./format` prints them; [`within`] has
 //!   their functions
+//! - `Stated`, `Varint`: sizes in units, with [`stated`], and the numbers of QUIC, with [`varint`]
 //! - `Places`: formats of a fixed width, each of whose fields has its place among the bits
 //!
 //! The [`examples`] are eight formats by hand.
 #![tactic(auto)]
 
 pub mod examples;
+pub mod stated;
+pub mod varint;
 pub mod within;
