@@ -91,7 +91,7 @@ def check_target(it: m.Description, index: int, kind: m.Kind) -> None:
 def fits_words(kind: m.Kind) -> list[tuple[str, set[str]]]:
     """Returns the clauses of `Fits` for a line, each with the words in it that a field may not be called."""
     match kind:
-        case m.Number() | m.Unary() | m.Groups():
+        case m.Number() | m.Unary() | m.Groups() | m.Varint():
             return [(kind.name, {"value"})]
         case m.Golomb(signed=signed):
             return [(kind.name, {"value", "unsigned_abs"} if signed else {"value"})]
@@ -107,7 +107,7 @@ def fits_words(kind: m.Kind) -> list[tuple[str, set[str]]]:
                 (kind.name, {"value", f"{s}_number"}),
                 (f"{kind.name}_again", {"value", f"{s}_of", f"{s}_number"}),
             ]
-        case m.Count():
+        case m.Count() | m.Size():
             return [(m.label(kind), {"value", "length"})]
         case m.If():
             return [(kind.name, {"value"}), (f"{kind.name}_there", {"value", "is_some", "not", "nat_lt", "nat_le"})]

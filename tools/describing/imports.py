@@ -12,6 +12,8 @@ SIZES = "is_end sized_decoder size_encoder within UnlessMemory"
 COUNTS = {"Rattle.bitstream_io.specs.Lengths": "CountsBits"}
 COUNT_LEMMAS = {"Rattle.bitstream_io.proofs.LengthLemmas": "count_done count_stopped"}
 FILL_LEMMAS = "ItemsSoFar filled-read filled-grown so_far-begin so_far-end so_far-more so_far-push so_far-stop"
+STATED = "sized_bytes size_in_units stated_decoder stored_encoder stored_size"
+STATED_LEMMAS = "stated-none stated-read stated-some stored-back stored-whole stored-written units-again"
 SIZE_LEMMAS = "sized-read size-back size-written within-ok within-err sized-grown"
 
 
@@ -63,6 +65,8 @@ def line_names(f: Format, line: Line) -> Table:
     own = [choice_names(f, line.kind)] if isinstance(line.kind, m.Choose) else []
     if line.measured:
         own.append({f.specs_path: f"{line.name}_sized {line.name}_ended", f"{WITHIN}.specs.Within": SIZES})
+    if line.units or isinstance(line.kind, m.Size) and line.kind.units:
+        own.append({f.specs_path: f"{line.name}_stated" * bool(line.units), f"{WITHIN}.specs.Stated": STATED})
     if isinstance(line.kind, m.Fill):
         own.append({f"{WITHIN}.specs.Filled": "filled_decoder items_from"} | COUNTS)
     return merged(*own, *[part_names(f, it, it.use) for it in line.parts if it.use])
@@ -106,6 +110,7 @@ def line_lemmas(f: Format, line: Line) -> Table:
     if line.enum:
         return {f.lemmas_path: f"{snake(line.enum.name)}_small {snake(line.enum.name)}_again"}
     own = [{f"{WITHIN}.proofs.WithinLemmas": SIZE_LEMMAS}] * bool(line.measured)
+    own += [{f"{WITHIN}.proofs.StatedLemmas": STATED_LEMMAS}] * bool(line.units)
     own += [{f"{WITHIN}.proofs.FilledLemmas": FILL_LEMMAS} | COUNT_LEMMAS] * isinstance(line.kind, m.Fill)
     if isinstance(line.kind, m.Choose):
         own += [{f.lemmas_path: " ".join(f"{snake(line.kind.type)}_{it}" for it in ("small", "back", "packs"))}]

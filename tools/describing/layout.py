@@ -2,7 +2,7 @@
 from __future__ import annotations
 
 from dataclasses import dataclass
-from typing import Iterable, Iterator
+from typing import Iterable, Iterator, TypeGuard
 
 from describing import model as m
 from describing.model import Refused, snake
@@ -12,6 +12,7 @@ ORDERS = {"BE": "High", "LE": "Low"}
 # The reads and writes of more than LONG lines are split into functions of EACH lines: twice the calls in one function
 # take about eight times as long to prove.
 LONG, EACH = 16, 8
+MOST_BYTES = 1 << 60  # of a size: their bits have a number of 64 bits
 UNPRINTED = "`--show` and `--pack` know this line, but no code is printed for it yet"
 OVERFLOW = ("VariableWidthOverflow", "if a number of variable width has more bits than its type")
 REDUNDANT = ("RedundantGroup", "if a number ends in a group of 0 behind others")
@@ -24,7 +25,8 @@ class Line:
     `at` is the number of bits before it, or None if that is not a constant. `clause` names the clause of its refusal.
     `repeats` is true if an earlier line defines its enum. `inner` are the lines of a part, `shared` the cases of its
     enum whose names something else has in specs. `arms` are the cases of a choice, each with the line of the part that it
-    holds; `choice` is the choice whose tag it is, and `measures` the line whose size it is.
+    holds; `choice` is the choice whose tag it is, `measures` the line whose size it is, and `size` the line that has its
+    own size.
     """
 
     kind: m.Printed
@@ -37,6 +39,7 @@ class Line:
     arms: tuple[tuple[m.Arm, Line | None], ...] = ()
     choice: m.Choose | None = None
     measures: m.Measured | None = None
+    size: m.Size | None = None
 
     @property
     def name(self) -> str:
@@ -86,6 +89,11 @@ class Line:
         return self.kind if m.is_measured(self.kind) else None
 
     @property
+    def units(self) -> str:
+        """The units of its size and what this adds, or an empty text if its size is a number of bytes."""
+        return self.size.units if self.size else ""
+
+    @property
     def parts(self) -> list[Line]:
         """The line itself if it has one part or many of one, or else the lines of the parts of its cases."""
         return [self] if self.use else [part for _, part in self.arms if part]
@@ -94,9 +102,11 @@ class Line:
     def many(self) -> bool:
         """True if it is written by a list of writes, and not by one."""
         match self.kind:
-            case m.Array() | m.List():
+            case m.Array() | m.List() | m.Sized():
                 return not isinstance(self.kind.item, m.Octet)
-        return isinstance(self.kind, m.Golomb | m.Part | m.Optional | m.If | m.Choose | m.Sized | m.Fill)
+        return m.is_varint(self.kind) or isinstance(
+            self.kind, m.Golomb | m.Part | m.Optional | m.If | m.Choose | m.Fill
+        )
 
     def least(self, at: int = 0) -> int:
         """Returns the number of bytes that have all its bits."""
@@ -154,8 +164,8 @@ def lines_of(description: m.Description) -> tuple[Line, ...]:
         repeats = id(enum) in seen
         names = frozenset(enum.names()) & shared if isinstance(enum, m.EnumType) else frozenset[str]()
         clause, choice, measures = snake(error) + again, chosen_by(description, kind), measured_by(description, kind)
-        arms, inner = arm_lines(kind, index), inner_lines(kind)
-        found.append(Line(kind, index, at, clause, repeats, inner, names, arms, choice, measures))
+        arms, inner, size = arm_lines(kind, index), inner_lines(kind), size_of(description, kind)
+        found.append(Line(kind, index, at, clause, repeats, inner, names, arms, choice, measures, size))
         seen.add(id(enum) if isinstance(enum, m.EnumType) else 0)
         at = None if at is None or width is None else at + width
     return tuple(found)
@@ -184,10 +194,23 @@ def arm_lines(kind: m.Printed, index: int) -> tuple[tuple[m.Arm, Line | None], .
 
 def measured_by(description: m.Description, kind: m.Printed) -> m.Measured | None:
     """Returns the line whose size a line has."""
-    found = (
-        it for it in description.kinds if isinstance(kind, m.Size) and m.is_measured(it) and it.name == kind.target
-    )
-    return next(found, None)
+    return next((it for it in description.kinds if size_of(description, it) is kind and has_size(it)), None)
+
+
+def is_octets(kind: m.Kind | None) -> bool:
+    """Returns true for bytes whose size an earlier line has."""
+    return isinstance(kind, m.Sized) and isinstance(kind.item, m.Octet)
+
+
+def has_size(kind: m.Kind) -> TypeGuard[m.Measured]:
+    """Returns true for a line whose size an earlier line has."""
+    return m.is_measured(kind) or isinstance(kind, m.Sized)
+
+
+def size_of(description: m.Description, kind: m.Kind) -> m.Size | None:
+    """Returns the line that has the size of a line."""
+    sizes = (it for it in description.kinds if isinstance(it, m.Size))
+    return next((it for it in sizes if has_size(kind) and kind.name == it.target), None)
 
 
 def check_printed(description: m.Description, kind: m.Printed) -> None:
@@ -197,22 +220,32 @@ def check_printed(description: m.Description, kind: m.Printed) -> None:
         case m.If(field=field) if field in tags:
             raise Refused(UNPRINTED, kind.at)
         case m.Sized(item=m.Octet()):
-            raise Refused(UNPRINTED, kind.at)
+            check_octets(kind, size_of(description, kind))
         case m.Fill(use=use) if sum(m.bits(it) or 0 for it in use.description.kinds) < 8:
             raise Refused("an item that fills a size has at least 8 bits of constant width", kind.at)
         case m.Choose() if m.any_octets(kind) and not kind.sized:
             raise Refused(f"{UNPRINTED}: a case holds bytes in code if a `size` line says how many", kind.at)
         case m.Choose() if any(it.number is not None and isinstance(it.held, m.Octet) for it in kind.arms):
             raise Refused(f"{UNPRINTED}: in code only the case for other numbers holds bytes", kind.at)
-        case m.Size() if kind.unit != 1 or kind.plus or kind.width > 32:
-            raise Refused(
-                f"{UNPRINTED}: a size of at most 32 bits, without `plus`, `less` and `by`, is printed", kind.at
-            )
+        case m.Size(varint=True):
+            if not is_octets(measured_by(description, kind)):
+                raise Refused(f"{UNPRINTED}: a size by `varint quic` is printed for bytes", kind.at)
+        case m.Size() if kind.most >= MOST_BYTES:
+            raise Refused(f"{UNPRINTED}: a size of fewer than 2^60 bytes is printed", kind.at)
         case m.Optional() | m.If() | m.List() if any(m.ordered(use.description) for use in m.uses(kind)):
             raise Refused("a part with sizes stands neither in a list nor behind a condition", kind.at)
     for use in m.uses(kind):
         if m.ordered(use.description) and use.description.order != description.order:
             raise Refused(f"`{use.module}` has sizes, so its order must be {description.order} as here", kind.at)
+
+
+def check_octets(kind: m.Sized, size: m.Size | None) -> None:
+    """Refuses bytes whose size may be below what it counts too, if no error is named for it; and an error without use."""
+    least = max(size.plus, 0) if size else 0
+    if least and not kind.error:
+        raise Refused(f"the size may be below {least}: name an error for it, `sized {kind.name} bytes ERROR`", kind.at)
+    if kind.error and not least:
+        raise Refused(f"each size is right, so there is no `{kind.error}`: leave it out", kind.at)
 
 
 def chosen_by(description: m.Description, kind: m.Printed) -> m.Choose | None:

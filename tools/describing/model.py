@@ -212,6 +212,11 @@ class Golomb(Field):
 
 
 @dataclass(frozen=True, slots=True)
+class Varint(Field):
+    """NAME varint quic: two bits state whether 6, 14, 30 or 62 bits follow."""
+
+
+@dataclass(frozen=True, slots=True)
 class Part(Field):
     """NAME TYPE of MODULE"""
 
@@ -288,17 +293,35 @@ class Tag(Line):
 
 @dataclass(frozen=True, slots=True)
 class Size(Line):
-    """size NAME BITS [plus N | less N] [by N]: stores (bytes + `plus`) / `unit`."""
+    """size NAME BITS [plus N | less N] [by N], size NAME varint quic: stores (bytes + `plus`) / `unit`."""
 
     target: str
     width: int
     unit: int
     plus: int
+    varint: bool = False
+
+    @property
+    def units(self) -> str:
+        """The unit, the bytes that the number counts too and those that it does not, or an empty text for plain bytes."""
+        return f"{self.unit} {max(self.plus, 0)} {max(-self.plus, 0)}" if self.unit != 1 or self.plus else ""
+
+    @property
+    def bytes(self) -> str:
+        """The number of bytes, as a formula of the stored number."""
+        units = f"{self.unit} * " * (self.unit != 1)
+        more = f" {'-' if self.plus > 0 else '+'} {abs(self.plus)}" if self.plus else ""
+        return f"{units}{self.target}_bytes{more}"
+
+    @property
+    def most(self) -> int:
+        """The greatest number of bytes."""
+        return ((1 << self.width) - 1) * self.unit - self.plus
 
 
 @dataclass(frozen=True, slots=True)
 class Sized(Field):
-    """sized NAME TYPE of MODULE ERROR, sized NAME bytes: one part, or bytes, of exactly the size."""
+    """sized NAME TYPE of MODULE ERROR, sized NAME bytes [ERROR]: one part, or bytes, of exactly the size."""
 
     item: Use | Octet
     error: str
@@ -381,14 +404,14 @@ class Until(Field):
 
 
 Described: TypeAlias = (
-    Bool | Number | NonZero | MaybeNonZero | Enum | Array | Unary | Groups | Golomb | Part | Optional | If | List
+    Bool | Number | NonZero | MaybeNonZero | Enum | Array | Unary | Groups | Golomb | Varint | Part | Optional | If | List
     | Sized | Fill | Choose | Rest | Until
 )  # fmt: skip
 Hidden: TypeAlias = Const | Skip | Flag | Count | Tag | Size
 Kind: TypeAlias = Described | Hidden
 # The kinds of which code is printed.
 Printed: TypeAlias = (
-    Bool | Number | NonZero | MaybeNonZero | Enum | Array | Unary | Groups | Golomb | Part | Optional | If | List
+    Bool | Number | NonZero | MaybeNonZero | Enum | Array | Unary | Groups | Golomb | Varint | Part | Optional | If | List
     | Const | Skip | Flag | Count | Tag | Choose | Size | Sized | Fill
 )  # fmt: skip
 Measured: TypeAlias = Sized | Choose | Fill
@@ -456,11 +479,16 @@ def bits(kind: Kind) -> int | None:
             return kind.enum.width
         case Array():
             return kind.item.width * kind.count
-        case Const() | Skip() | Count() | Tag() | Size():
+        case Const() | Skip() | Count() | Tag() | Size() if not is_varint(kind):
             return kind.width
         case Part() if not kind.use.description.error:
             return kind.use.description.bits
     return None
+
+
+def is_varint(kind: Kind) -> bool:
+    """Returns true for a number whose first two bits state its length."""
+    return isinstance(kind, Varint) or isinstance(kind, Size) and kind.varint
 
 
 def case_named(number: int, enum: EnumType) -> str | None:
@@ -549,8 +577,10 @@ def has_list(use: Use) -> bool:
 
 
 def is_measured(kind: Kind) -> TypeGuard[Measured]:
-    """Returns true if an earlier line has the size of this line, which is printed in code."""
-    return isinstance(kind, Sized | Fill) or isinstance(kind, Choose) and kind.sized
+    """Returns true if this line has parts whose size an earlier line has: they are read over their bytes alone."""
+    if isinstance(kind, Sized):
+        return isinstance(kind.item, Use)
+    return isinstance(kind, Fill) or isinstance(kind, Choose) and kind.sized
 
 
 def ordered(description: Description) -> bool:
@@ -593,6 +623,8 @@ def rust_type(kind: Described) -> str:
             return f"[{item_type(kind.item)}; {kind.count}]"
         case Unary():
             return "u32"
+        case Varint():
+            return "u64"
         case Golomb():
             return "i32" if kind.signed else "u32"
         case Enum():
@@ -632,6 +664,8 @@ def range_of(kind: Kind) -> tuple[int, int] | None:
             return 0, kind.integer.most
         case Unary():
             return 0, (1 << 32) - 1
+        case Varint():
+            return 0, (1 << 62) - 1
         case Golomb():
             return (-(1 << 31) + 1, (1 << 31) - 1) if kind.signed else (0, (1 << 32) - 2)
         case Array() | List() | Rest() | Until():

@@ -8,7 +8,9 @@ Table: TypeAlias = dict[str, str]  # the names of each module, with blanks betwe
 
 SYMBOLS = {it: f"◌{it}◌" for it in "≡ ≢ ∷ ++ ^ < ≤ + - * / ∙ == ⊎ ↔".split()}
 SYMBOLS |= {"[]": "[]", "if": "if◌then◌else◌", "←": "◌>>=◌"}
-TOKEN = re.compile(r"\+\+|==|\[\]|[^\W\d][\w]*(?:-[^\W\d][\w]*)*(?:-\d+)?|\S")
+# The letters \ue000 to \ue0ff are those of hidden names (`renamed.py`).
+LETTER = r"(?:[^\W\d]|[\ue000-\ue0ff])"
+TOKEN = re.compile(rf"\+\+|==|\[\]|{LETTER}(?:\w|{LETTER})*(?:-[^\W\d]\w*)*(?:-\d+)?|\S")
 
 
 def spec_of(module: str) -> str:
@@ -43,6 +45,7 @@ Rattle.bitstream_io.specs.Callers: ← Decoder Encoder Done pure list_item Error
     non_zero_u8_decoder non_zero_u16_decoder non_zero_u32_decoder non_zero_u64_decoder non_zero_u128_decoder
 Rattle.bitstream_io.specs.Error.TheVariants: VariableWidthOverflow RedundantGroup
 Rattle.bitstream_io.specs.Golomb: ue_decoder ue_writes ue_size se_decoder se_writes se_size
+Rattle.bitstream_format.specs.Varint: varint_decoder varint_writes varint_size
 Rattle.bitstream_io.specs.Grows: GrowingOutcome PartsRead
 Rattle.bitstream_io.specs.Loop: parts_size ItemsRead ItemsWritten
 Rattle.bitstream_io.specs.SliceMut: HoldsFirst written_bytes
@@ -88,6 +91,7 @@ Rattle.bitstream_io.proofs.GrowsLemmas: go_grown stop_grown grown_end vec-grown
 Rattle.bitstream_io.proofs.EachLemmas: grown_made all-made own_map_err own_optional-back each_part-back made-each packs-made made_items-back
     made_items-finds part_items-finds part_items-misses all_ok-items made-put made-all made-stop
 Rattle.bitstream_io.proofs.GolombLemmas: ue-back ue-packs se-back se-packs
+Rattle.bitstream_format.proofs.VarintLemmas: varint-back varint-packs
 Rattle.std.proofs.lemmas.List: map-id length-set
 Rattle.bitstream_io.proofs.SliceLemmas: new_answer
 Rattle.bitstream_io.proofs.ReadsLemmas: map_err
@@ -132,6 +136,7 @@ UNFOLDS: Table = {
     "NonZero": "non_zero non_zero_decoder option_decoder",
     "Vbr": "groups groups_at",
     "Rattle.bitstream_format.specs.Within": "size_encoder",
+    "Rattle.bitstream_format.specs.Stated": "size_in_units stated_size stored_size stored_encoder",
 }
 
 

@@ -31,6 +31,7 @@ TYPES = {it: INTEGER for it in (*UNSIGNED, *SIGNED)} | {
     "unary": "`NAME unary STOP`",
     "vbr": "`NAME vbr BITS TYPE` or `NAME vbr BITS TYPE any`, and TYPE is u8 to u128, or i8 to i128",
     "leb128": "`NAME leb128 TYPE`, and TYPE is u16 to u128, or i16 to i128",
+    "varint": "`NAME varint quic`",
     "ue": "`NAME ue`",
     "se": "`NAME se`",
 }
@@ -45,8 +46,8 @@ STARTS = {
     "count": "`count LIST BITS`",
     "list": LIST.format("list"),
     "tag": "`tag NAME BITS`",
-    "size": "`size NAME BITS [plus N | less N] [by N]`",
-    "sized": "`sized NAME TYPE of MODULE ERROR` or `sized NAME bytes`",
+    "size": "`size NAME BITS [plus N | less N] [by N]` or `size NAME varint quic`",
+    "sized": "`sized NAME TYPE of MODULE ERROR` or `sized NAME bytes [ERROR]`",
     "fill": "`fill NAME TYPE of MODULE ERROR`",
     "choose": f"`choose NAME TYPE [by FIELD] [sized ERROR]: {ARMS}`",
     "rest": LIST.format("rest"),
@@ -277,6 +278,19 @@ def golomb_line(words: Words, context: Context, word: str, at: Position, name: s
     return m.Golomb(at, words.behind, name, word == "se")
 
 
+def varint_line(words: Words, context: Context, word: str, at: Position, name: str) -> m.Kind:
+    words.at -= 1
+    quic(words)
+    return m.Varint(at, words.behind, name)
+
+
+def quic(words: Words) -> None:
+    """Takes `varint quic`."""
+    words.next()
+    if words.next() != "quic":
+        raise words.refuse("`varint quic` is known, and no other")
+
+
 # ---- lines that begin with a word of their own
 
 
@@ -346,7 +360,7 @@ def asked_value(context: Context, asked: str, said: str, place: Position, there:
                 return found
             case (m.Number() | m.Groups()) if it.name == asked and not it.integer.signed:
                 return number(said, 0, (1 << 128) - 1, "what is asked for", there)
-            case (m.Unary() | m.Golomb(signed=False) | m.Tag()) if it.name == asked:
+            case (m.Unary() | m.Golomb(signed=False) | m.Varint() | m.Tag()) if it.name == asked:
                 return number(said, 0, (1 << 128) - 1, "what is asked for", there)
     raise Refused(f"no number or enum `{asked}` before it", place)
 
@@ -371,6 +385,9 @@ def tag_line(words: Words, context: Context, at: Position) -> m.Kind:
 
 def size_line(words: Words, context: Context, at: Position) -> m.Kind:
     name = words.next()
+    if words.peek() == "varint":
+        quic(words)
+        return m.Size(at, words.behind, name, 62, 1, 0, True)
     width, unit, plus = words.number(1, 64, "the width of a size"), 1, 0
     if words.peek() in ("plus", "less"):
         sign = 1 if words.next() == "plus" else -1
@@ -383,7 +400,7 @@ def size_line(words: Words, context: Context, at: Position) -> m.Kind:
 def sized_line(words: Words, context: Context, at: Position) -> m.Kind:
     name = measured(words, context)
     if words.peek() == "bytes" and words.next():
-        return m.Sized(at, words.behind, name, m.Octet(), "")
+        return m.Sized(at, words.behind, name, m.Octet(), words.next() if words.peek() else "")
     return m.Sized(at, words.behind, name, use(words, context), words.next())
 
 
@@ -483,6 +500,7 @@ TYPED: dict[str, TypedLine] = {it: integer_line for it in (*UNSIGNED, *SIGNED)} 
     "unary": unary_line,
     "vbr": vbr_line,
     "leb128": leb128_line,
+    "varint": varint_line,
     "ue": golomb_line,
     "se": golomb_line,
 }

@@ -24,8 +24,8 @@ class Cell:
 Row = list[Cell]
 
 
-def said(kind: m.Kind) -> str:
-    """Returns the text in brackets for a line of no constant number of bits."""
+def said(kind: m.Kind, kinds: tuple[m.Kind, ...]) -> str:
+    """Returns the text in brackets for a line of no constant number of bits, which is one of `kinds`."""
     match kind:
         case m.Unary():
             return "zeros up to a 1" if kind.stop else "ones up to a 0"
@@ -33,6 +33,8 @@ def said(kind: m.Kind) -> str:
             return f"groups of {kind.group} bits"
         case m.Golomb():
             return f"Exp-Golomb, {'se' if kind.signed else 'ue'}"
+        case m.Varint() | m.Size():
+            return "1, 2, 4 or 8 bytes"
         case m.Part():
             return kind.use.name
         case m.Optional() | m.If():
@@ -44,7 +46,8 @@ def said(kind: m.Kind) -> str:
         case m.Sized() | m.Fill():
             held = m.held_item(kind)
             of = f"{held.name}, of " if isinstance(held, m.Use) else ""
-            return f"{of}{kind.name}_bytes bytes"
+            size = next(it.bytes for it in kinds if isinstance(it, m.Size) and it.target == kind.name)
+            return f"{of}{size} bytes"
         case m.Choose():
             names = [it.case for it in kind.arms]
             return ", ".join(names[:-1]) + " or " * (len(names) > 1) + names[-1]
@@ -71,7 +74,7 @@ def rows_of(kinds: tuple[m.Kind, ...]) -> list[Row]:
     for index, kind in enumerate(kinds):
         bits = m.bits(kind)
         if bits is None:
-            rows += [row] * bool(row) + [[Cell(f"{m.label(kind)} ({said(kind)})", None, index)]]
+            rows += [row] * bool(row) + [[Cell(f"{m.label(kind)} ({said(kind, kinds)})", None, index)]]
             row = []
             continue
         parts = pieces(bits, width(row))
@@ -136,12 +139,12 @@ def svg_text(name: str, wide: int, x: float, y: float) -> str:
     return f'<text x="{x}" y="{y}"{style}>{escape(fits)}</text>'
 
 
-def svg_cell(it: Cell, count: int, x: int, y: int, kind: m.Kind, hue: int) -> str:
+def svg_cell(it: Cell, count: int, x: int, y: int, kinds: tuple[m.Kind, ...], hue: int) -> str:
     """Returns a cell, with a title that says what the line is."""
-    wide = it.bits or WIDE
+    kind, wide = kinds[it.index], it.bits or WIDE
     name = it.text + (f" ({count} rows)" if count > 1 else "")
     bits = m.bits(kind)
-    tip = f"{m.label(kind)}: {f'{bits} bits' if bits is not None else said(kind)}. {meaning(kind)}"
+    tip = f"{m.label(kind)}: {f'{bits} bits' if bits is not None else said(kind, kinds)}. {meaning(kind)}"
     shape = f'<rect x="{x}" y="{y}" width="{wide * CELL}" height="{HIGH}"/>'
     style = f'style="--h:{hue}"' if m.is_field(kind) else ""
     group = f'<g class="cell{" open" * (bits is None)}{"" if style else " plain"}" data-kind="{it.index}" {style}>'
@@ -156,7 +159,7 @@ def svg(kinds: tuple[m.Kind, ...], hues: list[int]) -> str:
     for number, (row, count) in enumerate(rows):
         x = LEFT
         for it in row:
-            out.append(svg_cell(it, count, x, TOP + number * HIGH, kinds[it.index], hues[it.index]))
+            out.append(svg_cell(it, count, x, TOP + number * HIGH, kinds, hues[it.index]))
             x += (it.bits or WIDE) * CELL
     box = f"0 0 {WIDE * CELL + 2 * LEFT} {TOP + len(rows) * HIGH + 4}"
     return f'<svg viewBox="{box}" role="img" aria-label="The picture of the header">{"".join(out)}</svg>'

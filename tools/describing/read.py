@@ -48,6 +48,8 @@ def values(kind: m.Kind) -> Callable[[Input], Value] | None:
             return lambda row: row.number(width) or None
         case m.Count(width=width) | m.Tag(width=width):
             return lambda row: row.number(width)
+        case m.Varint() | m.Size(varint=True):
+            return lambda row: row.number(8 * (1 << row.number(2)) - 2)
         case m.Size(width=width, unit=unit, plus=plus):
             return lambda row: row.number(width) * unit - plus
         case m.Enum(enum=enum):

@@ -55,8 +55,19 @@ def hidden_kind(kind: Held, names: set[str]) -> Held:
     for attribute in ("use", "item"):
         use = getattr(kind, attribute, None)
         if isinstance(use, m.Use):
-            found[attribute] = dataclasses.replace(use, description=hide(use.description, names))
+            found[attribute] = hidden_use(use, names)
+    if isinstance(kind, m.Choose):
+        arms = ((it, it.held) for it in kind.arms)
+        found["arms"] = tuple(
+            dataclasses.replace(arm, held=hidden_use(held, names)) if isinstance(held, m.Use) else arm
+            for arm, held in arms
+        )
     return dataclasses.replace(kind, **found)
+
+
+def hidden_use(use: m.Use, names: set[str]) -> m.Use:
+    """Returns a part with hidden names."""
+    return dataclasses.replace(use, description=hide(use.description, names))
 
 
 def shown(text: str, place: str) -> str:

@@ -28,8 +28,6 @@ numbered from 0, and the lines of JSON from 1.
 `./format --help` has the lines of a description. The following lines are known here only: no code is printed for them.
 
     choose body Body by kind: 1 Ack of ack, 2 Raw bytes  a choice with a case that holds bytes
-    size body 16 plus 20 by 4                          the size of `body` in bytes, plus (or less) 20, in units of 4 bytes
-    sized body bytes                                   bytes of that size
     rest items u16 16                                  items of a list up to the end of the bytes, or of the size around
     until name u8 8 0                                  numbers up to the first 0, which is no item
 

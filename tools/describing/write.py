@@ -182,6 +182,14 @@ def put_golomb(bits: Bits, name: str, signed: bool, value: Value) -> None:
     bits.put(found + 1 - (1 << zeros), zeros)
 
 
+def put_varint(bits: Bits, name: str, value: Value) -> None:
+    """Writes a number after the two bits that state its length."""
+    found = number(name, value, 0, (1 << 62) - 1)
+    length = sum(found >= 1 << most for most in (6, 14, 30))
+    bits.put(length, 2)
+    bits.put(found, 8 * (1 << length) - 2)
+
+
 def put_field(bits: Bits, kind: m.Described, value: Value, whole: Record, name: str) -> None:
     """Writes a field."""
     match kind:
@@ -201,6 +209,8 @@ def put_field(bits: Bits, kind: m.Described, value: Value, whole: Record, name: 
             put_groups(bits, name, kind, value)
         case m.Golomb():
             put_golomb(bits, name, kind.signed, value)
+        case m.Varint():
+            put_varint(bits, name, value)
         case m.Until():
             if kind.stop in items(name, value):
                 raise unfit(name, value, f"{kind.stop} ends it, and is no item")
@@ -349,6 +359,8 @@ def put_size(bits: Bits, kind: m.Size, description: m.Description, whole: Record
     found, more = divmod(size + kind.plus, kind.unit)
     if left or more:
         raise Unfit(f"`{joined(path, kind.target)}` has {inside.count} bits, which its size cannot say")
+    if kind.varint:
+        return put_varint(bits, m.label(kind), found)
     bits.put(number(m.label(kind), found, 0, (1 << kind.width) - 1), kind.width)
 
 

@@ -56,14 +56,19 @@ counted-accepted most (e ∷ es) len all le =
     ∙ if-false _ _ _ (not_past most (len + length w) (omega (arith, le, sum)))
     ∙ counted-accepted most es (len + length w) all.1 (omega (arith, le, sum)) ∙ ap Ok (omega (arith, sum))
 
--- calls that are all accepted: the size is their number of bytes
+-- calls that are all accepted: their number of bits
+pub counted-is : (es : List Encoder) (m : ℕ) → Packs es m → m ≤ 18446744073709551615
+    → counted_bits 18446744073709551615 es 0 ≡ Ok m
+counted-is es m packs le =
+    let long = packs.size 0 in
+    let sum : 0 + length (write_sequence es 0) ≡ m = omega (arith, long) in
+    counted-accepted 18446744073709551615 es 0 (packs.accepted 0) (omega (arith, le, long)) ∙ ap Ok sum
+
+-- the size is their number of bytes
 pub size-is : (o : Order) (width : ℕ) (es : List Encoder) (m : ℕ) → Packs es m → m ≤ 18446744073709551615
     → size_encoder o width es ≡ unsigned o 64 width (m / 8)
 unfolding size_encoder
-size-is o width es m packs le =
-    let long = packs.size 0 in
-    let sum : 0 + length (write_sequence es 0) ≡ m = omega (arith, long) in
-    ap (size_of o width) (counted-accepted 18446744073709551615 es 0 (packs.accepted 0) (omega (arith, le, long)) ∙ ap Ok sum)
+size-is o width es m packs le = ap (size_of o width) (counted-is es m packs le)
 
 -- ---- a part that was read over its bytes alone
 

@@ -6,5 +6,7 @@ pub mod Choices
 pub mod Sizes
 pub mod Within
 pub mod Filled
+pub mod Stated
+pub mod Varint
 pub mod Places
 pub mod Examples

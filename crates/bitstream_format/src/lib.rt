@@ -16,10 +16,13 @@
 //!   reader: the part is read from these bytes only.
 //! - `Within`, `Filled`: parts of a stated size, and lists that fill one, as `./format` prints them; [`within`] has
 //!   their functions
+//! - `Stated`, `Varint`: sizes in units, with [`stated`], and the numbers of QUIC, with [`varint`]
 //! - `Places`: formats of a fixed width, in which each field has a fixed place among the bits
 //!
 //! The [`examples`] are eight formats written by hand.
 #![tactic(auto)]
 
 pub mod examples;
+pub mod stated;
+pub mod varint;
 pub mod within;

@@ -9,6 +9,10 @@ pub mod Frame
 pub mod FrameFields
 pub mod Hello
 pub mod HelloFields
+pub mod Ipv4Datagram
+pub mod Ipv4DatagramFields
+pub mod Ipv6Routing
+pub mod Ipv6RoutingFields
 pub mod Log
 pub mod LogFields
 pub mod Mark
@@ -18,6 +22,15 @@ pub mod Notes
 pub mod NotesFields
 pub mod Packet
 pub mod PacketFields
+pub mod QuicStream
+pub mod QuicStreamFields
 pub mod Renegotiation
 pub mod RenegotiationFields
 pub mod Signal
+pub mod TcpBlock
+pub mod TcpData
+pub mod TcpDataFields
+pub mod TcpReceived
+pub mod TcpReceivedFields
+pub mod TlsRecord
+pub mod TlsRecordFields

@@ -7,7 +7,10 @@
 //! - [`packet`], [`frame`]: parts behind their size in bytes, which limits the reader
 //! - [`log`]: lists that fill their size in bytes
 //! - [`hello`]: the ClientHello of TLS 1.2, with its [`extensions`]: an unknown [`extension`] keeps its bytes
-//! - [`ack`], [`mark`], [`notes`], [`renegotiation`]: the parts that they hold
+//! - [`ipv4_datagram`], [`ipv6_routing`], [`tls_record`]: bytes of a stated size, of which two are in words
+//! - [`tcp_received`]: a list whose size counts the bytes before it too
+//! - [`quic_stream`]: numbers of 1, 2, 4 or 8 bytes
+//! - [`ack`], [`mark`], [`notes`], [`renegotiation`], [`tcp_block`], [`tcp_data`]: parts
 #![tactic(auto)]
 
 pub mod ack;
@@ -16,10 +19,17 @@ pub mod extension;
 pub mod extensions;
 pub mod frame;
 pub mod hello;
+pub mod ipv4_datagram;
+pub mod ipv6_routing;
 pub mod log;
 pub mod mark;
 pub mod message;
 pub mod notes;
 pub mod packet;
+pub mod quic_stream;
 pub mod renegotiation;
 pub mod signal;
+pub mod tcp_block;
+pub mod tcp_data;
+pub mod tcp_received;
+pub mod tls_record;

@@ -13,8 +13,8 @@ from describing.write import EXACT
 GROUP = 8
 # The fields whose values a program prints and reads.
 Shown: TypeAlias = (
-    m.Bool | m.Number | m.NonZero | m.MaybeNonZero | m.Enum | m.Array | m.Unary | m.Groups | m.Golomb | m.Part
-    | m.Optional | m.If | m.List
+    m.Bool | m.Number | m.NonZero | m.MaybeNonZero | m.Enum | m.Array | m.Unary | m.Groups | m.Golomb | m.Varint
+    | m.Part | m.Optional | m.If | m.List
 )  # fmt: skip
 
 
@@ -91,7 +91,7 @@ def printed_value(kind: Shown) -> list[str]:
     match kind:
         case m.Bool():
             return [f'write!(out, "{{}}", {value})?;']
-        case m.Unary() | m.Golomb():
+        case m.Unary() | m.Golomb() | m.Varint():
             return [f'write!(out, "{{}}", {value})?;']
         case m.Number(integer=whole) | m.Groups(integer=whole):
             return [printed_number(whole, value)]
@@ -164,7 +164,7 @@ def read_value(it: m.Description, kind: Shown) -> str:
             return f"boolean(alloc, {name}, {value})?"
         case m.Number(integer=whole) | m.Groups(integer=whole):
             return f"{read_number(whole, name, value)}? as {whole.base}"
-        case m.Unary() | m.Golomb():
+        case m.Unary() | m.Golomb() | m.Varint():
             least, most = m.range_of(kind) or (0, 0)
             call = "signed" if least else "unsigned"
             return f"{call}(alloc, {name}, {value}, {least}, {most})? as {m.rust_type(kind)}"
@@ -366,7 +366,7 @@ def number_arm(kind: Shown) -> list[str]:
         case m.NonZero() | m.MaybeNonZero():
             base = kind.integer.base
             value += ".get()" if isinstance(kind, m.NonZero) else "?.get()"
-        case m.Unary() | m.Golomb():
+        case m.Unary() | m.Golomb() | m.Varint():
             base = m.rust_type(kind)
         case _:
             return []

@@ -4,7 +4,7 @@ from __future__ import annotations
 from typing import assert_never
 
 from describing import model as m
-from describing.layout import Format, Line
+from describing.layout import Format, Line, has_size, is_octets
 from describing.model import snake
 from describing.specs.sizes import overrun
 from describing.specs.terms import (
@@ -16,16 +16,20 @@ from describing.specs.terms import (
     here,
     inside,
     measured_module,
+    measured_read,
     measured_size,
     measured_writes,
     if_there,
     item_writes,
     known,
     non_zero,
+    number_stored,
     or_zero,
     shape,
     short,
     sign,
+    sized_bytes,
+    stated_number,
     stored,
     tag_bits,
     tag_number,
@@ -64,6 +68,9 @@ def back(f: Format, line: Line, behind: str) -> str:
         case m.Golomb():
             goes = f"({short(kind)}-back o {term} fits.{kind.name}).back"
             return f"part-back ({entry(f, line)}) _ ({word(line)}) _ {term} _ {goes} ({behind})"
+        case m.Varint():
+            goes = f"(varint-back o {term} fits.{kind.name}).back"
+            return f"part-back ({entry(f, line)}) _ ({word(line)}) _ {term} _ {goes} ({behind})"
         case m.Count():
             length = f"(length value.{kind.target})"
             return f"unsigned-back o {kind.width} _ _ 64 {length} _ refl fits.{line.name} ({behind})"
@@ -72,17 +79,16 @@ def back(f: Format, line: Line, behind: str) -> str:
             number, small_tag = tag_number(line), choice_small(line.choice)
             return f"unsigned-back o {kind.width} _ _ {tag_bits(kind.width)} ({number}) _ refl {small_tag} ({behind})"
         case m.Size():
-            assert line.measures
-            width, size = kind.width, measured_size(line.measures, "High")
-            shown = f"({measured_writes(line.measures, 'High')}) _ _ ({size}) _"
-            return f"size-back o {width} {shown} {size_facts(line)} ({behind})"
+            return size_back(line, kind, behind)
+        case m.Sized(item=m.Octet()):
+            return octets_back(line, kind, behind)
         case m.Sized() | m.Fill():
-            read = f"{kind.name}_sized o ({measured_size(kind, 'High')} / 8)"
+            read = f"{measured_read(line)} o ({read_size(line)})"
             return f"part-back ({read}) _ ({word(line)}) _ (Ok {term}) _ {kind.name} ({behind})"
         case m.Choose():
             read = f"{snake(kind.type)}_read o {chosen(f, kind)}"
             if kind.sized:
-                read = f"{kind.name}_sized o {chosen(f, kind)} ({measured_size(kind, 'High')} / 8)"
+                read = f"{measured_read(line)} o {chosen(f, kind)} ({read_size(line)})"
             return f"part-back ({read}) _ ({word(line)}) _ {answered(line, term)} _ {kind.name} ({behind})"
         case m.List():
             return list_back(f, line, kind, behind)
@@ -139,11 +145,66 @@ def chosen(f: Format, kind: m.Choose) -> str:
     return written_number(f, kind) if tag_of(f, kind) is None else f"({snake(kind.type)}_number value.{kind.name})"
 
 
+def size_back(line: Line, kind: m.Size, behind: str) -> str:
+    """Returns the term for the size of a later line."""
+    assert line.measures
+    if is_octets(line.measures):
+        number = f"({number_stored(line, kind)})"
+        if kind.varint:
+            goes = f"(varint-back o {number} fits.{line.name}).back"
+            return f"part-back (varint_decoder o) _ ({word(line)}) _ {number} _ {goes} ({behind})"
+        return f"unsigned-back o {kind.width} _ _ 64 {number} _ refl fits.{line.name} ({behind})"
+    lemma = f"stored-back o {kind.width} {kind.units}" if kind.units else f"size-back o {kind.width}"
+    shown = f"({measured_writes(line.measures, 'High')}) _ _ ({measured_size(line.measures, 'High')}) _"
+    return f"{lemma} {shown} {size_facts(line)} ({behind})"
+
+
 def size_facts(line: Line) -> str:
     """Returns the facts about a size: what has it is accepted, and its number of bytes fits."""
-    assert isinstance(line.kind, m.Size) and line.measures
-    few = f"(let few = fits.{line.name} in omega (arith, few))"
-    return f"({measured_packs(line.measures, 'High')}) {few} refl fits.{line.name}"
+    kind = line.kind
+    assert isinstance(kind, m.Size) and line.measures
+    few, known = f"let few = fits.{line.name} in", "few"
+    if kind.units:
+        size = f"({measured_size(line.measures, 'High')} / 8)"
+        few, known = f"{few} let whole = stored-whole {kind.units} {size} {most(kind)} few refl refl in", "few, whole"
+    return f"({measured_packs(line.measures, 'High')}) ({few} omega (arith, {known})) refl fits.{line.name}"
+
+
+def most(kind: m.Size) -> str:
+    """Returns the number that the number of a size is below."""
+    return f"(2 ^ {kind.width})"
+
+
+def read_size(line: Line) -> str:
+    """Returns the number that a size has when it is read again."""
+    assert line.size and has_size(line.kind)
+    size = f"{measured_size(line.kind, 'High')} / 8" if line.measured else f"length {value(line)}"
+    return stated_number(line.size, size)
+
+
+def octets_back(line: Line, kind: m.Sized, behind: str) -> str:
+    """Returns the term for bytes of a stated size."""
+    term, size = value(line), line.size
+    assert size
+    if kind.error:
+        read = f"{measured_read(line)} o ({read_size(line)})"
+        return f"part-back ({read}) _ ({word(line)} ∷ []) _ (Ok {term}) _ {kind.name} ({behind})"
+    bytes_read, same = sized_bytes(line, f"({read_size(line)})"), "refl"
+    if size.units:
+        unit, _, less = size.units.split()
+        same = f"(units-again {unit} {less} (length {term}) {most(size)} fits.{kind.name}_bytes refl refl)"
+    return f"vec-back _ _ o {bytes_read} {term} _ {same} fits.{kind.name} ({behind})"
+
+
+def stated_back(line: Line, decoder: str, writes: str, back: str) -> str:
+    """Returns the term that a part is read back by the number that states its size, if there are units."""
+    size, kind = line.size, line.kind
+    if not (size and size.units and has_size(kind)):
+        return back
+    bytes_of = f"({measured_size(kind, 'High')} / 8)" if line.measured else f"(length {value(line)})"
+    facts = f"fits.{line.name}_bytes refl refl"
+    wrong = overrun(kind)
+    return f"stated-read {size.units} {bytes_of} {most(size)} {facts} {wrong} {decoder} o ({writes}) (Ok {value(line)}) ({back})"
 
 
 def measured_packs(kind: m.Measured, order: str) -> str:
@@ -259,7 +320,8 @@ def choice_back(f: Format, line: Line, kind: m.Choose) -> str:
     if not kind.sized:
         return back
     size = f" ({measured_size(kind, 'High')} / 8)" * bool(kind.unnamed)
-    return sized_back(f, line, kind, f"{s}_read o {chosen(f, kind)}{size}", f"({back})")
+    whole = sized_back(f, line, kind, f"{s}_read o {chosen(f, kind)}{size}", f"({back})")
+    return stated_back(line, f"(λ o n. {kind.name}_sized o {chosen(f, kind)} n)", word(line), whole)
 
 
 def sized_back(f: Format, line: Line, kind: m.Measured, read: str, back: str) -> str:
@@ -303,7 +365,14 @@ def lets(f: Format, line: Line) -> list[str]:
             if not f.mapped(kind):
                 writes, read = f"({word(line)})", f"({use.module}_decoder o)"
                 inner = f"(mapped-read (λ v. Ok v) {writes} {read} {value(line)} {inner})"
-            return [f"let {kind.name} = {sized_back(f, line, kind, inside(f, line, 'o'), inner)} in"]
+            whole = sized_back(f, line, kind, inside(f, line, "o"), inner)
+            return [f"let {kind.name} = {stated_back(line, f'{kind.name}_sized', word(line), whole)} in"]
+        case m.Sized() if kind.error:
+            decoder, writes, term = f"(vec_decoder o (length {value(line)}))", f"{word(line)} ∷ []", value(line)
+            octets = f"(bytes-read o {term} fits.{kind.name})"
+            inner = f"mapped-read (λ bytes. Ok bytes) ({writes}) {decoder} {term} {octets}"
+            return [f"let {kind.name} = {stated_back(line, 'sized_bytes', writes, inner)} in"]
         case m.Fill():
-            return [f"let {kind.name} = {filled_back(f, line, kind)} in"]
+            whole = filled_back(f, line, kind)
+            return [f"let {kind.name} = {stated_back(line, f'{kind.name}_sized', word(line), whole)} in"]
     return []

@@ -5,7 +5,7 @@ from collections import Counter
 from dataclasses import dataclass, field
 
 from describing import model as m
-from describing.layout import Format, Line
+from describing.layout import Format, Line, is_octets
 from describing.model import snake
 from describing.proofs.chains import Answers, Call
 from describing.specs.terms import asked_enum, by_enum, short
@@ -63,6 +63,8 @@ def read_call(f: Format, line: Line) -> tuple[str, str, str]:
             return f"signed read of w{kind.integer.base[1:]}", "reads", ""
         case m.Golomb():
             return ("signed read of w32", "", "") if kind.signed else ("read", "reads", "")
+        case m.Varint() | m.Size(varint=True):
+            return "read", "", ""
         case m.Const():
             return "const", "reads", ""
         case m.Enum() | m.Array(item=m.EnumType()):
@@ -72,6 +74,8 @@ def read_call(f: Format, line: Line) -> tuple[str, str, str]:
             return own_read(f, part_contract(use), becomes(use.description.error, use.module)), "", ""
         case m.Optional() | m.If():
             return own_read(f, OWN if line.error else PLAIN, f.becomes_name), "", ""
+        case m.Sized(item=m.Octet()) if not kind.error:
+            return "growing", "reads", ""
         case m.Sized() | m.Fill():
             return "growing part", "", ""
         case m.Choose():
@@ -97,6 +101,8 @@ def read_answers(f: Format, k: int) -> str:
         asks = isinstance(it.kind, m.If) and asked_enum(f, it.kind) is not None
         asks = asks or isinstance(it.kind, m.Choose) and by_enum(f, it.kind) is not None
         known = (f"c.{steps.next('number')}.ensures",) if asks else ()
+        if isinstance(it.kind, m.Sized) and it.units and not it.kind.error:
+            known = (f"c.{steps.next('size_in_units')}.ensures",)
         calls.append(Call(form, fact, labels.next(read_label(it)), "", wide=wide, known=known))
     answers = Answers(contract(f.error, f.grows), "", "", True)
     if k:
@@ -140,6 +146,8 @@ class Writes:
     def call(self, line: Line) -> Call:
         """Returns the call that writes a line."""
         form, name, fact, wide = self.form(line.kind)
+        if isinstance(line.kind, m.Size) and not (line.measures and is_octets(line.measures)):
+            name, fact = f"write_{'stored_' * bool(line.kind.units)}size", ""
         known = self.known(line)
         return Call(form, fact, self.labels.next(name), "", wide=wide, known=known)
 
@@ -159,16 +167,18 @@ class Writes:
             case m.Golomb():
                 form = f"signed list of w32 {self.fields}.{kind.name}" if kind.signed else "list"
                 return form, f"write_{short(kind)}", "", ""
+            case m.Varint() | m.Size(varint=True):
+                return "list", "write_varint", "", ""
             case m.Const():
                 return "call", "write_const", "writes", ""
             case m.Skip():
                 return "call", "pad", "writes", ""
             case m.Unary():
                 return "call", "write_unary", "writes", ""
+            case m.Sized(item=m.Octet()):
+                return "call", "write_bytes", "writes", ""
             case m.Part() | m.Choose() | m.Sized():
                 return "list", "write", "", ""
-            case m.Size():
-                return "value", "write_size", "", ""
             case m.Fill():
                 return "list", f"write_{kind.name}", "", ""
             case m.Optional() | m.If():
@@ -187,18 +197,31 @@ class Writes:
                 return (f"c.{self.steps.next('is_some')}.ensures",)
             case m.Enum() | m.Tag():
                 return (f"c.{self.steps.next('number')}.ensures",)
-            case m.Size(target=name) if isinstance(line.measures, m.Fill):
-                slice = f"c.{self.steps.next('deref')}.ensures.value"
-                counted = f"(rw {slice} at c.{self.steps.next(f'count_{name}')}.ensures)"
-                return (f"size-wrote _ _ _ _ _ _ _ _ {counted}",)
             case m.Size():
-                return (f"size-wrote _ _ _ _ _ _ _ _ c.{self.steps.next('bits')}.ensures.counts",)
+                return self.known_size(line, kind)
             case m.Count():
-                length = f"{self.fields}.{kind.target}.ok.0"
-                return (f"(c.{self.steps.next('len')}.ensures ∙ {length})",)
-            case m.List() | m.Fill():
+                return (self.known_length(kind.target),)
+            case m.List() | m.Fill() | m.Sized(item=m.Octet()):
                 return (f"c.{self.steps.next('deref')}.ensures.value",)
         return ()
+
+    def known_length(self, target: str) -> str:
+        """Returns the equation of the length of a `Vec`."""
+        return f"(c.{self.steps.next('len')}.ensures ∙ {self.fields}.{target}.ok.0)"
+
+    def known_size(self, line: Line, kind: m.Size) -> tuple[str, ...]:
+        """Returns the equations of the arguments of the call that writes the size of a later line."""
+        if line.measures and is_octets(line.measures):
+            length = self.known_length(kind.target)
+            return (f"c.{self.steps.next('stored_size')}.ensures", length) if kind.units else (length,)
+        if isinstance(line.measures, m.Fill):
+            slice = f"c.{self.steps.next('deref')}.ensures.value"
+            counted = f"(rw {slice} at c.{self.steps.next(f'count_{kind.target}')}.ensures)"
+        else:
+            counted = f"c.{self.steps.next('bits')}.ensures.counts"
+        if kind.units:
+            return (f"stored-wrote _ _ _ {kind.units} _ _ _ _ _ {counted}",)
+        return (f"size-wrote _ _ _ _ _ _ _ _ {counted}",)
 
 
 def write_answers(f: Format, k: int) -> str:

@@ -156,6 +156,7 @@ LEMMAS = {
     "Rattle.std.proofs.lemmas.Int": "to_z-of_z",
     CALLER + "ReadsLemmas": "Reads-and_then-ok Reads-pure exit",
     "Rattle.bitstream_format.proofs.WithinLemmas": "size-wrote",
+    "Rattle.bitstream_format.proofs.StatedLemmas": "stored-wrote",
     CALLER + "WriteParts": "all_append all_none all_one all_stop",
     CALLER + "WriteSteps": "next_call next_write next_signed next_signed_call stop_call stop_write stop_signed"
     " stop_signed_call signed_value",
@@ -203,8 +204,8 @@ class Answers:
             raise UnknownCall(call.line, f"`{call.step}` {where}")
         fact = f"c.{arm}.ensures" + (f".{call.fact}" if call.fact else "")
         for known in call.known:
-            if known.startswith("size-wrote"):
-                self.used.add("size-wrote")
+            if known.startswith(("size-wrote", "stored-wrote")):
+                self.used.add(known.split()[0])
                 fact = f"({known} {fact})"
                 continue
             fact = f"(rw {known} at {fact})"

@@ -76,6 +76,8 @@ def line_answers(f: Format, line: Line) -> Answers:
         found |= to_answers(f, kind.type) if kind.sized else {}
     if line.measured:
         found |= sizes.answers(f, line, line.measured)
+    elif isinstance(kind, m.Sized) and kind.error:
+        found |= sizes.stated_answers(f, line, kind)
     if isinstance(kind, m.List) and not isinstance(kind.item, m.Octet):
         found |= lists.answers(f, line, kind)
     return found

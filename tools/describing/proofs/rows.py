@@ -26,6 +26,8 @@ def term(line: Line, value: Value, within: str = "") -> str:
             return list_term(line, kind.item, value, within)
         case m.Fill():
             return list_term(line, kind.use, value, within)
+        case m.Sized(item=m.Octet() as octet):
+            return list_term(line, octet, value, within)
         case m.Enum():
             return case_term(line, value, within)
         case m.Part() | m.Sized():

@@ -2,7 +2,7 @@
 from __future__ import annotations
 
 from describing import model as m
-from describing.layout import Format, Line
+from describing.layout import Format, Line, is_octets
 from describing.proofs.loops import write_answers, write_invariants
 from describing.specs.sizes import overrun
 from describing.specs.terms import inside
@@ -14,9 +14,29 @@ def answers(f: Format, line: Line, kind: m.Measured) -> Answers:
     """Returns the answers of the functions of a part of a stated size, except those that a search finds."""
     inner = in_answers(f, line, kind) if not isinstance(kind, m.Fill) else items_answers(f, line, kind)
     found = {f"{kind.name}_in": inner, f"read_{kind.name}": read_answers(f, line, kind)}
+    found |= stated_answers(f, line, kind) if line.units else {}
     if not isinstance(kind, m.Fill):
         return found
     return found | {f"count_{kind.name}": count_answers(f, kind)} | write_answers(f, kind)
+
+
+def stated_answers(f: Format, line: Line, kind: m.Measured) -> Answers:
+    """Returns the answers of the function that reads a part, or bytes, by the number that states the size."""
+    decoder = f"(λ o n. {kind.name}_sized o c.args.number n)" if isinstance(kind, m.Choose) else f"{kind.name}_sized"
+    shape = f"{line.units} {overrun(kind)} {'sized_bytes' if is_octets(kind) else decoder} _ _"
+    is_known = "(sym c.in-{}.is ∙ c.stated_size.ensures)"
+    some = f"stated-some {shape} {is_known.format('Some')}"
+    out = [f"use {f.goals}.read_stated_{kind.name}.Goals as goal"]
+    put(out, "returns-in-None", "g c", f"stated-none {shape} {is_known.format('None')}")
+    if is_octets(kind):
+        arm, read = "{}-read_to_vec-in-Some", "(vec-grown _ _ c.{}.ensures.reads)"
+        ok, err = arm.format("in_ok"), arm.format("in_err")
+        seen = "own_map_err _ c.from_residual.result c.from_residual.ensures.1"
+        put(out, f"returns-{err}", "g c", f"rw ({seen}) ({some} (stop_grown _ {read.format(err)} refl))")
+        put(out, f"returns-{ok}", "g c", f"{some} (go_grown _ {read.format(ok)} (grown_end _ _))")
+    else:
+        put(out, "returns-in-Some", "g c", f"{some} c.read_{kind.name}.ensures")
+    return {f"read_stated_{kind.name}": out}
 
 
 def invariants(f: Format, line: Line, kind: m.Fill) -> Answers:

@@ -28,8 +28,13 @@ def unfolds(line: Line) -> list[str]:
             return ["skip_decoder"]
         case m.Enum() | m.Count() | m.Tag():
             return [*NUMBER]
+        case m.Varint() | m.Size(varint=True):
+            return [*NUMBER]
         case m.Size():
-            return [*NUMBER, "size_encoder"]
+            sizes = ["size_in_units", "stated_size", "stored_size", "stored_encoder"]
+            return [*NUMBER, *(sizes if kind.units else ["size_encoder"])]
+        case m.Sized(item=m.Octet()):
+            return ["bytes_decoder", "bytes_of"]
         case m.Unary():
             return ["unary_decoder"]
         case m.Groups():

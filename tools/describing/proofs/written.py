@@ -4,7 +4,7 @@ from __future__ import annotations
 from typing import assert_never
 
 from describing import model as m
-from describing.layout import Line
+from describing.layout import Line, is_octets
 from describing.proofs.back import (
     choice_small,
     each_is,
@@ -23,6 +23,7 @@ from describing.specs.terms import (
     measured_size,
     measured_writes,
     non_zero,
+    number_stored,
     or_zero,
     shape,
     short,
@@ -62,6 +63,8 @@ def written(line: Line) -> str:
             return f"vbr-written o {kind.group} {groups_number(kind)}"
         case m.Golomb():
             return f"{short(kind)}-packs o {term} fits.{kind.name}"
+        case m.Varint():
+            return f"varint-packs o {term} fits.{kind.name}"
         case m.Count():
             return f"unsigned-written o 64 {kind.width} (length value.{kind.target}) refl fits.{line.name}"
         case m.Tag():
@@ -69,9 +72,9 @@ def written(line: Line) -> str:
             number, width = tag_number(line), tag_bits(kind.width)
             return f"unsigned-written o {width} {kind.width} ({number}) refl {choice_small(line.choice)}"
         case m.Size():
-            assert line.measures
-            shown = f"({measured_writes(line.measures, 'High')}) ({measured_size(line.measures, 'High')})"
-            return f"size-written o {kind.width} {shown} {size_facts(line)}"
+            return size_written(line, kind)
+        case m.Sized(item=m.Octet()):
+            return f"bytes-written o (length {term}) {term} refl"
         case m.Choose() | m.Sized() | m.Fill():
             return measured_packs(kind, "o")
         case m.List():
@@ -83,6 +86,18 @@ def written(line: Line) -> str:
             packs = f"(λ it is. {module}_packs o it (fits.{kind.name} it is))"
             return f"packs-optional ({module}_writes o) ({module}_size o) {term} {packs}"
     assert_never(kind)
+
+
+def size_written(line: Line, kind: m.Size) -> str:
+    """Returns the term for the size of a later line."""
+    assert line.measures
+    if kind.varint:
+        return f"varint-packs o ({number_stored(line, kind)}) fits.{line.name}"
+    if is_octets(line.measures):
+        return f"unsigned-written o 64 {kind.width} ({number_stored(line, kind)}) refl fits.{line.name}"
+    lemma = f"stored-written o {kind.width} {kind.units}" if kind.units else f"size-written o {kind.width}"
+    shown = f"({measured_writes(line.measures, 'High')}) ({measured_size(line.measures, 'High')})"
+    return f"{lemma} {shown} {size_facts(line)}"
 
 
 def array_written(line: Line, kind: m.Array) -> str:

@@ -5,7 +5,7 @@ import re
 from typing import assert_never
 
 from describing import model as m
-from describing.layout import Format, Line, enum_bits
+from describing.layout import Format, Line, enum_bits, is_octets
 from describing.model import snake
 from describing.specs.terms import asked_enum, by_enum, short, tag_bits, tag_of, width
 from describing.text import article
@@ -37,6 +37,8 @@ def limits(line: Line) -> str:
             return f"At most 2^{kind.integer.width}."
         case m.MaybeNonZero():
             return f"Below 2^{kind.integer.width}; 0 means `None`."
+        case m.Varint():
+            return "Below 2^62."
         case m.Golomb():
             return "From -2^31 + 1 on." if kind.signed else "Below 2^32 - 1."
     return ""
@@ -68,8 +70,6 @@ def imports(line: Line) -> list[str]:
         found.append(f"crate::{use.module}::{f'{{{use.name}, {error}}}' if error else use.name}")
     if isinstance(kind, m.List | m.Fill) and line.error:
         found.append("std::alloc::AllocFailed")
-    if line.measured:
-        found.append("bitstream_format::within::{is_end, write_size}")
     return found
 
 
@@ -100,6 +100,8 @@ def refusal(line: Line) -> str:
 def error_cases(line: Line) -> dict[str, list[str]]:
     """Returns the cases of the error for a line, each with its text."""
     kind = line.kind
+    if isinstance(kind, m.Sized) and not line.measured:
+        return {kind.error: small_case(line, kind)} if kind.error else {}
     if isinstance(kind, m.Sized | m.Fill):
         inner = {it: error_case(line) for it, held in m.refusals(kind) if held}
         return overrun_case(kind.name, kind.error) | inner
@@ -117,6 +119,13 @@ def overrun_case(name: str, error: str) -> dict[str, list[str]]:
     """Returns the case of the error for a part that does not fill its size."""
     why = f"`{name}` does not fill the bytes that its size states."
     return {error: [f"    /// {why}", f'    #[error("{shown(why)}")]', f"    {error},"]}
+
+
+def small_case(line: Line, kind: m.Sized) -> list[str]:
+    """Returns the case of the error for a size that is too small."""
+    least = line.size.plus if line.size else 0
+    why = f"The size of `{kind.name}` is below the {least} bytes that it counts too."
+    return [f"    /// {why}", f'    #[error("{shown(why)}")]', f"    {kind.error},"]
 
 
 def error_case(line: Line) -> list[str]:
@@ -140,11 +149,12 @@ def reads(f: Format, line: Line) -> str:
         return f"{call}?;"
     if isinstance(kind, m.Skip):
         return f"reader.skip({kind.width})?;"
-    return f"let {line.name} = {read(f, kind)}?;"
+    return f"let {line.name} = {read(f, line)}?;"
 
 
-def read(f: Format, kind: m.Printed) -> str:
+def read(f: Format, line: Line) -> str:
     """Returns the call that reads the value of a line."""
+    kind = line.kind
     match kind:
         case m.Bool() | m.Flag():
             return "reader.read_bit()"
@@ -161,6 +171,8 @@ def read(f: Format, kind: m.Printed) -> str:
             return f"reader.{any_call if kind.any else 'read_vbr'}::<Bits<{kind.group}>, {kind.integer.base}>()"
         case m.Golomb():
             return f"read_{short(kind)}(reader)"
+        case m.Varint() | m.Size(varint=True):
+            return "read_varint(reader)"
         case m.Count():
             return f"reader.read::<Bits<{kind.width}>, u64>()"
         case m.Tag():
@@ -168,10 +180,13 @@ def read(f: Format, kind: m.Printed) -> str:
         case m.Size():
             return f"reader.read::<Bits<{kind.width}>, u64>()"
         case m.Sized() | m.Fill():
-            return f"read_{kind.name}(reader, alloc, {kind.name}_bytes)"
+            if is_octets(kind) and not kind.error:
+                return f"reader.read_to_vec(alloc, {octets_count(line)} as usize)"
+            return f"read_{'stated_' * bool(line.units)}{kind.name}(reader, alloc, {kind.name}_bytes)"
         case m.Choose():
             if kind.sized:
-                return f"read_{kind.name}(reader, alloc, {selecting(f, kind)}, {kind.name}_bytes)"
+                selects = selecting(f, kind)
+                return f"read_{'stated_' * bool(line.units)}{kind.name}(reader, alloc, {selects}, {kind.name}_bytes)"
             return f"{kind.type}::read(reader{', alloc' * m.allocates(kind)}, {selecting(f, kind)})"
         case m.Part():
             return f"{kind.use.name}::read(reader{', alloc' * m.allocating(kind.use)})"
@@ -184,6 +199,14 @@ def read(f: Format, kind: m.Printed) -> str:
         case m.Const() | m.Skip():
             raise AssertionError(kind)
     assert_never(kind)
+
+
+def octets_count(line: Line) -> str:
+    """Returns the number of bytes that a number states, if each number states one."""
+    if not line.units:
+        return f"{line.name}_bytes"
+    unit, _, less = line.units.split()
+    return f"size_in_units({line.name}_bytes, {unit}, {less})"
 
 
 def selecting(f: Format, kind: m.Choose) -> str:
@@ -239,7 +262,7 @@ def write(line: Line) -> str:
             return f"writer.write::<Bits<{kind.enum.width}>, u{enum_bits(kind.enum)}>(self.{kind.name}.number())"
         case m.Array(item=m.Integer() as item):
             return f"writer.write::<Bits<{item.width}>, {m.rust_type(kind)}>(self.{kind.name})"
-        case m.Array() | m.List():
+        case m.Array() | m.List() | m.Sized(item=m.Octet()):
             if isinstance(kind.item, m.Octet):
                 return f"writer.write_bytes(&self.{kind.name})"
             return f"write_{kind.name}(writer, &self.{kind.name})"
@@ -249,6 +272,8 @@ def write(line: Line) -> str:
             return f"writer.write_vbr::<Bits<{kind.group}>, {kind.integer.base}>(self.{kind.name})"
         case m.Golomb():
             return f"write_{short(kind)}(writer, self.{kind.name})"
+        case m.Varint():
+            return f"write_varint(writer, self.{kind.name})"
         case m.Const():
             return f"writer.write_const::<Bits<{kind.width}>, Bits<{kind.value}>>()"
         case m.Skip():
@@ -260,10 +285,7 @@ def write(line: Line) -> str:
         case m.Tag():
             return f"writer.write::<Bits<{kind.width}>, {value_type(kind)}>(self.{target}.number())"
         case m.Size():
-            bits = f"self.{kind.target}.bits::<u64>()"
-            if isinstance(line.measures, m.Fill):
-                bits = f"count_{kind.target}(&self.{kind.target})"
-            return f"write_size(writer, {kind.width}, {bits})"
+            return write_size(line, kind)
         case m.Fill():
             return f"write_{kind.name}(writer, &self.{kind.name})"
         case m.Choose() | m.Part() | m.Sized():
@@ -271,6 +293,20 @@ def write(line: Line) -> str:
         case m.Optional() | m.If():
             return f"write_{snake(kind.use.name)}_if(writer, self.{kind.name})"
     assert_never(kind)
+
+
+def write_size(line: Line, kind: m.Size) -> str:
+    """Returns the call that writes the size of a later line."""
+    units = "".join(f", {it}" for it in kind.units.split())
+    if line.measures and is_octets(line.measures):
+        length = f"self.{kind.target}.len() as u64"
+        if kind.varint:
+            return f"write_varint(writer, {length})"
+        return f"writer.write::<Bits<{kind.width}>, u64>({f'stored_size({length}{units})' if units else length})"
+    bits = f"self.{kind.target}.bits::<u64>()"
+    if isinstance(line.measures, m.Fill):
+        bits = f"count_{kind.target}(&self.{kind.target})"
+    return f"write_{'stored_' * bool(units)}size(writer, {kind.width}, {bits}{units})"
 
 
 def write_item(item: m.Item) -> str:

@@ -17,12 +17,18 @@ from describing.rust.enums import enum_code
 from describing.rust.lists import list_code, refused_memory, write_code as write_items
 from describing.rust.parts import error_code as part_error, optional_code
 from describing.rust.reads import parse_code, read_code
-from describing.rust.sizes import count_code, sized_code
+from describing.rust.sizes import count_code, sized_code, stated_code
 from describing.rust.traits import from_code, law_code, to_code, to_impl
 from describing.rust.writes import pack_code, write_code
 from describing.specs.terms import seen, value
 from describing.text import article
 
+# What a format calls of the crate `bitstream_format`, by its module there.
+CALLED = {
+    "stated": "size_in_units stated_size stored_size write_stored_size",
+    "varint": "read_varint write_varint",
+    "within": "is_end write_size",
+}
 LIBRARY = """BE LE BitRead BitReadExt BitReader BitWrite BitWriteExt BitWriter Bits Error FromBitStream
     FromBitStreamUsing BitsWritten SliceMut SliceReader ToBitStream pack_into"""
 
@@ -47,6 +53,8 @@ def declares(f: Format, line: Line) -> list[str]:
     if line.measured:
         number = number_type(f, line.measured) if isinstance(line.measured, m.Choose) else ""
         out += sized_code(f, line, line.measured, number)
+    elif isinstance(kind, m.Sized) and kind.error:
+        out += stated_code(f, line, kind, "")
     if line.use and isinstance(kind, m.Optional | m.If):
         out += optional_code(f, line, line.use)
     if isinstance(kind, m.Array) and line.enum:
@@ -76,6 +84,10 @@ def imported(f: Format, text: str) -> list[str]:
     code = "\n".join(it for it in text.split("\n") if not it.strip().startswith("///"))
     words = set(re.findall(r"\w+", code + traits))
     found = {path for it in f.lines for path in imports(it)}
+    for module, names in CALLED.items():
+        named = [it for it in names.split() if re.search(rf"\b{it}\(", code)]
+        if named:
+            found.add(f"bitstream_format::{module}::" + (f"{{{', '.join(named)}}}" if named[1:] else named[0]))
     paths = sorted(found | {"std::alloc::Global", "std::marker::Model"} if f.grows else found)
     library = f"use bitstream_io::{{{', '.join(it for it in LIBRARY.split() if it in words)}}};"
     mine = [f"use {it};" for it in paths if it.startswith(("crate", "bitstream_"))]

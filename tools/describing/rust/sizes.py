@@ -2,15 +2,16 @@
 from __future__ import annotations
 
 from describing import model as m
-from describing.layout import Format, Line
+from describing.layout import Format, Line, is_octets
 from describing.specs.sizes import error_cases, overrun
-from describing.specs.terms import inside
+from describing.specs.terms import inside, seen
 
 
 def sized_code(f: Format, line: Line, kind: m.Measured, number: str) -> list[str]:
     """Returns the functions of a part of a stated size; `number` is the type of the number that selects a case."""
     inside_code = items_code(f, line, kind) if isinstance(kind, m.Fill) else in_code(f, line, kind, number)
-    return [*ended_code(f, kind), *inside_code, *read_code(f, line, kind, number)]
+    stated = stated_code(f, line, kind, number) if line.units else []
+    return [*ended_code(f, kind), *inside_code, *read_code(f, line, kind, number), *stated]
 
 
 def ended_code(f: Format, kind: m.Measured) -> list[str]:
@@ -144,21 +145,58 @@ def count_code(kind: m.Fill) -> list[str]:
 
 def read_code(f: Format, line: Line, kind: m.Measured, number: str) -> list[str]:
     """Returns the function that reads the bytes of the size, and then the part."""
-    chosen = " number" * isinstance(kind, m.Choose)
-    selects = f", number: {number}" * isinstance(kind, m.Choose)
+    chosen, selects = " number" * isinstance(kind, m.Choose), selecting(kind, number)
     passed = ", alloc" * inner_allocates(kind) + ", number" * isinstance(kind, m.Choose)
     passed += ", size" * (unnamed(kind) or isinstance(kind, m.Fill))
-    found = "(result_map (λ found. found.items) result)" if isinstance(kind, m.Fill) else "result"
     return [
         f"/// Reads `{kind.name}`, which has `size` bytes. No bit after them is read.",
         f"fn read_{kind.name}<R: BitRead>(reader: &mut R, alloc: Global{selects}, size: u64)"
         f" -> Result<{m.rust_type(kind)}, {f.error}>",
         f"    requires {{ R.source.order ≡ {f.o} }}",
         f"    ensures {{ GrowsOwn R.source {f.becomes_name} ({kind.name}_sized R.source.order{chosen} size)",
-        f"        reader.old {found} reader.new }}",
+        f"        reader.old {answer(kind)} reader.new }}",
         "{",
         "    let bytes = reader.read_to_vec(alloc, size as usize)?;",
         f"    {kind.name}_in(&bytes{passed})",
+        "}",
+        "",
+    ]
+
+
+def selecting(kind: m.Measured, number: str) -> str:
+    """Returns the parameter for the number that selects a case of a choice."""
+    return f", number: {number}" * isinstance(kind, m.Choose)
+
+
+def answer(kind: m.Measured) -> str:
+    """Returns the result as contracts see it."""
+    return f"(result_map (λ found. found{seen(kind)}) result)" if seen(kind) else "result"
+
+
+def arguments(line: Line) -> str:
+    """Returns the unit of a size, and what this adds, as arguments of a call."""
+    return ", ".join(line.units.split())
+
+
+def stated_code(f: Format, line: Line, kind: m.Measured, number: str) -> list[str]:
+    """Returns the function that reads a part, or bytes, by the number that states the size in units."""
+    chosen = " number" * isinstance(kind, m.Choose)
+    read = f"read_{kind.name}(reader, alloc{', number' * bool(chosen)}, size)"
+    if is_octets(kind):
+        read = "Ok(reader.read_to_vec(alloc, size as usize)?)"
+    ordered = [] if is_octets(kind) else [f"    requires {{ R.source.order ≡ {f.o} }}"]
+    return [
+        f"/// Reads `{kind.name}`, whose size a number states.",
+        f"fn read_stated_{kind.name}<R: BitRead>(reader: &mut R, alloc: Global{selecting(kind, number)}, stored: u64)"
+        f" -> Result<{m.rust_type(kind)}, {f.error}>",
+        *ordered,
+        f"    ensures {{ GrowsOwn R.source {f.becomes_name} ({kind.name}_stated R.source.order{chosen} stored)",
+        f"        reader.old {answer(kind)} reader.new }}",
+        "{",
+        f"    match stated_size(stored, {arguments(line)}) {{",
+        f"        Some(size) => {read},",
+        f"        None => Err({f.error}::{overrun(kind)}),",
+        "    }",
         "}",
         "",
     ]

@@ -18,6 +18,8 @@ def definitions(f: Format, line: Line) -> list[str]:
     parts = [it for it in line.parts if it.use and f.mapped(it.kind) and f.is_first(it)]
     found = [said for it in parts if it.use for said in mapped_specs(f, it, it.use)]
     found += choices.definitions(f, line, line.kind) if isinstance(line.kind, m.Choose) else []
+    if isinstance(line.kind, m.Sized) and line.error and not line.measured:
+        found += sizes.stated_specs(f, line, line.kind)
     return found + (sizes.definitions(f, line, line.measured) if line.measured else [])
 
 

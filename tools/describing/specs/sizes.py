@@ -2,13 +2,34 @@
 from __future__ import annotations
 
 from describing import model as m
-from describing.layout import Format, Line
+from describing.layout import Format, Line, is_octets
 from describing.specs.terms import inside, measured_name
 
 
 def definitions(f: Format, line: Line, kind: m.Measured) -> list[str]:
     """Returns the definitions of a part of a stated size."""
-    return [*ended_specs(f, kind), *sized_specs(f, line, kind)]
+    return [*ended_specs(f, kind), *sized_specs(f, line, kind), *stated_specs(f, line, kind)]
+
+
+def stated_specs(f: Format, line: Line, kind: m.Measured) -> list[str]:
+    """Returns the definition of the reads of a part, or of bytes, by the number that states its size in units."""
+    if not line.units:
+        return []
+    chosen, name = isinstance(kind, m.Choose), f"{kind.name}_stated"
+    sized = "sized_bytes" if is_octets(kind) else f"{kind.name}_sized"
+    decoder = f"(λ o n. {sized} o number n)" if chosen else sized
+    result = f"Decoder (Result {sized_type(kind)} {f.error})"
+    return [
+        f"-- the reads of `{kind.name}` by the number that states its size",
+        f"abbrev pub {name} : Order → {'ℕ → ' * chosen}ℕ → {result}",
+        f"{name} o{' number' * chosen} stored = stated_decoder {line.units} {overrun(kind)} {decoder} o stored",
+        "",
+    ]
+
+
+def sized_type(kind: m.Measured) -> str:
+    """Returns the type of the value."""
+    return "(List ℕ)" if is_octets(kind) else measured_name(kind)
 
 
 def overrun(kind: m.Measured) -> str:

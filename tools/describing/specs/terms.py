@@ -8,7 +8,7 @@ import re
 from typing import assert_never
 
 from describing import model as m
-from describing.layout import Format, Line, enum_bits
+from describing.layout import Format, Line, enum_bits, is_octets
 from describing.model import snake
 
 
@@ -40,11 +40,13 @@ def spec_type(kind: m.Printed) -> str:
             return f"Option {kind.use.name}"
         case m.Choose():
             return kind.type
+        case m.Sized(item=m.Octet()):
+            return "List ℕ"
         case m.Sized():
             return item_type(kind.item)
         case m.Fill():
             return f"List {kind.use.name}"
-        case m.Unary() | m.Count() | m.Tag() | m.Size() | m.Const() | m.Skip():
+        case m.Unary() | m.Varint() | m.Count() | m.Tag() | m.Size() | m.Const() | m.Skip():
             return "ℕ"
     assert_never(kind)
 
@@ -68,7 +70,7 @@ def item_type(item: m.Item) -> str:
 
 def seen(kind: m.Printed) -> str:
     """Returns the suffix after a value of code for what contracts see of it."""
-    return ".items" if isinstance(kind, m.List | m.Fill) else ""
+    return ".items" if isinstance(kind, m.List | m.Fill) or is_octets(kind) else ""
 
 
 def placed(text: str, order: str) -> str:
@@ -174,6 +176,27 @@ def measured_size(kind: m.Measured, order: str) -> str:
     return f"{measured_module(kind)}_size {order} value.{kind.name}"
 
 
+def stated_number(kind: m.Size, size: str) -> str:
+    """Returns the number that a line stores for a number of bytes."""
+    return f"stored_size {kind.units} ({size})" if kind.units else size
+
+
+def number_stored(line: Line, kind: m.Size) -> str:
+    """Returns the number that a line stores for the value of another line."""
+    assert line.measures
+    if is_octets(line.measures):
+        return stated_number(kind, f"length value.{kind.target}")
+    return stated_number(kind, f"{measured_size(line.measures, 'High')} / 8")
+
+
+def sized_bytes(line: Line, number: str) -> str:
+    """Returns the number of bytes that a number states, for a line that each number states a size of."""
+    if not (line.size and line.units):
+        return number
+    unit, _, less = line.units.split()
+    return f"(size_in_units {unit} {less} {number})"
+
+
 def inside(f: Format, line: Line, order: str) -> str:
     """Returns the read of a part over the bytes of its size; `number` selects the case of a choice."""
     if isinstance(line.kind, m.Choose):
@@ -254,6 +277,8 @@ def entry(f: Format, line: Line) -> str:
             return f"{groups_call(kind)}_decoder o {kind.group} {kind.integer.width}{limit}"
         case m.Golomb():
             return f"{short(kind)}_decoder o"
+        case m.Varint() | m.Size(varint=True):
+            return "varint_decoder o"
         case m.Count():
             return f"unsigned_decoder o 64 {kind.width}"
         case m.Tag():
@@ -261,9 +286,11 @@ def entry(f: Format, line: Line) -> str:
         case m.Size():
             return f"unsigned_decoder o 64 {kind.width}"
         case m.Sized() | m.Fill():
-            return f"{kind.name}_sized o {kind.name}_bytes"
+            if is_octets(kind) and not kind.error:
+                return f"vec_decoder o {sized_bytes(line, f'{kind.name}_bytes')}"
+            return f"{measured_read(line)} o {kind.name}_bytes"
         case m.Choose():
-            read = f"{kind.name}_sized" if kind.sized else f"{snake(kind.type)}_read"
+            read = measured_read(line) if kind.sized else f"{snake(kind.type)}_read"
             return f"{read} o {selected(f, kind)}" + f" {kind.name}_bytes" * kind.sized
         case m.Part():
             return here(f, line)
@@ -276,6 +303,11 @@ def entry(f: Format, line: Line) -> str:
         case m.Skip():
             return f"skip_decoder {kind.width}"
     assert_never(kind)
+
+
+def measured_read(line: Line) -> str:
+    """Returns the name of the read of a part whose size an earlier line has."""
+    return f"{line.name}_{'stated' if line.units else 'sized'}"
 
 
 def array_decoder(kind: m.Array) -> str:
@@ -402,6 +434,8 @@ def word(line: Line) -> str:
             return f"{'signed_' * kind.integer.signed}vbr o {kind.group} {term}"
         case m.Golomb():
             return f"{short(kind)}_writes o {term}"
+        case m.Varint():
+            return f"varint_writes o {term}"
         case m.Const():
             return f"plain (word o {kind.width} {kind.value})"
         case m.Skip():
@@ -414,7 +448,14 @@ def word(line: Line) -> str:
             return f"unsigned {tag_shape(kind)} ({tag_number(line)})"
         case m.Size():
             assert line.measures
-            return f"size_encoder o {kind.width} ({measured_writes(line.measures, 'High')})"
+            if kind.varint:
+                return f"varint_writes o ({number_stored(line, kind)})"
+            if is_octets(line.measures):
+                return f"unsigned o 64 {kind.width} ({number_stored(line, kind)})"
+            encoder = f"stored_encoder o {kind.width} {kind.units}" if kind.units else f"size_encoder o {kind.width}"
+            return f"{encoder} ({measured_writes(line.measures, 'High')})"
+        case m.Sized(item=m.Octet()):
+            return f"buffer o {term}"
         case m.Choose() | m.Sized() | m.Fill():
             return measured_writes(kind, "o")
         case m.Array() | m.List():
@@ -454,8 +495,14 @@ def size(line: Line) -> str:
             return f"length (vbr_word o {kind.group} {groups_number(kind)})"
         case m.Golomb():
             return f"{short(kind)}_size {term}"
+        case m.Varint():
+            return f"varint_size {term}"
+        case m.Size():
+            return f"varint_size ({number_stored(line, kind)})"
         case m.Part():
             return f"{kind.use.module}_size o {term}"
+        case m.Sized(item=m.Octet()):
+            return f"8 * length {term}"
         case m.Choose() | m.Sized() | m.Fill():
             return measured_size(kind, "o")
         case m.Optional() | m.If():
@@ -488,8 +535,9 @@ def fits(f: Format, line: Line) -> list[tuple[str, str]]:
         case m.Bool() | m.Const() | m.Skip() | m.Flag() | m.Tag():
             return []
         case m.Size():
-            assert line.measures
-            return [(line.name, f"{measured_size(line.measures, 'High')} / 8 < 2 ^ {kind.width}")]
+            return [(line.name, f"{number_stored(line, kind)} < 2 ^ {kind.width}")]
+        case m.Sized(item=m.Octet() as item):
+            return items_fit(kind.name, item, term)
         case m.Sized():
             return [(kind.name, f"{measured_name(kind)}Fits {term}"), whole_fits(kind)]
         case m.Fill():
@@ -508,6 +556,8 @@ def fits(f: Format, line: Line) -> list[tuple[str, str]]:
             return [(kind.name, f"{term} < 2 ^ 32")]
         case m.Groups():
             return [(kind.name, number_fits(kind.integer, term))]
+        case m.Varint():
+            return [(kind.name, f"{term} < 2 ^ 62")]
         case m.Golomb():
             return [(kind.name, f"unsigned_abs {term} < 2 ^ 31" if kind.signed else f"{term} < 2 ^ 32 - 1")]
         case m.Count():
