@@ -190,9 +190,10 @@ impl Ipv4Datagram {
     ///
     /// # Errors
     ///
-    /// `OtherVersion`, `ReservedSet`, `ShortHeader`, after the bits that are refused.
-    /// `Reader(OutOfMemory)` if memory for a list is refused, after the items before.
-    /// Else the errors of the reader: after each of them it has failed.
+    /// `OtherVersion`, `ReservedSet`, `ShortHeader`.
+    /// The refused bits are read then.
+    /// `Reader(OutOfMemory)` if the allocation for a list fails, after the items before.
+    /// Otherwise the reader's errors, after which it has failed.
     pub fn read<R: BitRead>(
         reader: &mut R,
         alloc: Global,
@@ -237,7 +238,7 @@ impl Ipv4Datagram {
     /// # Errors
     ///
     /// `OtherVersion`, `ReservedSet`, `ShortHeader`, `Reader(EndOfInput)` if the bytes end before the fields do.
-    /// `Reader(OutOfMemory)` if memory for an item of a list is refused.
+    /// `Reader(OutOfMemory)` if the allocation for an item of a list fails.
     pub fn parse(packet: &[u8], alloc: Global) -> Result<Ipv4Datagram, Ipv4DatagramError>
         ensures answer { (OwnAnswer becomes_ipv4_datagram (λ answer. answer)
             (sure_answer ((ipv4_datagram_decoder High).reads 0 (bits High packet.now))) result)
@@ -257,7 +258,7 @@ impl Ipv4Datagram {
     /// # Errors
     ///
     /// `Checked` for a field that does not fit its bits. The fields before it are written then.
-    /// Else the errors of the sink.
+    /// Otherwise the sink's errors.
     pub fn write<W: BitWrite>(&self, writer: &mut W) -> Result<(), Error>
         ensures { WritesAll W.sink (ipv4_datagram_writes W.sink.order self.now) writer.old result writer.new }
     {
@@ -281,7 +282,7 @@ impl Ipv4Datagram {
     }
 
     /// Writes the fields to the first bytes of a buffer, and returns what was written. The other bytes
-    /// stay as they were. No memory is asked for.
+    /// stay as they were. Does not allocate.
     ///
     /// # Errors
     ///

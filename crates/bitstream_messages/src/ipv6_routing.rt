@@ -60,8 +60,8 @@ impl Ipv6Routing {
     ///
     /// # Errors
     ///
-    /// `OutOfMemory` if memory for a list is refused, after the items before.
-    /// Else the errors of the reader: after each of them it has failed.
+    /// `OutOfMemory` if the allocation for a list fails, after the items before.
+    /// Otherwise the reader's errors, after which it has failed.
     pub fn read<R: BitRead>(reader: &mut R, alloc: Global) -> Result<Ipv6Routing, Error>
         ensures { GrowsOwn R.source same_error (ipv6_routing_decoder R.source.order) reader.old result reader.new }
     {
@@ -83,7 +83,7 @@ impl Ipv6Routing {
     /// # Errors
     ///
     /// `EndOfInput` if the bytes end before the fields do.
-    /// `OutOfMemory` if memory for an item of a list is refused.
+    /// `OutOfMemory` if the allocation for an item of a list fails.
     pub fn parse(packet: &[u8], alloc: Global) -> Result<Ipv6Routing, Error>
         ensures answer { (OwnAnswer same_error (λ answer. answer)
             (sure_answer ((ipv6_routing_decoder High).reads 0 (bits High packet.now))) result)
@@ -103,7 +103,7 @@ impl Ipv6Routing {
     /// # Errors
     ///
     /// `Checked` for a field that does not fit its bits. The fields before it are written then.
-    /// Else the errors of the sink.
+    /// Otherwise the sink's errors.
     pub fn write<W: BitWrite>(&self, writer: &mut W) -> Result<(), Error>
         ensures { WritesAll W.sink (ipv6_routing_writes W.sink.order self.now) writer.old result writer.new }
     {
@@ -116,7 +116,7 @@ impl Ipv6Routing {
     }
 
     /// Writes the fields to the first bytes of a buffer, and returns what was written. The other bytes
-    /// stay as they were. No memory is asked for.
+    /// stay as they were. Does not allocate.
     ///
     /// # Errors
     ///

@@ -84,9 +84,10 @@ impl QuicStream {
     ///
     /// # Errors
     ///
-    /// `OtherFrame`, after the bits that are refused.
-    /// `Reader(OutOfMemory)` if memory for a list is refused, after the items before.
-    /// Else the errors of the reader: after each of them it has failed.
+    /// `OtherFrame`.
+    /// The refused bits are read then.
+    /// `Reader(OutOfMemory)` if the allocation for a list fails, after the items before.
+    /// Otherwise the reader's errors, after which it has failed.
     pub fn read<R: BitRead>(reader: &mut R, alloc: Global) -> Result<QuicStream, QuicStreamError>
         ensures { GrowsOwn R.source becomes_quic_stream (quic_stream_decoder R.source.order) reader.old result reader.new }
     {
@@ -109,7 +110,7 @@ impl QuicStream {
     /// # Errors
     ///
     /// `OtherFrame`, `Reader(EndOfInput)` if the bytes end before the fields do.
-    /// `Reader(OutOfMemory)` if memory for an item of a list is refused.
+    /// `Reader(OutOfMemory)` if the allocation for an item of a list fails.
     pub fn parse(packet: &[u8], alloc: Global) -> Result<QuicStream, QuicStreamError>
         ensures answer { (OwnAnswer becomes_quic_stream (λ answer. answer)
             (sure_answer ((quic_stream_decoder High).reads 0 (bits High packet.now))) result)
@@ -129,7 +130,7 @@ impl QuicStream {
     /// # Errors
     ///
     /// `Checked` for a field that does not fit its bits. The fields before it are written then.
-    /// Else the errors of the sink.
+    /// Otherwise the sink's errors.
     pub fn write<W: BitWrite>(&self, writer: &mut W) -> Result<(), Error>
         ensures { WritesAll W.sink (quic_stream_writes W.sink.order self.now) writer.old result writer.new }
     {
@@ -143,7 +144,7 @@ impl QuicStream {
     }
 
     /// Writes the fields to the first bytes of a buffer, and returns what was written. The other bytes
-    /// stay as they were. No memory is asked for.
+    /// stay as they were. Does not allocate.
     ///
     /// # Errors
     ///

@@ -40,7 +40,7 @@ impl Block {
     ///
     /// # Errors
     ///
-    /// The errors of the reader: after each of them it has failed.
+    /// The reader's errors, after which it has failed.
     pub fn read<R: BitRead>(reader: &mut R) -> Result<Block, Error>
         ensures { Reads R.source (tcp_block_decoder R.source.order) reader.old result reader.new }
     {
@@ -70,7 +70,7 @@ impl Block {
     /// # Errors
     ///
     /// `Checked` for a field that does not fit its bits. The fields before it are written then.
-    /// Else the errors of the sink.
+    /// Otherwise the sink's errors.
     pub fn write<W: BitWrite>(&self, writer: &mut W) -> Result<(), Error>
         ensures { WritesAll W.sink (tcp_block_writes W.sink.order self.now) writer.old result writer.new }
     {
@@ -80,7 +80,7 @@ impl Block {
     }
 
     /// Writes the fields to the first bytes of a buffer, and returns what was written. The other bytes
-    /// stay as they were. No memory is asked for.
+    /// stay as they were. Does not allocate.
     ///
     /// # Errors
     ///

@@ -87,9 +87,10 @@ impl Data {
     ///
     /// # Errors
     ///
-    /// `ShortOption`, after the bits that are refused.
-    /// `Reader(OutOfMemory)` if memory for a list is refused, after the items before.
-    /// Else the errors of the reader: after each of them it has failed.
+    /// `ShortOption`.
+    /// The refused bits are read then.
+    /// `Reader(OutOfMemory)` if the allocation for a list fails, after the items before.
+    /// Otherwise the reader's errors, after which it has failed.
     pub fn read<R: BitRead>(reader: &mut R, alloc: Global) -> Result<Data, DataError>
         ensures { GrowsOwn R.source becomes_tcp_data (tcp_data_decoder R.source.order) reader.old result reader.new }
     {
@@ -103,7 +104,7 @@ impl Data {
     /// # Errors
     ///
     /// `ShortOption`, `Reader(EndOfInput)` if the bytes end before the fields do.
-    /// `Reader(OutOfMemory)` if memory for an item of a list is refused.
+    /// `Reader(OutOfMemory)` if the allocation for an item of a list fails.
     pub fn parse(packet: &[u8], alloc: Global) -> Result<Data, DataError>
         ensures answer { (OwnAnswer becomes_tcp_data (λ answer. answer)
             (sure_answer ((tcp_data_decoder High).reads 0 (bits High packet.now))) result)
@@ -123,7 +124,7 @@ impl Data {
     /// # Errors
     ///
     /// `Checked` for a field that does not fit its bits. The fields before it are written then.
-    /// Else the errors of the sink.
+    /// Otherwise the sink's errors.
     pub fn write<W: BitWrite>(&self, writer: &mut W) -> Result<(), Error>
         ensures { WritesAll W.sink (tcp_data_writes W.sink.order self.now) writer.old result writer.new }
     {
@@ -133,7 +134,7 @@ impl Data {
     }
 
     /// Writes the fields to the first bytes of a buffer, and returns what was written. The other bytes
-    /// stay as they were. No memory is asked for.
+    /// stay as they were. Does not allocate.
     ///
     /// # Errors
     ///

@@ -104,7 +104,7 @@ fn count_blocks(items: &[Block]) -> Result<u64, Error>
     Ok(counter.into_written())
 }
 
-/// Returns an error inside the bytes of `blocks`: at their end it is `OtherSize`.
+/// Maps an error inside the bytes of `blocks`: an error at their end is `OtherSize`.
 fn blocks_ended(error: ReceivedError) -> ReceivedError
     ensures { result ≡ blocks_ended error }
 {
@@ -123,7 +123,7 @@ fn blocks_ended(error: ReceivedError) -> ReceivedError
 ///
 /// # Errors
 ///
-/// `OtherSize` if they do not fill them. Else the error of an item.
+/// `OtherSize` if they do not fill them. Otherwise the error of an item.
 fn blocks_in(bytes: &[u8], alloc: Global, size: u64) -> Result<Vec<Block>, ReceivedError>
     ensures { UnlessMemory (λ error. Reader error)
         (items_from (plain_reads (tcp_block_decoder High)) OtherSize (λ error. Reader error) blocks_ended 0 (bits High bytes.now) size)
@@ -146,7 +146,7 @@ fn blocks_in(bytes: &[u8], alloc: Global, size: u64) -> Result<Vec<Block>, Recei
     Err(ReceivedError::OtherSize)
 }
 
-/// Reads `blocks`, which has so many bytes. No bit after them is read.
+/// Reads `blocks`, which has `size` bytes. No bit after them is read.
 fn read_blocks<R: BitRead>(
     reader: &mut R,
     alloc: Global,
@@ -184,9 +184,10 @@ impl Received {
     ///
     /// # Errors
     ///
-    /// `OtherSize`, after the bits that are refused.
-    /// `Reader(OutOfMemory)` if memory for a list is refused, after the items before.
-    /// Else the errors of the reader: after each of them it has failed.
+    /// `OtherSize`.
+    /// The refused bits are read then.
+    /// `Reader(OutOfMemory)` if the allocation for a list fails, after the items before.
+    /// Otherwise the reader's errors, after which it has failed.
     pub fn read<R: BitRead>(reader: &mut R, alloc: Global) -> Result<Received, ReceivedError>
         requires { R.source.order ≡ High }
         ensures { GrowsOwn R.source becomes_tcp_received (tcp_received_decoder R.source.order) reader.old result reader.new }
@@ -201,7 +202,7 @@ impl Received {
     /// # Errors
     ///
     /// `OtherSize`, `Reader(EndOfInput)` if the bytes end before the fields do.
-    /// `Reader(OutOfMemory)` if memory for an item of a list is refused.
+    /// `Reader(OutOfMemory)` if the allocation for an item of a list fails.
     pub fn parse(packet: &[u8], alloc: Global) -> Result<Received, ReceivedError>
         ensures answer { (OwnAnswer becomes_tcp_received (λ answer. answer)
             (sure_answer ((tcp_received_decoder High).reads 0 (bits High packet.now))) result)
@@ -221,7 +222,7 @@ impl Received {
     /// # Errors
     ///
     /// `Checked` for a field that does not fit its bits. The fields before it are written then.
-    /// Else the errors of the sink.
+    /// Otherwise the sink's errors.
     pub fn write<W: BitWrite>(&self, writer: &mut W) -> Result<(), Error>
         ensures { WritesAll W.sink (tcp_received_writes W.sink.order self.now) writer.old result writer.new }
     {
@@ -231,7 +232,7 @@ impl Received {
     }
 
     /// Writes the fields to the first bytes of a buffer, and returns what was written. The other bytes
-    /// stay as they were. No memory is asked for.
+    /// stay as they were. Does not allocate.
     ///
     /// # Errors
     ///

@@ -115,8 +115,8 @@ impl TlsRecord {
     ///
     /// # Errors
     ///
-    /// `OutOfMemory` if memory for a list is refused, after the items before.
-    /// Else the errors of the reader: after each of them it has failed.
+    /// `OutOfMemory` if the allocation for a list fails, after the items before.
+    /// Otherwise the reader's errors, after which it has failed.
     pub fn read<R: BitRead>(reader: &mut R, alloc: Global) -> Result<TlsRecord, Error>
         ensures { GrowsOwn R.source same_error (tls_record_decoder R.source.order) reader.old result reader.new }
     {
@@ -136,7 +136,7 @@ impl TlsRecord {
     /// # Errors
     ///
     /// `EndOfInput` if the bytes end before the fields do.
-    /// `OutOfMemory` if memory for an item of a list is refused.
+    /// `OutOfMemory` if the allocation for an item of a list fails.
     pub fn parse(packet: &[u8], alloc: Global) -> Result<TlsRecord, Error>
         ensures answer { (OwnAnswer same_error (λ answer. answer)
             (sure_answer ((tls_record_decoder High).reads 0 (bits High packet.now))) result)
@@ -156,7 +156,7 @@ impl TlsRecord {
     /// # Errors
     ///
     /// `Checked` for a field that does not fit its bits. The fields before it are written then.
-    /// Else the errors of the sink.
+    /// Otherwise the sink's errors.
     pub fn write<W: BitWrite>(&self, writer: &mut W) -> Result<(), Error>
         ensures { WritesAll W.sink (tls_record_writes W.sink.order self.now) writer.old result writer.new }
     {
@@ -168,7 +168,7 @@ impl TlsRecord {
     }
 
     /// Writes the fields to the first bytes of a buffer, and returns what was written. The other bytes
-    /// stay as they were. No memory is asked for.
+    /// stay as they were. Does not allocate.
     ///
     /// # Errors
     ///
