@@ -11,6 +11,8 @@ mod bytes;
 #[cfg(test)]
 mod callers;
 #[cfg(test)]
+mod codec;
+#[cfg(test)]
 mod codes;
 #[cfg(test)]
 mod counts;

@@ -1,0 +1,127 @@
+//! Frames of FLAC, encoded and decoded. A body that always reports refused memory meets the contracts of the
+//! codec, and fails these tests.
+use crate::asserts::holds;
+use bitstream_io::Error;
+use flac_codec::{Channels, FlacError, FrameHeader, decode_frame, encode_frame, is_frame};
+use std::alloc::Global;
+
+// The second frame of the second example of RFC 9639 (appendix D.2): three samples in two verbatim channels.
+const VERBATIM: &[u8] =
+    b"\xff\xf8\x69\x18\x01\x02\xa4\x02\xc3\x82\xc4\x0b\xc1\x4a\x03\xee\x48\xdd\x03\xb6\x7c\x13\x30";
+
+// A frame that `flac` wrote of known samples: the left channel and the difference.
+const LEFT_SIDE: &[u8] =
+    b"\xff\xf8\x69\x88\x00\x0f\x3b\x14\x00\x00\x03\xe9\x00\x90\xa8\x85\x44\x42\xa2\x15\x10\x48\x00\x00\x00\x84\x93\xa3\x09\x0c\x54\x78\xd3\x81";
+
+/// Returns `count` samples of at most 12 bits that are neither equal nor regular.
+fn samples(alloc: Global, count: usize, step: i64) -> Result<Vec<i64>, Error> {
+    let mut found = Vec::new(alloc);
+    let mut sample = step;
+    for _ in 0..count {
+        sample = sample.wrapping_mul(229).wrapping_add(step) % 2000;
+        found.push(sample)?;
+    }
+    Ok(found)
+}
+
+/// Returns true if both have the same samples.
+fn are_same(found: &[Vec<i64>], wanted: &[Vec<i64>]) -> bool {
+    let mut same = found.len() == wanted.len();
+    for (one, other) in found.iter().zip(wanted.iter()) {
+        same &= one.as_slice() == other.as_slice();
+    }
+    same
+}
+
+/// Returns two channels of `count` samples.
+fn two(alloc: Global, count: usize) -> Result<Vec<Vec<i64>>, Error> {
+    let left = samples(alloc, count, 7)?;
+    let right = samples(alloc, count, 11)?;
+    let mut channels = Vec::new(alloc);
+    channels.push(left)?;
+    channels.push(right)?;
+    Ok(channels)
+}
+
+/// Returns the header of a frame of 40 samples.
+fn header(coding: Channels) -> FrameHeader {
+    FrameHeader {
+        variable: false,
+        block_size: 40,
+        sample_rate: 44_100,
+        channels: coding,
+        sample_size: 16,
+        number: 1000,
+    }
+}
+
+/// Encodes a frame of two channels in a coding, and returns true if the same samples are decoded.
+fn frame_again(alloc: Global, coding: Channels) -> Result<bool, FlacError> {
+    let channels = two(alloc, 40)?;
+    let header = header(coding);
+    if !is_frame(16, &header, channels.as_slice()) {
+        return Ok(false);
+    }
+    let bytes = encode_frame(alloc, 16, &header, channels.as_slice())?;
+    let frame = decode_frame(alloc, 16, bytes.as_slice())?;
+    Ok(are_same(frame.channels.as_slice(), channels.as_slice()) & (frame.size == bytes.len()))
+}
+
+/// Returns true if a frame has these samples of two channels.
+fn decodes_to(alloc: Global, bytes: &[u8], left: &[i64], right: &[i64]) -> bool {
+    match decode_frame(alloc, 16, bytes) {
+        Ok(frame) => {
+            (frame.channels.len() == 2)
+                & (frame.size == bytes.len())
+                & is_channel(frame.channels.as_slice(), 0, left)
+                & is_channel(frame.channels.as_slice(), 1, right)
+        }
+        Err(_) => false,
+    }
+}
+
+/// Returns true if a channel has these samples.
+fn is_channel(channels: &[Vec<i64>], at: usize, wanted: &[i64]) -> bool {
+    match channels.get(at) {
+        Some(channel) => channel.as_slice() == wanted,
+        None => false,
+    }
+}
+
+#[test]
+fn frames_are_encoded_and_decoded(rt: HostRuntime) {
+    let alloc = rt.alloc();
+    holds(
+        &rt,
+        matches!(frame_again(alloc, Channels::Independent(2)), Ok(true)),
+    );
+    holds(
+        &rt,
+        matches!(frame_again(alloc, Channels::LeftSide), Ok(true)),
+    );
+    holds(
+        &rt,
+        matches!(frame_again(alloc, Channels::SideRight), Ok(true)),
+    );
+    holds(
+        &rt,
+        matches!(frame_again(alloc, Channels::MidSide), Ok(true)),
+    );
+}
+
+#[test]
+fn frames_from_outside_are_decoded(rt: HostRuntime) {
+    let alloc = rt.alloc();
+    let left = [-15486, -15349, -16054];
+    let right = [-9072, -8958, -9410];
+    holds(&rt, decodes_to(alloc, VERBATIM, &left, &right));
+    let left = [
+        0, 1001, 2004, 3002, 4002, 5004, 6001, 7000, 8001, 9004, 10002, 11002, 12004, 13001, 14000,
+        15001,
+    ];
+    let right = [
+        0, 997, 1999, 2996, 3998, 5000, 5997, 6999, 7996, 8998, 10000, 10997, 11999, 12996, 13998,
+        15000,
+    ];
+    holds(&rt, decodes_to(alloc, LEFT_SIDE, &left, &right));
+}
