@@ -7,7 +7,11 @@ fn example_of_bit_count(rt: HostRuntime) {
     use bitstream_io::{BitCount, Count};
 
     let count = BitCount::<8>::new::<5>();
-    same(&rt, count.checked_add::<16>(11).map(|sum| sum.bits()), Some(16));
+    same(
+        &rt,
+        count.checked_add::<16>(11).map(|sum| sum.bits()),
+        Some(16),
+    );
     same(&rt, count.checked_add::<16>(12).map(|sum| sum.bits()), None);
     let range = count.range::<u8>();
     same(&rt, (*range.start(), *range.end()), (0, 31));
@@ -48,9 +52,19 @@ fn example_of_read_varint(rt: HostRuntime) {
     use bitstream_format::varint::read_varint;
     use bitstream_io::{BE, BitReader};
 
-    let mut reader = BitReader::<_, BE>::over(&[0x9d, 0x7f, 0x3e, 0x7d, 0x7b, 0xbd, 0x25, 0x40, 0x25]);
-    same(&rt, read_varint(&mut reader).expect(&rt, "no error"), 494_878_333);
-    same(&rt, read_varint(&mut reader).expect(&rt, "no error"), 15_293);
+    let mut reader = BitReader::<_, BE>::over(&[
+        0x9d, 0x7f, 0x3e, 0x7d, 0x7b, 0xbd, 0x25, 0x40, 0x25,
+    ]);
+    same(
+        &rt,
+        read_varint(&mut reader).expect(&rt, "no error"),
+        494_878_333,
+    );
+    same(
+        &rt,
+        read_varint(&mut reader).expect(&rt, "no error"),
+        15_293,
+    );
     same(&rt, read_varint(&mut reader).expect(&rt, "no error"), 37);
     same(&rt, read_varint(&mut reader).expect(&rt, "no error"), 37);
 }
@@ -72,11 +86,19 @@ fn example_of_bit_write2(rt: HostRuntime) {
 
     let mut writer = BitWriter::<_, BE>::new(Vec::new(rt.alloc()));
     writer.write_out::<Bits<4>, u8>(10).expect(&rt, "no error");
-    writer.write_unsigned_out::<Bits<2>, u8>(2).expect(&rt, "no error");
-    writer.write_signed_out::<Bits<2>, i8>(-1).expect(&rt, "no error");
+    writer
+        .write_unsigned_out::<Bits<2>, u8>(2)
+        .expect(&rt, "no error");
+    writer
+        .write_signed_out::<Bits<2>, i8>(-1)
+        .expect(&rt, "no error");
     writer.write_unary0(3).expect(&rt, "no error");
     writer.write_unsigned(4, 5u8).expect(&rt, "no error");
-    are(&rt, writer.into_writer().as_slice(), [0xab, 0xe5].as_slice());
+    are(
+        &rt,
+        writer.into_writer().as_slice(),
+        [0xab, 0xe5].as_slice(),
+    );
 }
 
 #[test]
@@ -86,7 +108,11 @@ fn example_of_read_ue(rt: HostRuntime) {
 
     // 1, 010, 00100 and 011
     let mut reader = BitReader::<_, BE>::over(&[0xa2, 0x30]);
-    let numbers = [read_ue(&mut reader).expect(&rt, "no error"), read_ue(&mut reader).expect(&rt, "no error"), read_ue(&mut reader).expect(&rt, "no error")];
+    let numbers = [
+        read_ue(&mut reader).expect(&rt, "no error"),
+        read_ue(&mut reader).expect(&rt, "no error"),
+        read_ue(&mut reader).expect(&rt, "no error"),
+    ];
     same(&rt, numbers, [0, 1, 3]);
     same(&rt, read_se(&mut reader).expect(&rt, "no error"), -1);
 }
@@ -117,9 +143,15 @@ fn example_of_growing(rt: HostRuntime) {
     use bitstream_io::{BE, BitWrite, BitWriter, Growing};
 
     let mut writer = BitWriter::<_, BE>::new(Growing::new(Vec::new(rt.alloc())));
-    writer.write_unsigned_var(12, 0xb1e_u16).expect(&rt, "no error");
+    writer
+        .write_unsigned_var(12, 0xb1e_u16)
+        .expect(&rt, "no error");
     writer.byte_align().expect(&rt, "no error");
-    are(&rt, writer.into_writer().as_slice(), [0xb1, 0xe0].as_slice());
+    are(
+        &rt,
+        writer.into_writer().as_slice(),
+        [0xb1, 0xe0].as_slice(),
+    );
 }
 
 #[test]
@@ -128,7 +160,11 @@ fn example_of_lent(rt: HostRuntime) {
 
     let mut bytes: &[u8] = &[0x12, 0x34];
     let mut reader = BitReader::<_, BE>::new(Lent::new(&mut bytes));
-    same(&rt, reader.read_unsigned_var::<u8>(4).expect(&rt, "no error"), 1);
+    same(
+        &rt,
+        reader.read_unsigned_var::<u8>(4).expect(&rt, "no error"),
+        1,
+    );
     same(&rt, bytes, [0x34].as_slice());
 }
 
@@ -137,8 +173,15 @@ fn example_of_slice(rt: HostRuntime) {
     use bitstream_io::{BE, BitRead, BitReader, Error};
 
     let mut reader = BitReader::<_, BE>::over(&[0xb1, 0xed]);
-    same(&rt, reader.read_unsigned_var::<u16>(12).expect(&rt, "no error"), 0xb1e);
-    holds(&rt, matches!(reader.read_unsigned_var::<u8>(8), Err(Error::EndOfInput)));
+    same(
+        &rt,
+        reader.read_unsigned_var::<u16>(12).expect(&rt, "no error"),
+        0xb1e,
+    );
+    holds(
+        &rt,
+        matches!(reader.read_unsigned_var::<u8>(8), Err(Error::EndOfInput)),
+    );
 }
 
 #[test]
@@ -147,7 +190,9 @@ fn example_of_slice_mut(rt: HostRuntime) {
 
     let mut buffer = [0u8; 4];
     let mut writer = BitWriter::<_, BE>::over(&mut buffer);
-    writer.write_unsigned_var(12, 0xb1e_u16).expect(&rt, "no error");
+    writer
+        .write_unsigned_var(12, 0xb1e_u16)
+        .expect(&rt, "no error");
     writer.byte_align().expect(&rt, "no error");
     let packed = writer.into_writer();
     are(&rt, packed.as_slice(), [0xb1, 0xe0].as_slice());
@@ -159,7 +204,9 @@ fn example_of_bit_counter(rt: HostRuntime) {
     use bitstream_io::{BE, BitCounter, BitWrite};
 
     let mut counter = BitCounter::<u8, BE>::new();
-    counter.write_signed_var::<i8>(4, -3).expect(&rt, "no error");
+    counter
+        .write_signed_var::<i8>(4, -3)
+        .expect(&rt, "no error");
     counter.write_bit(true).expect(&rt, "no error");
     same(&rt, counter.into_written(), 5);
 }
@@ -169,12 +216,18 @@ fn example_of_bit_recorder(rt: HostRuntime) {
     use bitstream_io::{BE, BitRecorder, BitWrite, BitWriter, Growing};
 
     let mut recorder = BitRecorder::<u32, BE, _>::new(rt.alloc());
-    recorder.write_unsigned_var(12, 0xb1e_u16).expect(&rt, "no error");
+    recorder
+        .write_unsigned_var(12, 0xb1e_u16)
+        .expect(&rt, "no error");
     let bits = recorder.written_checked().expect(&rt, "no error");
     let mut writer = BitWriter::<_, BE>::new(Growing::new(Vec::new(rt.alloc())));
     writer.write_unsigned_var(4, bits).expect(&rt, "no error");
     recorder.playback(&mut writer).expect(&rt, "no error");
-    are(&rt, writer.into_writer().as_slice(), [0xcb, 0x1e].as_slice());
+    are(
+        &rt,
+        writer.into_writer().as_slice(),
+        [0xcb, 0x1e].as_slice(),
+    );
 }
 
 #[test]
@@ -195,7 +248,11 @@ fn example_of_byte_read(rt: HostRuntime) {
 
     let mut reader = ByteReader::<_, BE>::new(Slice::new(&[0xb1, 0xed, 0x3b, 0xc1]));
     same(&rt, reader.read::<u16>().expect(&rt, "no error"), 0xb1ed);
-    same(&rt, reader.read_as::<LE, u16>().expect(&rt, "no error"), 0xc13b);
+    same(
+        &rt,
+        reader.read_as::<LE, u16>().expect(&rt, "no error"),
+        0xc13b,
+    );
     holds(&rt, matches!(reader.read::<u8>(), Err(Error::EndOfInput)));
 }
 
@@ -206,7 +263,11 @@ fn example_of_byte_reader(rt: HostRuntime) {
     let mut reader = ByteReader::<_, LE>::new(Slice::new(&[0x01, 0x02, 0x03, 0x04, 0x05]));
     same(&rt, reader.read::<u16>().expect(&rt, "no error"), 0x0201);
     reader.skip(1).expect(&rt, "no error");
-    same(&rt, reader.read_to_bytes::<[u8; 2]>().expect(&rt, "no error"), [0x04, 0x05]);
+    same(
+        &rt,
+        reader.read_to_bytes::<[u8; 2]>().expect(&rt, "no error"),
+        [0x04, 0x05],
+    );
 }
 
 #[test]
@@ -216,7 +277,11 @@ fn example_of_byte_write(rt: HostRuntime) {
     let mut writer = ByteWriter::<_, BE>::new(Vec::new(rt.alloc()));
     writer.write_as::<LE, u16>(1).expect(&rt, "no error");
     writer.pad(3).expect(&rt, "no error");
-    are(&rt, writer.into_writer().as_slice(), [1, 0, 0, 0, 0].as_slice());
+    are(
+        &rt,
+        writer.into_writer().as_slice(),
+        [1, 0, 0, 0, 0].as_slice(),
+    );
 }
 
 #[test]
@@ -226,7 +291,11 @@ fn example_of_byte_writer(rt: HostRuntime) {
     let mut writer = ByteWriter::<_, LE>::new(Vec::new(rt.alloc()));
     writer.write(0x0201_u16).expect(&rt, "no error");
     writer.write_bytes(&[3, 4]).expect(&rt, "no error");
-    are(&rt, writer.into_writer().as_slice(), [1, 2, 3, 4].as_slice());
+    are(
+        &rt,
+        writer.into_writer().as_slice(),
+        [1, 2, 3, 4].as_slice(),
+    );
 }
 
 #[test]
@@ -234,10 +303,22 @@ fn example_of_bit_read(rt: HostRuntime) {
     use bitstream_io::{BE, BitCount, BitRead, BitReader, Bits, Error};
 
     let mut reader = BitReader::<_, BE>::new([0x7e, 0x58].as_slice());
-    reader.read_const::<Bits<4>, Bits<7>, Error>(Error::NoSignBit).expect(&rt, "no error");
-    same(&rt, reader.read_signed::<Bits<4>, i32>().expect(&rt, "no error"), -2);
+    reader
+        .read_const::<Bits<4>, Bits<7>, Error>(Error::NoSignBit)
+        .expect(&rt, "no error");
+    same(
+        &rt,
+        reader.read_signed::<Bits<4>, i32>().expect(&rt, "no error"),
+        -2,
+    );
     let last = reader.read_count::<BitCount<7>>().expect(&rt, "no error");
-    same(&rt, reader.read_unsigned_counted::<_, u8>(last).expect(&rt, "no error"), 3);
+    same(
+        &rt,
+        reader
+            .read_unsigned_counted::<_, u8>(last)
+            .expect(&rt, "no error"),
+        3,
+    );
     reader.byte_align();
     holds(&rt, matches!(reader.read_bit(), Err(Error::EndOfInput)));
     holds(&rt, matches!(reader.read_bit(), Err(Error::Failed)));
@@ -262,7 +343,11 @@ fn example_of_bit_reader(rt: HostRuntime) {
     same(&rt, kind, 2);
     same(&rt, level, -2);
     reader.byte_align();
-    same(&rt, reader.read_unsigned_var::<u8>(8).expect(&rt, "no error"), 0xed);
+    same(
+        &rt,
+        reader.read_unsigned_var::<u8>(8).expect(&rt, "no error"),
+        0xed,
+    );
     holds(&rt, matches!(reader.read_bit(), Err(Error::EndOfInput)));
 }
 
@@ -273,11 +358,32 @@ fn example_of_bit_reader_seek_bits(rt: HostRuntime) {
 
     let bytes = Cursor::new([0xb1, 0xed, 0x3b, 0xc1].as_slice());
     let mut reader = BitReader::<_, BE>::new(bytes);
-    same(&rt, reader.seek_bits(SeekFrom::End(7)).expect(&rt, "no error"), 25);
-    same(&rt, reader.read_unsigned_var::<u8>(7).expect(&rt, "no error"), 0x41);
-    same(&rt, reader.seek_bits(SeekFrom::Current(-24)).expect(&rt, "no error"), 8);
-    same(&rt, reader.read_unsigned_var::<u8>(8).expect(&rt, "no error"), 0xed);
-    holds(&rt, matches!(reader.seek_bits(SeekFrom::Current(-17)), Err(Error::Place)));
+    same(
+        &rt,
+        reader.seek_bits(SeekFrom::End(7)).expect(&rt, "no error"),
+        25,
+    );
+    same(
+        &rt,
+        reader.read_unsigned_var::<u8>(7).expect(&rt, "no error"),
+        0x41,
+    );
+    same(
+        &rt,
+        reader
+            .seek_bits(SeekFrom::Current(-24))
+            .expect(&rt, "no error"),
+        8,
+    );
+    same(
+        &rt,
+        reader.read_unsigned_var::<u8>(8).expect(&rt, "no error"),
+        0xed,
+    );
+    holds(
+        &rt,
+        matches!(reader.seek_bits(SeekFrom::Current(-17)), Err(Error::Place)),
+    );
     same(&rt, reader.position_in_bits().expect(&rt, "no error"), 16);
 }
 
@@ -286,10 +392,17 @@ fn example_of_slice_reader(rt: HostRuntime) {
     use bitstream_io::{BE, BitRead, Error, SliceReader};
 
     let mut reader = SliceReader::<BE>::over(&[0xb1, 0xed, 0x3b]);
-    same(&rt, reader.read_unsigned_var::<u16>(12).expect(&rt, "no error"), 0xb1e);
+    same(
+        &rt,
+        reader.read_unsigned_var::<u16>(12).expect(&rt, "no error"),
+        0xb1e,
+    );
     same(&rt, (reader.bits_read(), reader.bits_left()), (12, 12));
     same(&rt, reader.rest(), [0x3b].as_slice());
-    holds(&rt, matches!(reader.read_unsigned_var::<u16>(13), Err(Error::EndOfInput)));
+    holds(
+        &rt,
+        matches!(reader.read_unsigned_var::<u16>(13), Err(Error::EndOfInput)),
+    );
 }
 
 #[test]
@@ -298,12 +411,31 @@ fn example_of_slice_reader_seek_bits(rt: HostRuntime) {
     use std::io::SeekFrom;
 
     let mut reader = SliceReader::<BE>::over(&[0xb1, 0xed, 0x3b, 0xc1]);
-    same(&rt, reader.seek_bits(SeekFrom::End(7)).expect(&rt, "no error"), 25);
-    same(&rt, reader.read_unsigned_var::<u8>(7).expect(&rt, "no error"), 0x41);
+    same(
+        &rt,
+        reader.seek_bits(SeekFrom::End(7)).expect(&rt, "no error"),
+        25,
+    );
+    same(
+        &rt,
+        reader.read_unsigned_var::<u8>(7).expect(&rt, "no error"),
+        0x41,
+    );
     holds(&rt, matches!(reader.read_bit(), Err(Error::EndOfInput)));
-    same(&rt, reader.seek_bits(SeekFrom::Start(8)).expect(&rt, "no error"), 8);
-    same(&rt, reader.read_unsigned_var::<u8>(8).expect(&rt, "no error"), 0xed);
-    holds(&rt, matches!(reader.seek_bits(SeekFrom::Current(17)), Err(Error::Place)));
+    same(
+        &rt,
+        reader.seek_bits(SeekFrom::Start(8)).expect(&rt, "no error"),
+        8,
+    );
+    same(
+        &rt,
+        reader.read_unsigned_var::<u8>(8).expect(&rt, "no error"),
+        0xed,
+    );
+    holds(
+        &rt,
+        matches!(reader.seek_bits(SeekFrom::Current(17)), Err(Error::Place)),
+    );
     same(&rt, reader.position_in_bits().expect(&rt, "no error"), 16);
 }
 
@@ -313,12 +445,22 @@ fn example_of_bit_write(rt: HostRuntime) {
 
     let mut writer = BitWriter::<_, BE>::new(Vec::new(rt.alloc()));
     let count = BitCount::<7>::new::<2>();
-    writer.write_const::<Bits<4>, Bits<7>>().expect(&rt, "no error");
-    writer.write_signed::<Bits<4>, i32>(-2).expect(&rt, "no error");
+    writer
+        .write_const::<Bits<4>, Bits<7>>()
+        .expect(&rt, "no error");
+    writer
+        .write_signed::<Bits<4>, i32>(-2)
+        .expect(&rt, "no error");
     writer.write_count(count).expect(&rt, "no error");
-    writer.write_unsigned_counted(count, 3u8).expect(&rt, "no error");
+    writer
+        .write_unsigned_counted(count, 3u8)
+        .expect(&rt, "no error");
     writer.byte_align().expect(&rt, "no error");
-    are(&rt, writer.into_writer().as_slice(), [0x7e, 0x58].as_slice());
+    are(
+        &rt,
+        writer.into_writer().as_slice(),
+        [0x7e, 0x58].as_slice(),
+    );
 }
 
 #[test]
@@ -326,11 +468,17 @@ fn example_of_bit_writer(rt: HostRuntime) {
     use bitstream_io::{BE, BitWrite, BitWriter, Bits};
 
     let mut writer = BitWriter::<_, BE>::new(Vec::new(rt.alloc()));
-    writer.write_unsigned::<Bits<4>, u8>(0xb).expect(&rt, "no error");
+    writer
+        .write_unsigned::<Bits<4>, u8>(0xb)
+        .expect(&rt, "no error");
     writer.write_signed_var::<i8>(4, -3).expect(&rt, "no error");
     writer.write_bit(true).expect(&rt, "no error");
     writer.byte_align().expect(&rt, "no error");
-    are(&rt, writer.into_writer().as_slice(), [0xbd, 0x80].as_slice());
+    are(
+        &rt,
+        writer.into_writer().as_slice(),
+        [0xbd, 0x80].as_slice(),
+    );
 }
 
 #[test]
@@ -339,7 +487,9 @@ fn example_of_checkable(rt: HostRuntime) {
     use bitstream_io::{Checkable, CheckedUnsigned};
 
     let mut reader = BitReader::<_, BE>::new([0xb7].as_slice());
-    let level: CheckedUnsigned<8, u8> = reader.read_checked(BitCount::new::<4>()).expect(&rt, "no error");
+    let level: CheckedUnsigned<8, u8> = reader
+        .read_checked(BitCount::new::<4>())
+        .expect(&rt, "no error");
     same(&rt, (level.written_bits(), level.into_value()), (4, 11));
     let mut writer = BitWriter::<_, BE>::new(Vec::new(rt.alloc()));
     writer.write_checked(level).expect(&rt, "no error");
@@ -354,7 +504,11 @@ fn example_of_limited_unary(rt: HostRuntime) {
 
     let mut reader = BitReader::<_, BE>::new([0x20].as_slice());
     let run = LimitedUnary::<1, 3> {};
-    same(&rt, reader.read_huffman(&run).expect(&rt, "no error"), Some(2));
+    same(
+        &rt,
+        reader.read_huffman(&run).expect(&rt, "no error"),
+        Some(2),
+    );
     same(&rt, reader.read_huffman(&run).expect(&rt, "no error"), None);
 }
 
@@ -364,8 +518,14 @@ fn example_of_huffman_tree(rt: HostRuntime) {
     use bitstream_io::huffman::HuffmanTree;
 
     let alloc = rt.alloc();
-    let end = HuffmanTree::node(HuffmanTree::leaf(alloc, 'b').expect(&rt, "no error"), HuffmanTree::leaf(alloc, 'c').expect(&rt, "no error")).expect(&rt, "no error");
-    let tree = HuffmanTree::node(HuffmanTree::leaf(alloc, 'a').expect(&rt, "no error"), end).expect(&rt, "no error");
+    let end = HuffmanTree::node(
+        HuffmanTree::leaf(alloc, 'b').expect(&rt, "no error"),
+        HuffmanTree::leaf(alloc, 'c').expect(&rt, "no error"),
+    )
+    .expect(&rt, "no error");
+    let tree = HuffmanTree::node(HuffmanTree::leaf(alloc, 'a').expect(&rt, "no error"), end).expect(
+        &rt, "no error",
+    );
     let mut reader = BitReader::<_, BE>::new([0x98].as_slice());
     same(&rt, reader.read_huffman(&tree).expect(&rt, "no error"), 'b');
     same(&rt, reader.read_huffman(&tree).expect(&rt, "no error"), 'a');
@@ -378,8 +538,14 @@ fn example_of_symbol_words(rt: HostRuntime) {
     use bitstream_io::huffman::HuffmanTree;
 
     let alloc = rt.alloc();
-    let end = HuffmanTree::node(HuffmanTree::leaf(alloc, 'b').expect(&rt, "no error"), HuffmanTree::leaf(alloc, 'c').expect(&rt, "no error")).expect(&rt, "no error");
-    let tree = HuffmanTree::node(HuffmanTree::leaf(alloc, 'a').expect(&rt, "no error"), end).expect(&rt, "no error");
+    let end = HuffmanTree::node(
+        HuffmanTree::leaf(alloc, 'b').expect(&rt, "no error"),
+        HuffmanTree::leaf(alloc, 'c').expect(&rt, "no error"),
+    )
+    .expect(&rt, "no error");
+    let tree = HuffmanTree::node(HuffmanTree::leaf(alloc, 'a').expect(&rt, "no error"), end).expect(
+        &rt, "no error",
+    );
     let words = tree.words(alloc).expect(&rt, "no error");
     let mut writer = BitWriter::<_, BE>::new(Vec::new(alloc));
     writer.write_huffman(&words, 'b').expect(&rt, "no error");
@@ -407,7 +573,9 @@ fn example_of_bit_write_ext(rt: HostRuntime) {
     use bitstream_io::{BitWriteExt, BitWriter, Bits, LE};
 
     let mut writer = BitWriter::<_, LE>::new(Vec::new(rt.alloc()));
-    writer.write::<Bits<1>, [bool; 4]>([true, false, true, true]).expect(&rt, "no error");
+    writer
+        .write::<Bits<1>, [bool; 4]>([true, false, true, true])
+        .expect(&rt, "no error");
     writer.write_var::<i8>(4, -1).expect(&rt, "no error");
     are(&rt, writer.into_writer().as_slice(), [0xfd].as_slice());
 }
@@ -425,7 +593,9 @@ fn example_of_readme(rt: HostRuntime) {
 
     let mut buffer = [0u8; 4];
     let mut writer = BitWriter::<_, BE>::over(&mut buffer);
-    writer.write_unsigned_var(12, 0xb1e_u16).expect(&rt, "no error");
+    writer
+        .write_unsigned_var(12, 0xb1e_u16)
+        .expect(&rt, "no error");
     writer.byte_align().expect(&rt, "no error");
     let packed = writer.into_writer();
     are(&rt, packed.as_slice(), [0xb1, 0xe0].as_slice());
