@@ -28,8 +28,8 @@ pub fn layouts_are_spelt()
         → IsLayout fields × (layout_text fields ≡ text) }
 {}
 
-/// Values that lines spell fit their fields. The printed lines of values that fit spell these
-/// values.
+/// Values parsed from lines fit their fields. If values fit, the lines printed for them parse to
+/// the same values.
 pub fn values_are_spelt()
     ensures fit { (k : ℕ) (fields : List Field) (rest : List (List ℕ)) (vs : List FieldValue)
         → values k fields rest ≡ Ok vs → Fit fields vs }

@@ -48,7 +48,7 @@ fn read_refusal(error: io::Error) -> Error
     }
 }
 
-/// Records a refused request for bytes.
+/// Records a failed request for bytes.
 fn record_refused_read<S: Source>(
     refusals: &mut GhostRefusals,
     _before: &Snapshot<S>,
@@ -63,7 +63,7 @@ fn record_refused_read<S: Source>(
     refusals.push(0);
 }
 
-/// Records a refused request to send bytes.
+/// Records a failed request to send bytes.
 fn record_refused_write<S: Target>(
     refusals: &mut GhostRefusals,
     _before: &Snapshot<S>,

@@ -45,13 +45,13 @@ pub trait BitWrite {
     // The meaning of the sink's states.
     ghost sink: { Sink Self };
 
-    /// Writes an unsigned number in `bits` bits. At 0 bits any number is accepted, and nothing is
+    /// Writes an unsigned number in `count` bits. At 0 bits any number is accepted, and nothing is
     /// written.
     ///
     /// # Errors
     ///
-    /// `Checked(ExcessiveBits)` if the type has fewer than `bits` bits. Otherwise
-    /// `Checked(ExcessiveValue)` if the number needs more than `bits` bits.
+    /// `Checked(ExcessiveBits)` if the type has fewer than `count` bits. Otherwise
+    /// `Checked(ExcessiveValue)` if the number needs more than `count` bits.
     fn write_unsigned_counted<C: Count, U: UnsignedInteger>(
         &mut self,
         count: C,
@@ -61,12 +61,12 @@ pub trait BitWrite {
             (unsigned sink.order U.BITS_SIZE (C.number count) (U.value value))
             self.old result self.new };
 
-    /// Writes a signed number as a two's complement of `bits` bits.
+    /// Writes a signed number in two's complement, in `count` bits.
     ///
     /// # Errors
     ///
-    /// `Checked(ExcessiveBits)` if the type has fewer than `bits` bits. Otherwise
-    /// `Checked(ExcessiveValue)` if the number needs more than `bits` bits.
+    /// `Checked(ExcessiveBits)` if the type has fewer than `count` bits. Otherwise
+    /// `Checked(ExcessiveValue)` if the number needs more than `count` bits.
     fn write_signed_counted<C: SignedCount, S: SignedInteger>(
         &mut self,
         count: C,
@@ -124,7 +124,7 @@ pub trait BitWrite {
         self.write_unsigned_var(B::BITS, value)
     }
 
-    /// Writes a signed number as a two's complement of `bits` bits.
+    /// Writes a signed number in two's complement, in `bits` bits.
     ///
     /// # Errors
     ///
@@ -143,7 +143,7 @@ pub trait BitWrite {
         }
     }
 
-    /// Writes a signed number as a two's complement of `B::BITS` bits, at most the width of S.
+    /// Writes a signed number in two's complement, in `B::BITS` bits, at most the width of S.
     ///
     /// # Errors
     ///

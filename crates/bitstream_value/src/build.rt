@@ -92,7 +92,7 @@ pub trait ToBitStreamWith {
     ///
     /// # Errors
     ///
-    /// As [`ToBitStream::to_writer`].
+    /// Like [`ToBitStream::to_writer`].
     fn to_writer<W: BitWrite>(
         &self,
         writer: &mut W,
@@ -155,7 +155,7 @@ pub trait ToBitStreamUsing {
     ///
     /// # Errors
     ///
-    /// As [`ToBitStream::to_writer`].
+    /// Like [`ToBitStream::to_writer`].
     fn to_writer<W: BitWrite>(
         &self,
         writer: &mut W,

@@ -87,7 +87,7 @@ pub trait BitWriteExt: BitWrite {
     ///
     /// # Errors
     ///
-    /// As [`ToBitStream::to_writer`].
+    /// Like [`ToBitStream::to_writer`].
     fn build<T: ToBitStream>(&mut self, value: &T) -> Result<(), T::Error>
         ensures writes { WritesOwn Self.sink T.becomes (T.writes Self.sink.order value.now)
             (T.answers value.now) self.old result self.new };

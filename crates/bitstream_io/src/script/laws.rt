@@ -97,8 +97,9 @@ pub fn written_calls_are_read()
         (words ++ more)) ≡ p + length words }
 {}
 
-/// If the stream fails only at the end of its bytes, as a `Slice` does, matching reads that do not
-/// allocate return each value that was written, if the bits left begin with its call's words.
+/// Suppose that the stream fails only at the end of its bytes, as a `Slice` does, and that the bits
+/// left begin with the encodings of the accepted calls. Then matching reads that do not allocate
+/// return every value that was written.
 pub fn written_calls_round_trip<R: BitRead>()
     ensures { (written : List WriteCall) (len : ℕ) (old new : R)
         (answers : List (Option (Result Answer Error)))

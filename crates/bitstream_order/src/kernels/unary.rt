@@ -27,7 +27,7 @@ fn fetch_byte<S: Source>(port: &mut Port<S>) -> Result<u8, Error>
     Ok(byte[0])
 }
 
-/// A unary word that was taken, and the rest of the byte that holds its stop bit.
+/// A unary number that was taken, and the rest of the byte that holds its stop bit.
 #[derive(Clone, Copy, Drop)]
 pub struct TakenUnary {
     /// The number of bits before the stop bit.

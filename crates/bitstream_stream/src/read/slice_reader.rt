@@ -24,13 +24,13 @@ mod words;
 /// [read](SliceReader::bits_read) and [left](SliceReader::bits_left) and the
 /// [rest](SliceReader::rest) of the bytes, and it can [seek](SliceReader::seek_bits) to any bit. It
 /// fails only at the end of the bytes, with [`EndOfInput`](bitstream_count::error::Error). A call
-/// that is a single read takes no bit then. A call that consists of several reads keeps the
-/// completed ones: the groups of a number of variable width, the items of an array, the bits of a
-/// prefix code, pieces of 4096 bytes of [read_to_vec](crate::read::BitRead::read_to_vec), and the
-/// bits up to a whole byte, which [take_bytes](SliceReader::take_bytes) and
-/// [part](SliceReader::part) drop first. The reader has failed then: each later call for a value
-/// returns `Failed`, until a seek makes it read again. The [bits read](SliceReader::bits_read), the
-/// [bits left](SliceReader::bits_left) and the rest still report where it stopped.
+/// that is a single read takes no bit then. A call made of several reads keeps the completed ones:
+/// groups, array items, bits of a prefix code, or pieces of 4096 bytes of
+/// [read_to_vec](crate::read::BitRead::read_to_vec). [take_bytes](SliceReader::take_bytes) and
+/// [part](SliceReader::part) keep the alignment that they begin with. After such an error the reader
+/// has failed: each later call for a value returns `Failed`, until a seek. The
+/// [bits read](SliceReader::bits_read), the [bits left](SliceReader::bits_left) and the rest still
+/// report where it stopped.
 ///
 /// # Examples
 ///

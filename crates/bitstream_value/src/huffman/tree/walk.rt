@@ -77,7 +77,7 @@ impl<S: Copy + Eq, A: Allocator> HuffmanTree<S, A> {
         }
     }
 
-    /// Returns the place of the symbol's first leaf on a branch's side of 0, if it has one there.
+    /// Returns the index of the symbol's first leaf in a branch's subtree for bit 0, if there is one.
     /// `leaf` is the symbol's first leaf below the branch.
     ///
     /// If the side of 0 follows the side of 1, all of it is searched. It is then the shorter of the
