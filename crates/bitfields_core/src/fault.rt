@@ -88,7 +88,7 @@ impl From<AllocError> for Fault {
     }
 }
 
-/// Converts a failed allocation, as for an [`AllocError`].
+/// Converts a failed allocation as an [`AllocError`] is converted.
 impl<T: Drop> From<AllocFailed<T>> for Fault {
     ghost from_gives = { λ _ f. f ≡ fault 0 OutOfMemory };
 

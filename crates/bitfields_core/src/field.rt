@@ -16,7 +16,7 @@ pub enum Field {
     Unary(bool),
     /// `v4` and `v8`: a number of variable width.
     Variable(GroupSize),
-    /// `l4` and `l8`: a number of variable width. The groups that are read may end in groups of 0.
+    /// `l4` and `l8`: a number of variable width. When it is read, it may end in groups of 0.
     Lenient(GroupSize),
     /// `s4` and `s8`: a signed number of variable width.
     SignedVariable(GroupSize),

@@ -205,7 +205,7 @@ pub fn first_bytes(count: u32, values: &[FieldValue]) -> &[u8]
 ///
 /// # Errors
 ///
-/// `AllocError` if an allocation fails. A part of the line may be written then.
+/// `AllocError` if an allocation fails. If so, a part of the line may have been written.
 pub fn print_value(lines: &mut String, value: FieldValue) -> Result<(), AllocError>
     ensures { OnOk result (string_bytes lines.new ≡ string_bytes lines.old ++ printed_line value) }
 {

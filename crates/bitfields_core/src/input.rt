@@ -20,7 +20,7 @@ pub trait Input: Source {
     /// # Errors
     ///
     /// The errors of [`Read::read_to_end`], also of kind `OutOfMemory` if an allocation for the
-    /// bytes fails. The bytes that were read before the error are lost then.
+    /// bytes fails. The bytes that were read before the error are lost.
     fn read_rest(&mut self, alloc: Global) -> io::Result<Vec<u8>>
         ensures bytes { IfOk result (λ bytes. ReadToEnd (Self.stream.remaining self.old) bytes.items
             (Self.stream.remaining self.new)) }

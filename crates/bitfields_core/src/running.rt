@@ -41,10 +41,10 @@ pub enum NamedOrder {
 /// the line can't be printed, the status stays the same.
 ///
 /// The input is any `Read`. The output and the stream for faults are any `Write`, or a borrowed
-/// target. The output is written and flushed only if the whole layout succeeded: at a status of 2,
-/// 3 or 4 nothing was written, and at a status of 5 only if a request to the output itself failed.
-/// After a failed request, no more requests are made to the input or the output. At a status of 0
-/// nothing is printed on `faults`.
+/// target. The output is written and flushed only if the whole layout succeeded. If the status is 2,
+/// 3 or 4, nothing was written. If it is 5, something was written only if a request to the output
+/// itself failed. After a failed request, no more requests are made to the input or the output. If
+/// the status is 0, nothing is printed on `faults`.
 pub fn run<R: Input, W: Target, X: Target>(
     alloc: Global,
     words: &[String],

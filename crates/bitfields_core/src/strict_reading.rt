@@ -55,7 +55,7 @@ pub fn read_packed_from<R: BitRead>(
 ///
 /// # Errors
 ///
-/// `PaddingNotZero` if the bits of a field `pN` or `a` are not all 0. These bits are read then.
+/// `PaddingNotZero` if the bits of a field `pN` or `a` are not all 0. These bits have been read.
 /// Otherwise, the errors of [`unpack_field`].
 fn read_exact_field<R: BitRead>(
     field: Field,

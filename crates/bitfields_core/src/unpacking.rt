@@ -50,9 +50,9 @@ pub fn unpack<E: Endianness, R: Source>(
 ///
 /// # Errors
 ///
-/// At the first field whose call returns an error, at the first constant whose bits hold another
-/// number, or at the first field for whose bytes or line an allocation fails. No call is made after
-/// it.
+/// A fault at the first field whose call returns an error, at the first constant whose bits hold
+/// another number, or at the first field for whose bytes or line an allocation fails. No call is made
+/// after it.
 pub fn unpack_from<R: BitRead>(
     alloc: Global,
     fields: &[Field],
@@ -82,7 +82,7 @@ pub fn unpack_from<R: BitRead>(
 ///
 /// # Errors
 ///
-/// `ConstantDiffers` if the bits of a constant hold another number. These bits are read then.
+/// `ConstantDiffers` if the bits of a constant hold another number. These bits have been read.
 /// Otherwise, the reason for the reader's error.
 pub fn unpack_field<R: BitRead>(
     field: Field,

@@ -53,7 +53,7 @@ fn read_values(alloc: Global, fields: &[Field], lines: &[&[u8]]) -> Result<Vec<F
 ///
 /// # Errors
 ///
-/// `OutOfMemory` (field 0) if an allocation fails. No value is appended then.
+/// `OutOfMemory` (field 0) if an allocation fails. If so, no value is appended.
 pub fn push_value(values: &mut Vec<FieldValue>, value: Option<FieldValue>) -> Result<(), Fault>
     ensures pushed { OnOk result (values.new.items ≡ values.old.items ++ value_list value) }
     ensures memory { IsOkUnless result (fault 0 Reason.OutOfMemory) }

@@ -15,8 +15,8 @@ use crate::write::{BitWrite, BitWriteExt};
 ///
 /// # Errors
 ///
-/// `VariableWidthOverflow` for more than 31 leading zeros. The zeros and the one after them are
-/// read then, and the reader continues after them. Otherwise, the errors of the reader.
+/// `VariableWidthOverflow` for more than 31 leading zeros. The zeros and the one after them have
+/// been read, and the reader continues after them. Otherwise, the errors of the reader.
 ///
 /// # Examples
 ///
@@ -59,7 +59,7 @@ pub fn read_se<R: BitRead>(reader: &mut R) -> Result<i32, Error>
 ///
 /// # Errors
 ///
-/// `Checked` for `u32::MAX`, which has no encoding. Nothing is written then. Otherwise, the errors of the sink.
+/// `Checked` for `u32::MAX`, which has no encoding. If so, nothing is written. Otherwise, the errors of the sink.
 pub fn write_ue<W: BitWrite>(writer: &mut W, value: u32) -> Result<(), Error>
     ensures { WritesAll W.sink (ue_writes W.sink.order value) writer.old result writer.new }
 {
@@ -76,7 +76,7 @@ pub fn write_ue<W: BitWrite>(writer: &mut W, value: u32) -> Result<(), Error>
 ///
 /// # Errors
 ///
-/// `Checked` for `i32::MIN`, which has no encoding. Nothing is written then. Otherwise, the errors of the sink.
+/// `Checked` for `i32::MIN`, which has no encoding. If so, nothing is written. Otherwise, the errors of the sink.
 pub fn write_se<W: BitWrite>(writer: &mut W, value: i32) -> Result<(), Error>
     ensures { WritesAll W.sink (se_writes W.sink.order value) writer.old result writer.new }
 {

@@ -162,8 +162,8 @@ impl<S: Source> Port<S> {
     /// # Errors
     ///
     /// `EndOfInput` if the stream refuses with the kind `UnexpectedEof`, `OutOfMemory` if with the
-    /// kind `OutOfMemory`, and otherwise `Stream` with the kind of the refusal. No byte is counted
-    /// as fetched then.
+    /// kind `OutOfMemory`, and otherwise `Stream` with the kind of the refusal. After an error, no
+    /// byte is counted as fetched.
     #[inline(always)]
     pub fn fetch(&mut self, buf: &mut [u8]) -> Result<(), Error>
         ensures fetches { Fetches (MayRefuseRead S.stream)
@@ -217,7 +217,7 @@ impl<S: Target> Port<S> {
     /// # Errors
     ///
     /// `OutOfMemory` if the stream refuses with the kind `OutOfMemory`, and otherwise `Stream` with
-    /// the kind of the refusal. No byte is counted as sent then.
+    /// the kind of the refusal. After an error, no byte is counted as sent.
     #[inline(always)]
     pub fn send(&mut self, bytes: &[u8]) -> Result<(), Error>
         ensures { Sends (MayRefuseWrite S.stream) (target_state S.stream self.old) bytes.now result
@@ -282,7 +282,7 @@ impl<S: SeekSource> Port<S> {
     /// # Errors
     ///
     /// `OutOfMemory` if the stream refuses with the kind `OutOfMemory`, and otherwise `Stream` with
-    /// the kind of the refusal. The position is unchanged then.
+    /// the kind of the refusal. After an error, the position is unchanged.
     pub fn seek(&mut self, to: SeekFrom) -> Result<u64, Error>
         // One request is made. The count of fetched bytes restarts at 0, or is unchanged if the
         // request is refused.

@@ -68,7 +68,7 @@ impl<N: Counter, E: Endianness> BitCounter<N, E> {
     ///
     /// # Errors
     ///
-    /// `CounterOverflow` if the sum is above the greatest number of N. Nothing is added then.
+    /// `CounterOverflow` if the sum is above the greatest number of N. If so, nothing is added.
     #[inline(always)]
     fn add(&mut self, bits: u128) -> Result<(), Error>
         ensures { CountsWord ⟦<BitCounter<N, E> as BitWrite>⟧.sink bits self.old result self.new }

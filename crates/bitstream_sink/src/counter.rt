@@ -39,7 +39,7 @@ pub trait Counter: Default
     ///
     /// # Errors
     ///
-    /// `Overflowed` if the sum is above the greatest number. Nothing is added then.
+    /// `Overflowed` if the sum is above the greatest number. If so, nothing is added.
     fn checked_add_assign(&mut self, other: Self) -> Result<(), Overflowed>
         // It succeeds exactly if the sum is not above the greatest number.
         ensures holds { IsOk result ↔ (value self.old + value other ≤ greatest) }

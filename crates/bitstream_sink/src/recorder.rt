@@ -140,7 +140,7 @@ impl<N, E: Endianness, A: Allocator> BitRecorder<N, E, A> {
     ///
     /// # Errors
     ///
-    /// `Failed` if the recorder has failed. Nothing is written then. Otherwise, the errors of
+    /// `Failed` if the recorder has failed. If so, nothing is written. Otherwise, the errors of
     /// [`write_bytes`](BitWrite::write_bytes) and
     /// [`write_unsigned_var`](BitWrite::write_unsigned_var) of the sink. If the second call returns
     /// an error, the whole bytes stay written.

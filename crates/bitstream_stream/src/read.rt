@@ -51,7 +51,7 @@ pub trait BitRead {
     ///
     /// # Errors
     ///
-    /// `ReadBits` if the type has fewer than `bits` bits. No bit is taken then.
+    /// `ReadBits` if the type has fewer than `bits` bits. If so, no bit is taken.
     fn read_unsigned_counted<C: Count, U: UnsignedInteger>(&mut self, bits: C) -> Result<U, Error>
         ensures reads { Reads source (unsigned_decoder source.order U.BITS_SIZE (C.number bits))
             self.old (result_map U.value result) self.new };
@@ -60,7 +60,7 @@ pub trait BitRead {
     ///
     /// # Errors
     ///
-    /// `ReadBits` if the type has fewer than `bits` bits. No bit is taken then.
+    /// `ReadBits` if the type has fewer than `bits` bits. If so, no bit is taken.
     fn read_signed_counted<C: SignedCount, S: SignedInteger>(&mut self, bits: C) -> Result<S, Error>
         ensures reads { Reads source (signed_decoder source.order S.BITS_SIZE (C.number bits))
             self.old (result_map S.integer result) self.new };
@@ -123,7 +123,7 @@ pub trait BitRead {
     ///
     /// # Errors
     ///
-    /// `NoSignBit` at 0 bits. No bit is taken then. Otherwise the errors of
+    /// `NoSignBit` at 0 bits. If so, no bit is taken. Otherwise the errors of
     /// [`read_signed_counted`](BitRead::read_signed_counted).
     fn read_signed_var<S: SignedInteger>(&mut self, bits: u32) -> Result<S, Error>
         ensures reads { Reads source (signed_decoder source.order S.BITS_SIZE bits)
@@ -152,7 +152,7 @@ pub trait BitRead {
     ///
     /// # Errors
     ///
-    /// `err` if the number is not `V::BITS`. Its bits are taken then. Every other error is
+    /// `err` if the number is not `V::BITS`. If so, its bits have been taken. Every other error is
     /// converted into an E.
     fn read_const<B: Width, V: Width, E: From<Error> + Drop>(&mut self, err: E) -> Result<(), E>
         requires word { B.BITS ≤ 32 }
@@ -168,8 +168,8 @@ pub trait BitRead {
     ///
     /// # Errors
     ///
-    /// `RunTooLong` if 4294967296 (2^32) bits come before any stop bit. These bits are taken then,
-    /// and the reader has failed.
+    /// `RunTooLong` if 4294967296 (2^32) bits come before any stop bit. These bits have been
+    /// taken, and the reader has failed.
     fn read_unary<S: Width>(&mut self) -> Result<u32, Error>
         requires { S.BITS < 2 }
         ensures reads { Reads source (unary_decoder (S.BITS == 1)) self.old result self.new }
@@ -232,7 +232,7 @@ pub trait BitRead {
     ///
     /// # Errors
     ///
-    /// `OutOfMemory` if an allocation for the bytes fails. The reader has failed then.
+    /// `OutOfMemory` if an allocation for the bytes fails. If so, the reader has failed.
     fn read_to_vec<A: Allocator>(&mut self, alloc: A, bytes: usize) -> Result<Vec<u8, A>, Error>
         ensures reads { ReadsGrowing source (bytes_decoder source.order bytes)
             self.old (result_map (λ v. v.items) result) self.new }
@@ -313,8 +313,8 @@ pub trait BitRead {
     ///
     /// `VariableWidthOverflow` if the number does not fit in U, or if a group begins beyond the
     /// bits of U. `RedundantGroup` if there are two or more groups and the last one is 0. So each
-    /// number has only one accepted word. The groups up to the faulty one are taken then, and the
-    /// reader continues after them.
+    /// number has only one accepted word. After an error, the groups up to the faulty one have been
+    /// taken, and the reader continues after them.
     fn read_unsigned_vbr<F: Width, U: UnsignedInteger>(&mut self) -> Result<U, Error>
         requires some { 2 ≤ F.BITS }
         requires within { F.BITS < U.BITS_SIZE }

@@ -50,7 +50,7 @@ impl<N: Counter> BytesWritten<N> {
     ///
     /// # Errors
     ///
-    /// `CounterOverflow` if the sum is above the greatest number of N. Nothing is added then.
+    /// `CounterOverflow` if the sum is above the greatest number of N. If so, nothing is added.
     fn add(&mut self, bytes: usize) -> Result<(), Error>
         ensures { (buffer : List ℕ) → length buffer ≡ bytes
             → ByteWrites ⟦<BytesWritten<N> as ByteWrite>⟧.sink buffer self.old result self.new }

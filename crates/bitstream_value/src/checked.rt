@@ -1,4 +1,4 @@
-//! Checked values, read and written.
+//! Reads and writes checked values.
 ghost use Rattle.std.specs.Prelude.{◌≡◌, ℤ, Bool, List, length, IfOk};
 ghost use Rattle.bitstream_count.specs.Codec.{Decoder};
 ghost use Rattle.bitstream_number.specs.Word.{Order};
@@ -73,7 +73,7 @@ pub trait CheckablePrimitive: Checkable {
     ///
     /// # Errors
     ///
-    /// `ReadBits` if the type has fewer than `count` bits. No bit is read then.
+    /// `ReadBits` if the type has fewer than `count` bits. If so, no bit is read.
     fn read<R: BitRead>(reader: &mut R, count: Self::CountType) -> Result<Self, Error>
         ensures reads { Reads R.source (reads R.source.order count)
             reader.old (result_map counted result) reader.new };

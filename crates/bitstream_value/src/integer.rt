@@ -61,7 +61,7 @@ pub trait Integer: Sized {
     ///
     /// `ReadBits` if the type has fewer than `bits` bits. `NoSignBit` for a signed number of 0
     /// bits. `BoolWidth` for a `bool` if `bits` is not 1. `NonZeroWidth` for a `NonZero` if `bits`
-    /// is at least the size of its type in bits. No bit of the value is read then.
+    /// is at least the size of its type in bits. If so, no bit of the value is read.
     fn read_var<C: Count, R: BitRead>(reader: &mut R, bits: C) -> Result<Self, Error>
         // It follows the type's decoder at `bits` bits.
         ensures reads { Reads R.source (reads R.source.order (C.number bits))
@@ -73,8 +73,8 @@ pub trait Integer: Sized {
     ///
     /// # Errors
     ///
-    /// `Checked(ExcessiveValue)` if the value needs more than `B::BITS` bits. No bit of it is
-    /// written then.
+    /// `Checked(ExcessiveValue)` if the value needs more than `B::BITS` bits. If so, no bit of it is
+    /// written.
     fn write<B: Width, W: BitWrite>(self, writer: &mut W) -> Result<(), Error>
         requires { IsWidth B.BITS }
         ensures writes { WritesAll W.sink (writes W.sink.order B.BITS self)
@@ -89,8 +89,8 @@ pub trait Integer: Sized {
     ///
     /// `NoSignBit`, `BoolWidth` and `NonZeroWidth` as for [`read_var`](Integer::read_var).
     /// Otherwise, `Checked(ExcessiveBits)` if the type has fewer than `bits` bits. Otherwise,
-    /// `Checked(ExcessiveValue)` if the value needs more than `bits` bits. No bit of the value is
-    /// written then.
+    /// `Checked(ExcessiveValue)` if the value needs more than `bits` bits. After each of these errors, no bit
+    /// of the value is written.
     fn write_var<C: Count, W: BitWrite>(self, writer: &mut W, bits: C) -> Result<(), Error>
         ensures writes { WritesAll W.sink (writes W.sink.order (C.number bits) self)
             writer.old result writer.new };
@@ -123,7 +123,7 @@ pub trait VBRInteger: Integer {
     ///
     /// `VariableWidthOverflow` if a number does not fit its type, or if a group begins after the
     /// type's bits. `RedundantGroup` if a number has two or more groups and the last group is 0.
-    /// The groups up to the one that shows the error are read then.
+    /// The groups up to the one that shows the error have been read.
     fn read_vbr<F: Width, R: BitRead>(reader: &mut R) -> Result<Self, Error>
         requires { IsFieldSize F.BITS }
         ensures reads { Reads R.source (reads_vbr R.source.order F.BITS)

@@ -48,7 +48,7 @@ fn write_whole<T: ToBitStream<Error = Error>, W: BitWrite>(
     writer.byte_align()
 }
 
-/// Returns the first error of writing the value where there is room for all its bits, or `other` if there is none.
+/// Returns the first error of writing the value with room for all its bits, or `other` if there is no such error.
 #[inline(never)]
 fn misfit_or<E: Endianness, T: ToBitStream<Error = Error>>(value: &T, other: Error) -> Error
     requires same { (error own : Error) → T.becomes error own → own ≡ error }
@@ -69,7 +69,7 @@ fn misfit_or<E: Endianness, T: ToBitStream<Error = Error>>(value: &T, other: Err
 ///
 /// The first error of a part of the value, such as `Checked` for a number that does not fit its bits, whatever the
 /// length of the buffer. If all parts fit, `Stream(WriteZero)` if the buffer is too short. After an error, some bytes
-/// of the buffer may be written.
+/// of the buffer may have been written.
 #[inline(always)]
 pub fn pack_into<'a, E: Endianness, T: ToBitStream<Error = Error>>(
     value: &T,

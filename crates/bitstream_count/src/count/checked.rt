@@ -203,7 +203,7 @@ impl<const MAX: u32, U: UnsignedInteger> Checked<BitCount<MAX>, U> {
         Ok(Checked { count, value })
     }
 
-    /// Returns the value with a count of BITS bits, at most the type's size in bits.
+    /// Returns the value with a count of BITS bits. BITS is at most the type's size in bits.
     ///
     /// # Errors
     ///
@@ -237,7 +237,7 @@ impl<const MAX: u32, S: SignedInteger> Checked<SignedBitCount<MAX>, S> {
         Ok(Checked { count, value })
     }
 
-    /// Returns the value with a count of BITS bits, at most the type's size in bits.
+    /// Returns the value with a count of BITS bits. BITS is at most the type's size in bits.
     ///
     /// # Errors
     ///
@@ -255,7 +255,7 @@ impl<const MAX: u32, S: SignedInteger> Checked<SignedBitCount<MAX>, S> {
 }
 
 impl<const BITS: u32, U: UnsignedInteger> Checked<FixedBitCount<BITS>, U> {
-    /// Returns the value with a count of BITS bits, at most the type's size in bits.
+    /// Returns the value with a count of BITS bits. BITS is at most the type's size in bits.
     ///
     /// # Errors
     ///
@@ -274,7 +274,7 @@ impl<const BITS: u32, U: UnsignedInteger> Checked<FixedBitCount<BITS>, U> {
 }
 
 impl<const BITS: u32, S: SignedInteger> Checked<FixedSignedBitCount<BITS>, S> {
-    /// Returns the value with a count of BITS bits, at most the type's size in bits.
+    /// Returns the value with a count of BITS bits. BITS is at most the type's size in bits.
     ///
     /// # Errors
     ///

@@ -91,7 +91,7 @@ pub trait BitWrite2 {
             (buffer sink.order (value_bytes F.order V.be_bytes V.le_bytes value))
             self.old result self.new };
 
-    /// Writes `bits` bits of 0, as [`BitWrite::pad`].
+    /// Writes `bits` zeros, as [`BitWrite::pad`].
     fn pad(&mut self, bits: u32) -> Result<(), Error>
         ensures writes { Writes sink (zeros bits) self.old result self.new };
 

@@ -46,7 +46,7 @@ pub enum WriteCall {
     SignedVbr8(i64),
     /// Bytes.
     Bytes(ByteList),
-    /// This number of bits of 0.
+    /// This number of zeros.
     Pad(u32),
     /// Bits of 0 up to the next byte boundary.
     Align,

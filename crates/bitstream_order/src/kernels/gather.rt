@@ -25,7 +25,7 @@ pub fn unused_bits(n: u32) -> u32
 ///
 /// # Errors
 ///
-/// The errors of [`Port::fetch`]. No byte is fetched then.
+/// The errors of [`Port::fetch`]. After an error, no byte has been fetched.
 #[inline(always)]
 pub fn take_bits<S: Source, E: Endianness, U: UnsignedInteger>(
     port: &mut Port<S>,

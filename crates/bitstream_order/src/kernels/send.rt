@@ -16,7 +16,7 @@ use bitstream_number::number::{Numeric, Primitive, UnsignedInteger};
 ///
 /// # Errors
 ///
-/// The errors of [`Port::send`]. None of these bits is counted as sent then.
+/// The errors of [`Port::send`]. After an error, none of these bits is counted as sent.
 #[inline(always)]
 pub fn send_prefix<T: Target, E: Endianness, U: UnsignedInteger>(
     port: &mut Port<T>,

@@ -16,7 +16,7 @@ use bitstream_count::error::Error;
 ///
 /// # Errors
 ///
-/// The errors of [`Port::fetch`]. No byte is fetched then.
+/// The errors of [`Port::fetch`]. After an error, no byte has been fetched.
 #[inline(always)]
 fn fetch_byte<S: Source>(port: &mut Port<S>) -> Result<u8, Error>
     ensures { FetchesByte (MayRefuseRead S.stream) (source_state S.stream port.old) result
@@ -44,8 +44,8 @@ pub struct TakenUnary {
 ///
 /// # Errors
 ///
-/// The errors of [`Port::fetch`]. The bits of all bytes that were fetched before the error are
-/// taken then.
+/// The errors of [`Port::fetch`]. After an error, the bits of all bytes that were fetched before it
+/// have been taken.
 #[inline(always)]
 pub fn take_unary<S: Source, E: Endianness>(
     port: &mut Port<S>,

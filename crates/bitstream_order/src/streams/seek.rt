@@ -27,7 +27,7 @@ pub trait SeekSource: Source {
     ///
     /// # Errors
     ///
-    /// The errors of [`Seek::seek`] of the source. The position is unchanged then.
+    /// The errors of [`Seek::seek`] of the source. After an error, the position is unchanged.
     fn seek(&mut self, to: SeekFrom) -> io::Result<u64>
         // If the source's position is known, the new position is the result, or the old one if the
         // seek is refused. If its bytes are known too, the result is the position that `to` means.

@@ -31,7 +31,7 @@ pub trait Recorder: BitWrite + Sized {
     ///
     /// # Errors
     ///
-    /// The errors of `f`. The candidate stays as `f` left it then, and this recorder is lost.
+    /// The errors of `f`. If so, the candidate stays as `f` left it, and this recorder is lost.
     final fn best<F, X>(self, candidate: &mut Self, f: X) -> Result<Self, F>
     where
         Self: Drop,

@@ -297,7 +297,7 @@ impl<R: Source, E: Endianness> BitReader<R, E> {
         self.fetch_aligned(buf)
     }
 
-    /// Drops the queue. Its bits are taken then.
+    /// Drops the queue. Its bits count as taken.
     #[inline(always)]
     fn drop_queue(&mut self)
         ensures { self.new ≡ aligned_reader self.old }

@@ -69,7 +69,7 @@ impl<S: Copy + Eq, A: Allocator> HuffmanTree<S, A> {
     ///
     /// # Errors
     ///
-    /// `AllocError` if an allocation fails. Both trees are dropped then.
+    /// `AllocError` if an allocation fails. If so, both trees are dropped.
     pub fn node(zero: Self, one: Self) -> Result<Self, AllocError>
         ensures tree { IfOk result (λ code. tree_of code ≡ two_sides (tree_of zero) (tree_of one)) }
     {

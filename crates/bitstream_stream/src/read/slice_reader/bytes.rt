@@ -63,7 +63,7 @@ impl<'a, E: Endianness> SliceReader<'a, E> {
     ///
     /// # Errors
     ///
-    /// `EndOfInput` if fewer bytes are left. The reader has failed then. `Failed` if it had failed
+    /// `EndOfInput` if fewer bytes are left. If so, the reader has failed. `Failed` if it had failed
     /// before.
     pub fn take_bytes(&mut self, count: usize) -> Result<&'a [u8], Error>
         // Takes only the bits up to a whole byte and then `count` bytes, or returns an error.
@@ -92,7 +92,7 @@ impl<'a, E: Endianness> SliceReader<'a, E> {
     ///
     /// # Errors
     ///
-    /// `EndOfInput` if fewer bytes are left. This reader has failed then. `Failed` if it had failed
+    /// `EndOfInput` if fewer bytes are left. If so, this reader has failed. `Failed` if it had failed
     /// before.
     pub fn part(&mut self, count: usize) -> Result<SliceReader<'a, E>, Error>
         // Takes only the bits up to a whole byte and then `count` bytes, or returns an error.

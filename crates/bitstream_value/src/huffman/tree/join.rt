@@ -11,7 +11,7 @@ use std::alloc::{AllocError, Allocator};
 ///
 /// # Errors
 ///
-/// `AllocError` if an allocation fails. Both trees are dropped then.
+/// `AllocError` if an allocation fails. If so, both trees are dropped.
 pub(super) fn joined<S: Copy, A: Allocator>(
     first: HuffmanTree<S, A>,
     second: HuffmanTree<S, A>,
