@@ -1,9 +1,6 @@
--- Lists that fill a stated size: they are read back, and what the loop in code returns.
-use Rattle.std.proofs.Common.{◌≡◌, ◌∙◌, ◌⊎◌, inl, inr, ℕ, zero, suc, ◌+◌, ◌-◌, ◌*◌, ◌<◌, ◌≤◌, Bool, true, false, List, [], ◌∷◌, ◌++◌, drop, length, length-append, append-nil, append_assoc, Some, Result, Ok, Err, refl, sym, ap, subst, arith}
-use Rattle.std.specs.Prelude.{◌↔◌, IsTrue, IfSome, flat_map, option_map}
-use Rattle.std.specs.List.{All, AllByRecursion}
-use Rattle.std.proofs.Math.Seq.{drop-append_seam}
-use Rattle.std.proofs.lemmas.List.Elements.{recursion_from_All}
+-- Lists that fill a stated size: what the loop in code returns.
+use Rattle.std.proofs.Common.{◌≡◌, ◌∙◌, inl, inr, ℕ, suc, ◌+◌, ◌-◌, ◌<◌, ◌≤◌, Bool, true, false, List, [], ◌∷◌, ◌++◌, length, append-nil, Some, Result, Ok, Err, refl, sym, ap, subst, arith}
+use Rattle.std.specs.Prelude.{◌↔◌, IsTrue, IfSome, option_map}
 use Rattle.bitstream_count.specs.declared.error.Error.{Error}
 use Rattle.bitstream_count.specs.declared.error.Error.TheVariants.{EndOfInput, OutOfMemory}
 use Rattle.bitstream_count.specs.Codec.{Prefix, Incomplete}
@@ -15,90 +12,13 @@ use Rattle.bitstream_stream.proofs.Reading.ReadsLemmas.{Consumes-known, parts_le
 use Rattle.bitstream_value.specs.Grows.{GrowingOutcome, by_reads, in_a_read, between_reads}
 use Rattle.bitstream_value.proofs.GrowsLemmas.{own_grown-answer, go_grown, vec-grown}
 use Rattle.bitstream_io.specs.Refusal.{TrueEnds}
-use Rattle.bitstream_io.specs.Callers.{Decoder, Encoder, Done, Order, GrowsOwn, OwnAnswer, Reads, bits, bits_left, sure_answer, write_sequence}
-use Rattle.bitstream_io.specs.ReadBack.{IsReadAs}
-use Rattle.bitstream_io.proofs.SequenceLemmas.{write_sequence-append}
-use Rattle.bitstream_io.proofs.CallerLemmas.{Packs}
-use Rattle.bitstream_format.specs.Sizes.{item_and, limited-goes}
+use Rattle.bitstream_io.specs.Callers.{Decoder, Done, Order, GrowsOwn, OwnAnswer, Reads, bits, bits_left, sure_answer}
 use Rattle.bitstream_format.specs.Within.{UnlessMemory}
 use Rattle.bitstream_format.proofs.WithinLemmas.{fine_by, stored-by}
+use Rattle.bitstream_format.specs.SizeLaws.{items_and, items_and-push, none_left, items-next, items-none, items-step}
 use Rattle.bitstream_format.specs.Filled.{next_item, items_from, filled_decoder}
 
--- ---- items that fill their bytes
-
--- more items before the result of the others
-abbrev pub items_and : {A E : Type 0} → List A → Result (List A) E → Result (List A) E
-items_and found (Ok xs) = Ok (found ++ xs)
-items_and found (Err e) = Err e
-
-items_and-push : {A E : Type 0} (found : List A) (x : A) (r : Result (List A) E)
-    → items_and found (item_and x r) ≡ items_and (found ++ x ∷ []) r
-items_and-push found x (Ok xs) = ap Ok (sym (append_assoc found (x ∷ []) xs))
-items_and-push found x (Err e) = refl
-
-none_left : {X : Type 0} (l : List X) → length l ≡ 0 → l ≡ []
-none_left [] is = refl
-none_left (x ∷ xs) is = let no : length (x ∷ xs) ≡ 0 = is in absurd (omega (arith, no))
-
-module _ {A E : Type 0} (decoder : Decoder (Result A E)) (err : E) (own : Error → E) (ended : E → E) where
-  items-next : (p most : ℕ) (l : List Bool) → (length l ≡ 0 → ⊥)
-      → items_from decoder err own ended p l (suc most) ≡ next_item err own ended (decoder.reads p l)
-      (λ n. items_from decoder err own ended (p + n) (drop n l) most)
-  items-next p most [] some = absurd (some refl)
-  items-next p most (b ∷ bs) some = refl
-
-  items-none : (p : ℕ) (l : List Bool) → (length l ≡ 0 → ⊥) → items_from decoder err own ended p l 0 ≡ Err err
-  items-none p [] some = absurd (some refl)
-  items-none p (b ∷ bs) some = refl
-
-  items-step : (x : A) (p most : ℕ) (l w rest : List Bool) → l ≡ w ++ rest → (length l ≡ 0 → ⊥)
-      → decoder.reads p (w ++ rest) ≡ Done (length w) (Ok (Ok x))
-      → items_from decoder err own ended p l (suc most)
-      ≡ item_and x (items_from decoder err own ended (p + length w) rest most)
-  items-step x p most l w rest parts some found =
-      let whole : decoder.reads p l ≡ Done (length w) (Ok (Ok x)) = ap (decoder.reads p) parts ∙ found in
-      let behind : drop (length w) l ≡ rest = ap (drop (length w)) parts ∙ drop-append_seam w rest in
-      items-next p most l some
-      ∙ ap (λ z. next_item err own ended z (λ n. items_from decoder err own ended (p + n) (drop n l) most)) whole
-      ∙ ap (λ z. item_and x (items_from decoder err own ended (p + length w) z most)) behind
-
-  -- items that were written are read back
-  items-again : (write : A → List Encoder) (xs : List A) → AllByRecursion (λ x. IsReadAs (write x) decoder (Ok x)) xs
-      → AllByRecursion (λ x. (at : ℕ) → 8 ≤ length (write_sequence (write x) at)) xs
-      → (at p most : ℕ) → length (write_sequence (flat_map write xs) at) ≤ 8 * most
-      → items_from decoder err own ended p (write_sequence (flat_map write xs) at) most ≡ Ok xs
-  items-again write [] back some at p most le = refl
-  items-again write (x ∷ xs) back some at p zero le =
-      let w = write_sequence (write x) at in
-      let all = write_sequence-append (write x) (flat_map write xs) at in
-      let both = length-append w (write_sequence (flat_map write xs) (at + length w)) in
-      let sum : length (write_sequence (write x ++ flat_map write xs) at)
-      ≡ length w + length (write_sequence (flat_map write xs) (at + length w)) = ap length all ∙ both in
-      let wide : 8 ≤ length w = some.0 at in
-      absurd (omega (arith, le, sum, wide))
-  items-again write (x ∷ xs) back some at p (suc most) le =
-      let w = write_sequence (write x) at in
-      let rest = write_sequence (flat_map write xs) (at + length w) in
-      let all : write_sequence (write x ++ flat_map write xs) at ≡ w ++ rest =
-      write_sequence-append (write x) (flat_map write xs) at in
-      let sum : length (write_sequence (write x ++ flat_map write xs) at) ≡ length w + length rest =
-      ap length all ∙ length-append w rest in
-      let wide : 8 ≤ length w = some.0 at in
-      let fewer : length rest ≤ 8 * most = omega (arith, le, sum, wide) in
-      let long : length (write_sequence (write x ++ flat_map write xs) at) ≡ 0 → ⊥ = λ none. omega (arith, none, sum, wide) in
-      items-step x p most _ w rest all long (back.0 at p rest)
-      ∙ ap (item_and x) (items-again write xs back.1 some.1 (at + length w) (p + length w) most fewer)
-
--- items of n bytes are read back
-pub filled-read : {A E : Type 0} (decoder : Order → Decoder (Result A E)) (err : E) (own : Error → E) (ended : E → E)
-    (o : Order) (n : ℕ) (write : A → List Encoder) (xs : List A) → Packs (flat_map write xs) (8 * n)
-    → All (λ x. IsReadAs (write x) (decoder o) (Ok x)) xs
-    → All (λ x. (at : ℕ) → 8 ≤ length (write_sequence (write x) at)) xs
-    → IsReadAs (flat_map write xs) (filled_decoder decoder err own ended o n) (Ok xs)
-filled-read decoder err own ended o n write xs packs back some =
-    (limited-goes true n (λ w. items_from (decoder o) err own ended 0 w n) o (flat_map write xs) (Ok xs) packs
-    (λ at. items-again (decoder o) err own ended write xs (recursion_from_All _ xs back) (recursion_from_All _ xs some) at 0 n
-    (let long = packs.size at in omega (arith, long)))).back
+-- ---- the loop over items
 
 -- the items so far: what the bits left are read as, after them, is what all bits are
 pub record ItemsSoFar {R A E : Type 0} (K : BitSource R) (decoder : Decoder (Result A E)) (err : E) (own : Error → E)

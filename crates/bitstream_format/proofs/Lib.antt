@@ -1,6 +1,10 @@
 mod DhcpLemmas
 mod Rows
+mod ChecksRows
 pub mod WithinLemmas
 pub mod FilledLemmas
 pub mod StatedLemmas
-pub mod VarintLemmas
+pub mod UntilLemmas
+pub mod BlocksLemmas
+pub mod RestLemmas
+pub mod ChecksLemmas

@@ -1,13 +1,11 @@
--- Parts of a stated size: they are read back, and what the reads and writes in code return.
-use Rattle.std.proofs.Common.{◌≡◌, ◌∙◌, ◌⊎◌, inl, inr, ℕ, ◌+◌, ◌*◌, ◌/◌, ◌^◌, ◌%◌, ◌<◌, ◌≤◌, ◌==◌, Option, None, Bool, true, false, List, [], ◌∷◌, ◌++◌, length, length-append, append-nil, Some, Result, Ok, Err, refl, sym, ap, subst, arith}
-use Rattle.std.specs.Prelude.{◌↔◌, if◌then◌else◌, IsTrue, IfSome, nat_lt, nat_le}
-use Rattle.std.specs.Result.{IsErrAnd}
+-- Parts of a stated size: what the reads and writes in code return.
+use Rattle.std.proofs.Common.{◌≡◌, ◌∙◌, inl, inr, ℕ, ◌+◌, ◌%◌, ◌≤◌, ◌==◌, Option, None, Bool, true, false, List, [], ◌∷◌, ◌++◌, length, length-append, Some, Result, Ok, Err, refl, sym, ap, subst, arith}
+use Rattle.std.specs.Prelude.{◌↔◌, if◌then◌else◌, IsTrue, IfSome}
 use Rattle.std.proofs.lemmas.Bool.{eq-eqb, ne_eqb}
 use Rattle.bitstream_count.specs.declared.error.Error.{Error}
-use Rattle.bitstream_count.specs.declared.error.Error.TheVariants.{CounterOverflow, EndOfInput, OutOfMemory}
-use Rattle.bitstream_count.specs.Codec.{Prefix, Incomplete, result_then, stores}
+use Rattle.bitstream_count.specs.declared.error.Error.TheVariants.{EndOfInput, OutOfMemory}
+use Rattle.bitstream_count.specs.Codec.{Prefix, Incomplete, stores}
 use Rattle.bitstream_io.specs.Refusal.{TrueEnds}
-use Rattle.bitstream_stream.specs.Sequence.{accepted_bits}
 use Rattle.bitstream_stream.specs.Reading.Reads.{BitSource, ReadsGrowing}
 use Rattle.bitstream_stream.specs.Reading.Reads.{had_failed as r_had_failed, was_done as r_was_done, was_refused as r_was_refused, memory_refused as r_memory_refused}
 use Rattle.bitstream_stream.specs.Reading.Reader.{new_reader_state}
@@ -17,58 +15,10 @@ use Rattle.bitstream_value.specs.Grows.{GrowingOutcome, by_reads, in_a_read, bet
 use Rattle.bitstream_value.specs.Lengths.{counted_bits, CountsBits, in_place, number_of}
 use Rattle.bitstream_stream.specs.Writing.Sink.{Sink, Writes, IsWithin, IsPastLimit, had_failed, was_rejected, past_limit, was_refused, was_done}
 use Rattle.bitstream_value.proofs.GrowsLemmas.{own_refused, go_grown, vec-grown}
-use Rattle.bitstream_value.proofs.LengthLemmas.{if-false}
-use Rattle.bitstream_value.proofs.LengthLemmas.{within as not_past}
-use Rattle.bitstream_io.specs.Callers.{Decoder, Encoder, Done, Order, High, AllAccepted, and_then, unsigned_decoder, GrowsOwn, OwnAnswer, Reads, bits, bits_left, same_error, sure_answer, unsigned, WritesAll, write_sequence, zeros}
-use Rattle.bitstream_io.specs.ReadBack.{IsReadAs}
-use Rattle.bitstream_io.proofs.CallerLemmas.{IsWritten, RoundTrip, Packs, own_grown_answered, Reads-pure, unsigned-back, unsigned-written}
+use Rattle.bitstream_io.specs.Callers.{Decoder, Encoder, Done, Order, GrowsOwn, OwnAnswer, Reads, bits, bits_left, same_error, sure_answer, WritesAll, zeros}
+use Rattle.bitstream_io.proofs.CallerLemmas.{own_grown_answered, Reads-pure}
 use Rattle.bitstream_io.proofs.ReadsLemmas.{Reads-same}
-use Rattle.bitstream_format.specs.Sizes.{limited-goes}
 use Rattle.bitstream_format.specs.Within.{fills, within, sized_decoder, UnlessMemory, size_encoder, size_of}
-
--- ---- the round trip
-
-module _ {A E : Type 0} (decoder : Order → Decoder (Result A E)) (err : E) (own : Error → E) (ended : E → E) (o : Order) where
-  within-again : (es : List Encoder) (a : A) → IsReadAs es (decoder o) (Ok a) → (at : ℕ)
-      → within (decoder o) err own ended (write_sequence es at) ≡ Ok a
-  within-again es a back at =
-      let w = write_sequence es at in
-      let found : (decoder o).reads 0 w ≡ Done (length w) (Ok (Ok a)) =
-      subst (λ (v : List Bool). (decoder o).reads 0 v ≡ Done (length w) (Ok (Ok a))) (append-nil w) (back at 0 []) in
-      rw (found, eq-eqb (length w) (length w) refl) refl
-
-  -- a part of n bytes is read back
-  pub sized-read : (n : ℕ) (es : List Encoder) (a : A) → Packs es (8 * n) → IsReadAs es (decoder o) (Ok a)
-      → IsReadAs es (sized_decoder decoder err own ended o n) (Ok a)
-  sized-read n es a packs back =
-      (limited-goes true n (within (decoder o) err own ended) o es (Ok a) packs (within-again es a back)).back
-
--- ---- the size that is written
-
-counted-accepted : (most : ℕ) (es : List Encoder) (len : ℕ) → AllAccepted es len
-    → len + length (write_sequence es len) ≤ most
-    → counted_bits most es len ≡ Ok (len + length (write_sequence es len))
-counted-accepted most [] len all le = ap Ok (omega arith)
-counted-accepted most (e ∷ es) len all le =
-    let w = accepted_bits (e len) in
-    let sum = length-append w (write_sequence es (len + length w)) in
-    ap (λ x. result_then x (λ word. if nat_lt most (len + length word) then Err CounterOverflow else counted_bits most es (len + length word))) all.0
-    ∙ if-false _ _ _ (not_past most (len + length w) (omega (arith, le, sum)))
-    ∙ counted-accepted most es (len + length w) all.1 (omega (arith, le, sum)) ∙ ap Ok (omega (arith, sum))
-
--- calls that are all accepted: their number of bits
-pub counted-is : (es : List Encoder) (m : ℕ) → Packs es m → m ≤ 18446744073709551615
-    → counted_bits 18446744073709551615 es 0 ≡ Ok m
-counted-is es m packs le =
-    let long = packs.size 0 in
-    let sum : 0 + length (write_sequence es 0) ≡ m = omega (arith, long) in
-    counted-accepted 18446744073709551615 es 0 (packs.accepted 0) (omega (arith, le, long)) ∙ ap Ok sum
-
--- the size is their number of bytes
-pub size-is : (o : Order) (width : ℕ) (es : List Encoder) (m : ℕ) → Packs es m → m ≤ 18446744073709551615
-    → size_encoder o width es ≡ unsigned o 64 width (m / 8)
-unfolding size_encoder
-size-is o width es m packs le = ap (size_of o width) (counted-is es m packs le)
 
 -- ---- a part that was read over its bytes alone
 
@@ -217,19 +167,6 @@ pub counts-is : (encoders : List Encoder) {r : Result ℕ Error}
     → CountsBits (λ x. x) 18446744073709551615 same_error encoders (Ok tt) r
     → counted_bits 18446744073709551615 encoders 0 ≡ r
 counts-is encoders {r = r} is = counted-by (counted_bits 18446744073709551615 encoders 0) r is
-
--- the size of calls that are all accepted, which are read back behind it
-pub size-written : (o : Order) (width : ℕ) (es : List Encoder) (m : ℕ) → Packs es m → m ≤ 18446744073709551615
-    → nat_le width 64 ≡ true → m / 8 < 2 ^ width → IsWritten (size_encoder o width es) width
-size-written o width es m packs le wide small =
-    subst (λ e. IsWritten e width) (sym (size-is o width es m packs le)) (unsigned-written o 64 width (m / 8) wide small)
-
-pub size-back : {A : Type 0} (o : Order) (width : ℕ) (es rest : List Encoder) (a : A) (m : ℕ) (f : ℕ → Decoder A)
-    → Packs es m → m ≤ 18446744073709551615 → nat_le width 64 ≡ true → m / 8 < 2 ^ width → RoundTrip (f (m / 8)) rest a
-    → RoundTrip (and_then (unsigned_decoder o 64 width) f) (size_encoder o width es ∷ rest) a
-size-back o width es rest a m f packs le wide small behind =
-    subst (λ e. RoundTrip (and_then (unsigned_decoder o 64 width) f) (e ∷ rest) a) (sym (size-is o width es m packs le))
-    (unsigned-back o width rest a 64 (m / 8) f wide small behind)
 
 -- the size of a part whose bits were counted is written
 pub size-wrote : {S : Type 0} (K : Sink S) (o : Order) (width : ℕ) (encoders : List Encoder) (r : Result ℕ Error) (s t : S)

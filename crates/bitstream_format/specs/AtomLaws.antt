@@ -4,10 +4,11 @@ use Rattle.std.specs.Prelude.{nat_le, nat_lt}
 use Rattle.std.specs.List.{All}
 use Rattle.std.proofs.lemmas.Bool.{leb-true}
 use Rattle.std.proofs.lemmas.Bool.Decides.{nat_tests}
-use Rattle.bitstream_io.specs.Callers.{Encoder, Order, FitsSignedBits, bit_decoder, unsigned_decoder, signed_decoder, bytes_decoder, unary_decoder, skip_decoder, option_decoder, if_any, non_zero, bit, unsigned, signed, unary_word, buffer, zeros}
+use Rattle.bitstream_io.specs.Callers.{Encoder, Order, FitsSignedBits, bit_decoder, unsigned_decoder, signed_decoder, bytes_decoder, unary_decoder, skip_decoder, option_decoder, if_any, non_zero, bit, unsigned, signed, unary_word, buffer, zeros, vbr, signed_vbr}
+use Rattle.bitstream_stream.specs.Reading.ReadTable.{groups_decoder, signed_groups_decoder}
 use Rattle.bitstream_value.specs.NonZero.{non_zero_decoder}
 use Rattle.bitstream_io.specs.ReadBack.{IsReadAs}
-use Rattle.bitstream_io.proofs.CallsBack.{bit-read, unsigned-read, signed-read, bytes-read, skip-read, unary-read, non_zero-read, option-read, value_in-fits}
+use Rattle.bitstream_io.proofs.CallsBack.{bit-read, unsigned-read, signed-read, bytes-read, skip-read, unary-read, non_zero-read, option-read, groups-read, signed_groups-read, value_in-fits}
 use Rattle.bitstream_io.proofs.CallerLemmas.{RoundTrip, Packs, packs-none, packs-more, packs-is, IsWritten}
 
 pub one-packs : {e : Encoder} {n : ℕ} → IsWritten e n → Packs (e ∷ []) n
@@ -37,6 +38,19 @@ skip-goes n = record { back = skip-read n }
 
 pub unary-goes : (stop : Bool) (k : ℕ) → k < 2 ^ 32 → RoundTrip (unary_decoder stop) (unary_word stop k ∷ []) k
 unary-goes stop k small = record { back = unary-read stop k small }
+
+module _ (strict : Bool) (o : Order) (field size : ℕ) (wide : nat_le 2 field ≡ true) (some : nat_le 1 size ≡ true) where
+  few : 0 < size
+  few = grind (arith, nat_tests)
+
+  pub vbr-goes : (v : ℕ) → v < 2 ^ size → RoundTrip (groups_decoder strict o field size (2 ^ size)) (vbr o field v ∷ []) v
+  vbr-goes v fits =
+      record { back = groups-read strict o field size (2 ^ size) v (leb-true 2 field wide) few (omega arith) fits }
+
+  pub signed_vbr-goes : (x : ℤ) → FitsSignedBits size x
+      → RoundTrip (signed_groups_decoder strict o field size) (signed_vbr o field x ∷ []) x
+  signed_vbr-goes x fits =
+      record { back = signed_groups-read strict o field size x (leb-true 2 field wide) few fits }
 
 module _ {A : Type 0} (after : ℕ → A) (o : Order) (size n v : ℕ) where
   pub non_zero-goes : (x : A) → nat_lt n size ≡ true → v - 1 < 2 ^ n → after (v - 1) ≡ x

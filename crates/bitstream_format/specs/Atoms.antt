@@ -3,17 +3,19 @@
 use Rattle.std.proofs.Common.{◌≡◌, ℕ, ◌-◌, ◌*◌, ◌^◌, ◌<◌, Bool, true, ℤ, List, [], ◌∷◌, length, Option}
 use Rattle.std.specs.Prelude.{nat_le, nat_lt}
 use Rattle.std.specs.List.{All}
-use Rattle.std.specs.Int.NonZero.{non_zero_u8_get, non_zero_u16_get, non_zero_u32_get, non_zero_u64_get}
+use Rattle.std.specs.Int.NonZero.{non_zero_u8_get, non_zero_u16_get, non_zero_u32_get, non_zero_u64_get, non_zero_u128_get}
 use Rattle.std.specs.declared.num.NonZeroU8.{NonZeroU8}
 use Rattle.std.specs.declared.num.NonZeroU16.{NonZeroU16}
 use Rattle.std.specs.declared.num.NonZeroU32.{NonZeroU32}
 use Rattle.std.specs.declared.num.NonZeroU64.{NonZeroU64}
+use Rattle.std.specs.declared.num.NonZeroU128.{NonZeroU128}
 use Rattle.bitstream_count.specs.Unary.{unary as unary_bits}
 use Rattle.bitstream_io.specs.Callers.{FitsSignedBits, bit_decoder, unsigned_decoder, signed_decoder, bytes_decoder, unary_decoder, skip_decoder, option_decoder, if_any, number_or_zero, bit, buffer, zeros, unary_word}
 use Rattle.bitstream_io.specs.Callers as call
 use Rattle.bitstream_value.specs.NonZero.{non_zero_decoder}
-use Rattle.bitstream_io.proofs.CallerLemmas.{bit-written, unsigned-written, signed-written, bytes-written, zeros-written, unary-written, non_zero-written, non_zero_u8-again, non_zero_u16-again, non_zero_u32-again, non_zero_u64-again, option_u8-again, option_u16-again, option_u32-again, option_u64-again}
-use Rattle.bitstream_format.specs.Format.{Plain}
+use Rattle.bitstream_io.proofs.CallerLemmas.{bit-written, unsigned-written, signed-written, bytes-written, zeros-written, unary-written, non_zero-written, non_zero_u8-again, non_zero_u16-again, non_zero_u32-again, non_zero_u64-again, option_u8-again, option_u16-again, option_u32-again, option_u64-again, non_zero_u128-again, option_u128-again, unsigned-accepted, signed-accepted, non_zero-accepted}
+pub use Rattle.bitstream_format.specs.Groups.{groups, signed_groups, ue, se}
+use Rattle.bitstream_format.specs.Format.{Plain, none_if, none_if-true}
 use Rattle.bitstream_format.specs.AtomLaws.{one-packs, bool-goes, unsigned-goes, signed-goes, bytes-goes, skip-goes, unary-goes, non_zero-goes, option-goes}
 
 -- a flag of one bit
@@ -25,6 +27,8 @@ bool = record {
   facts = λ b. [];
   round_trip = λ o b fits. bool-goes b;
   packs = λ o b fits. one-packs (bit-written b);
+  besides = λ x. [];
+  accepted = λ o x at more all. tt;
 }
 
 -- an unsigned number of n bits, in a type of `size` bits
@@ -36,6 +40,8 @@ unsigned size n le = record {
   facts = λ v. (v < 2 ^ n) ∷ [];
   round_trip = λ o v fits. unsigned-goes o size n v le fits;
   packs = λ o v fits. one-packs (unsigned-written o size n v le fits);
+  besides = λ v. none_if (nat_lt 0 n);
+  accepted = λ o v at some all. unsigned-accepted o size n v at (none_if-true (nat_lt 0 n) some) all.0;
 }
 
 -- a signed number of n bits, in a type of `size` bits
@@ -47,6 +53,8 @@ signed size n some le = record {
   facts = λ x. FitsSignedBits n x ∷ [];
   round_trip = λ o x fits. signed-goes o size n x some le fits;
   packs = λ o x fits. one-packs (signed-written o size n x some le fits);
+  besides = λ x. none_if (nat_lt 0 n);
+  accepted = λ o x at some all. signed-accepted o size n x at (none_if-true (nat_lt 0 n) some) all.0;
 }
 
 -- n bytes
@@ -58,6 +66,8 @@ bytes n = record {
   facts = λ xs. (length xs ≡ n) ∷ All (λ b. b < 256) xs ∷ [];
   round_trip = λ o xs fits. bytes-goes o n xs fits.0 fits.1;
   packs = λ o xs fits. one-packs (bytes-written o n xs fits.0);
+  besides = λ xs. (length xs ≡ n) ∷ All (λ b. b < 256) xs ∷ [];
+  accepted = λ o xs at fits all. fits;
 }
 
 -- n bits without a meaning: zeros when written, and any when read
@@ -69,6 +79,8 @@ pad n = record {
   facts = λ x. [];
   round_trip = λ o x fits. skip-goes n;
   packs = λ o x fits. one-packs (zeros-written n);
+  besides = λ x. [];
+  accepted = λ o x at more all. tt;
 }
 
 -- a unary number: k bits, and then the stop bit
@@ -80,6 +92,8 @@ unary stop = record {
   facts = λ k. (k < 2 ^ 32) ∷ [];
   round_trip = λ o k fits. unary-goes stop k fits;
   packs = λ o k fits. one-packs (unary-written stop k);
+  besides = λ k. (k < 2 ^ 32) ∷ [];
+  accepted = λ o k at fits all. fits;
 }
 
 -- a number from 1 on, in n bits that hold the number less 1: `after k` is the value k + 1
@@ -92,6 +106,8 @@ non_zero after get again size n less le = record {
   facts = λ x. (get x - 1 < 2 ^ n) ∷ [];
   round_trip = λ o x fits. non_zero-goes after o size n (get x) x less fits (again x);
   packs = λ o x fits. one-packs (non_zero-written o size n (get x) less fits);
+  besides = λ x. none_if (nat_lt 0 n);
+  accepted = λ o x at some all. non_zero-accepted o size n (get x) at less (none_if-true (nat_lt 0 n) some) all.0;
 }
 
 -- such a number or none, in n bits: 0 is none
@@ -104,6 +120,8 @@ option after get again size n le = record {
   facts = λ x. (number_or_zero get x < 2 ^ n) ∷ [];
   round_trip = λ o x fits. option-goes after o size n (number_or_zero get x) x le fits (again x);
   packs = λ o x fits. one-packs (unsigned-written o size n (number_or_zero get x) le fits);
+  besides = λ x. none_if (nat_lt 0 n);
+  accepted = λ o x at some all. unsigned-accepted o size n (number_or_zero get x) at (none_if-true (nat_lt 0 n) some) all.0;
 }
 
 -- a `NonZero<u8>` in n bits, which hold the number less 1
@@ -122,6 +140,10 @@ non_zero_u32 = non_zero call.non_zero_u32 non_zero_u32_get non_zero_u32-again 32
 abbrev pub non_zero_u64 : (n : ℕ) → nat_lt n 64 ≡ true → nat_le n 64 ≡ true → Plain NonZeroU64
 non_zero_u64 = non_zero call.non_zero_u64 non_zero_u64_get non_zero_u64-again 64
 
+-- a `NonZero<u128>` in n bits, which hold the number less 1
+abbrev pub non_zero_u128 : (n : ℕ) → nat_lt n 128 ≡ true → nat_le n 128 ≡ true → Plain NonZeroU128
+non_zero_u128 = non_zero call.non_zero_u128 non_zero_u128_get non_zero_u128-again 128
+
 -- a `NonZero<u8>` or none in n bits: 0 is none
 abbrev pub option_u8 : (n : ℕ) → nat_le n 8 ≡ true → Plain (Option NonZeroU8)
 option_u8 = option call.non_zero_u8 non_zero_u8_get option_u8-again 8
@@ -137,3 +159,7 @@ option_u32 = option call.non_zero_u32 non_zero_u32_get option_u32-again 32
 -- a `NonZero<u64>` or none in n bits: 0 is none
 abbrev pub option_u64 : (n : ℕ) → nat_le n 64 ≡ true → Plain (Option NonZeroU64)
 option_u64 = option call.non_zero_u64 non_zero_u64_get option_u64-again 64
+
+-- a `NonZero<u128>` or none in n bits: 0 is none
+abbrev pub option_u128 : (n : ℕ) → nat_le n 128 ≡ true → Plain (Option NonZeroU128)
+option_u128 = option call.non_zero_u128 non_zero_u128_get option_u128-again 128

@@ -40,6 +40,8 @@ case F wrap payload = record {
   made = λ s. IsCase wrap (payload s) s ∷ [];
   round_trip = λ o s fits is. case-goes F o wrap s (payload s) fits is;
   packs = λ o s fits is. case-packs F o wrap s (payload s) fits is;
+  besides = λ s. case_facts F.facts (payload s);
+  accepted = λ o s at fits all. fits;
 }
 
 module _ {P S : Type 0} (F : Plain P) (o : Order) (wrap : P → S) (s : S) where
@@ -66,6 +68,8 @@ plain_case F wrap payload = record {
   made = λ s. IsCase wrap (payload s) s ∷ [];
   round_trip = λ o s fits is. plain_case-goes F o wrap s (payload s) fits is;
   packs = λ o s fits is. plain_case-packs F o wrap s (payload s) fits is;
+  besides = λ s. case_facts F.facts (payload s);
+  accepted = λ o s at fits all. fits;
 }
 
 -- no case at all, and the error that a read returns
@@ -78,6 +82,8 @@ refused err = record {
   made = λ s. ⊥ ∷ [];
   round_trip = λ o s fits is. absurd is;
   packs = λ o s fits is. absurd is;
+  besides = λ s. [];
+  accepted = λ o s at more all. tt;
 }
 
 -- ---- one or the other
@@ -108,4 +114,6 @@ choose b x y = record {
   made = λ s. facts_if b (x.made s) (y.made s);
   round_trip = λ o s fits made. choose-goes x y o s b fits made;
   packs = λ o s fits made. choose-packs x y o s b fits made;
+  besides = λ s. facts_if b (x.facts s) (y.facts s);
+  accepted = λ o s at fits all. fits;
 }

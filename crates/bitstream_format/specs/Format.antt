@@ -1,10 +1,10 @@
 -- Formats as values: what is read, what is written, what must fit, the number of bits, and two laws. By the law of round trip
 -- what was written is read back. By the law of length each call is accepted, and the calls append the stated number of bits.
 -- A format is made of parts in a `do` block, and its laws are proved with it.
-use Rattle.std.proofs.Common.{◌≡◌, ℕ, ◌+◌, ◌^◌, Bool, true, List, [], ◌∷◌, ◌++◌, length, Result, Ok, Err, refl, arith, subst}
+use Rattle.std.proofs.Common.{◌≡◌, ℕ, ◌+◌, ◌^◌, Bool, true, false, List, [], ◌∷◌, ◌++◌, length, Result, Ok, Err, refl, arith, subst}
 use Rattle.std.specs.Prelude.{nat_lt, if◌then◌else◌}
-use Rattle.bitstream_io.specs.Callers.{Decoder, Encoder, Done, and_then, pure, Order, High, align, word, const_decoder, plain, write_sequence, part_then}
-use Rattle.bitstream_io.proofs.CallerLemmas.{RoundTrip, Packs, part-back, literal-back, pure-back, packs-none, packs-more, packs-part, packs-is, const-written}
+use Rattle.bitstream_io.specs.Callers.{Decoder, Encoder, Done, AllAccepted, and_then, pure, Order, High, align, word, const_decoder, plain, write_sequence, part_then}
+use Rattle.bitstream_io.proofs.CallerLemmas.{RoundTrip, Packs, part-back, literal-back, pure-back, packs-none, packs-more, packs-part, packs-is, const-written, accepted-first, accepted-second}
 
 -- ---- facts, one after another
 
@@ -30,6 +30,26 @@ others_of_facts (P ∷ []) [] h = tt
 others_of_facts (P ∷ []) (Q ∷ Qs) h = h.1
 others_of_facts (P ∷ Q ∷ Ps) Qs h = others_of_facts (Q ∷ Ps) Qs h.1
 
+pub both_of_facts : (Ps Qs : Facts) → AllOf Ps → AllOf Qs → AllOf (Ps ++ Qs)
+both_of_facts [] Qs first others = others
+both_of_facts (P ∷ []) [] first others = first
+both_of_facts (P ∷ []) (Q ∷ Qs) first others = (first, others)
+both_of_facts (P ∷ Q ∷ Ps) Qs first others = (first.0, both_of_facts (Q ∷ Ps) Qs first.1 others)
+
+infixr 4 ◌&◌
+-- one fact and others
+abbrev pub ◌&◌ : {P Q : Type 0} → P → Q → P × Q
+p & q = (p, q)
+
+-- no fact if the test is true, and else one that never holds
+abbrev pub none_if : Bool → Facts
+none_if true = []
+none_if false = ⊥ ∷ []
+
+pub none_if-true : (test : Bool) → AllOf (none_if test) → test ≡ true
+none_if-true true none = refl
+none_if-true false none = absurd none
+
 -- ---- formats
 
 -- a format of the values of A; its read returns `ok a` for the value a that was written
@@ -46,6 +66,10 @@ pub record Format (A V : Type 0) (ok : A → V) : Type 1 where
   pub round_trip : (o : Order) (a : A) → AllOf (facts a) → RoundTrip (read o) (write o a) (ok a)
   -- each call is accepted, and together they append `size` bits
   pub packs : (o : Order) (a : A) → AllOf (facts a) → Packs (write o a) (size a)
+  -- what must hold too, for accepted calls to show that the value fits
+  pub besides : A → Facts
+  -- then a value whose calls are accepted fits
+  pub accepted : (o : Order) (a : A) (at : ℕ) → AllOf (besides a) → AllAccepted (write o a) at → AllOf (facts a)
 
 -- a format whose read has no error but the reader's
 abbrev pub Plain : Type 0 → Type 1
@@ -66,6 +90,16 @@ named Named F facts = record F {
   facts = λ a. Named a ∷ [];
   round_trip = λ o a fits. F.round_trip o a (facts a fits);
   packs = λ o a fits. F.packs o a (facts a fits);
+  besides = λ a. Named a ∷ [];
+  accepted = λ o a at fits all. fits;
+}
+
+-- the same, where the facts give the record too: then accepted calls show that a value fits as before
+abbrev pub renamed : {A V : Type 0} {ok : A → V} (Named : A → Type 0) (F : Format A V ok)
+    → ((a : A) → Named a → Fits F a) → ((a : A) → Fits F a → Named a) → Format A V ok
+renamed Named F facts names = record (named Named F facts) {
+  besides = F.besides;
+  accepted = λ o a at more all. names a (F.accepted o a at more all);
 }
 
 -- ---- parts
@@ -83,6 +117,8 @@ pub record Part (S W A : Type 0) : Type 1 where
   pub round_trip : (o : Order) (s : S) (f : A → Decoder W) (es : List Encoder) (w : W) → AllOf (facts s)
       → AllOf (made s) → RoundTrip (f (get s)) es w → RoundTrip (read o f) (write o s ++ es) w
   pub packs : (o : Order) (s : S) → AllOf (facts s) → AllOf (made s) → Packs (write o s) (size s)
+  pub besides : S → Facts
+  pub accepted : (o : Order) (s : S) (at : ℕ) → AllOf (besides s) → AllAccepted (write o s) at → AllOf (facts s)
 
 -- parts up to the end of the value
 pub record Parts (S W : Type 0) (ok : S → W) : Type 1 where
@@ -93,6 +129,8 @@ pub record Parts (S W : Type 0) (ok : S → W) : Type 1 where
   pub made : S → Facts
   pub round_trip : (o : Order) (s : S) → AllOf (facts s) → AllOf (made s) → RoundTrip (read o) (write o s) (ok s)
   pub packs : (o : Order) (s : S) → AllOf (facts s) → AllOf (made s) → Packs (write o s) (size s)
+  pub besides : S → Facts
+  pub accepted : (o : Order) (s : S) (at : ℕ) → AllOf (besides s) → AllAccepted (write o s) at → AllOf (facts s)
 
 -- one part and then those after it, which may depend on what it gave
 abbrev pub join : {S W A : Type 0} {ok : S → W} → Part S W A → (A → Parts S W ok) → Parts S W ok
@@ -113,6 +151,14 @@ join p k = record {
       packs-part (p.packs o s (first_of_facts (p.facts s) (rest.facts s) fits)
       (first_of_facts (p.made s) (rest.made s) made))
       (rest.packs o s (others_of_facts (p.facts s) (rest.facts s) fits) (others_of_facts (p.made s) (rest.made s) made));
+  besides = λ s. p.besides s ++ (k (p.get s)).besides s;
+  accepted = λ o s at more all.
+      let rest = k (p.get s) in
+      both_of_facts (p.facts s) (rest.facts s)
+      (p.accepted o s at (first_of_facts (p.besides s) (rest.besides s) more)
+      (accepted-first (p.write o s) (rest.write o s) at all))
+      (rest.accepted o s (at + length (write_sequence (p.write o s) at)) (others_of_facts (p.besides s) (rest.besides s) more)
+      (accepted-second (p.write o s) (rest.write o s) at all));
 }
 
 infixl 10 ◌>>=◌
@@ -130,6 +176,8 @@ done {S = S} all = record {
   made = λ s. (all ≡ s) ∷ [];
   round_trip = λ o s fits is. subst (RoundTrip (pure all) []) is (pure-back all);
   packs = λ o s fits is. packs-none;
+  besides = λ s. [];
+  accepted = λ o s at more all. tt;
 }
 
 -- the same of a read that has errors of its own
@@ -143,6 +191,8 @@ own_done {S = S} {E = E} all = record {
   round_trip = λ o s fits is.
       subst (λ (x : S). RoundTrip {A = Result S E} (pure (Ok all)) [] (Ok x)) is (pure-back (Ok all));
   packs = λ o s fits is. packs-none;
+  besides = λ s. [];
+  accepted = λ o s at more all. tt;
 }
 
 -- parts as a format: what they make of a value that was written is that value
@@ -154,6 +204,8 @@ format p made = record {
   facts = p.facts;
   round_trip = λ o s fits. p.round_trip o s fits (made s);
   packs = λ o s fits. p.packs o s fits (made s);
+  besides = p.besides;
+  accepted = p.accepted;
 }
 
 -- the same, but the facts state that the parts make the value: for a case whose tag is read before its size
@@ -165,6 +217,8 @@ format_if_made p = record {
   facts = λ s. AllOf (p.facts s) ∷ AllOf (p.made s) ∷ [];
   round_trip = λ o s fits. p.round_trip o s fits.0 fits.1;
   packs = λ o s fits. p.packs o s fits.0 fits.1;
+  besides = λ s. AllOf (p.facts s) ∷ AllOf (p.made s) ∷ [];
+  accepted = λ o s at fits all. fits;
 }
 
 -- ---- parts of a value
@@ -181,6 +235,8 @@ field F get = record {
   round_trip = λ o s f es w fits made rest.
       part-back (F.read o) f (F.write o (get s)) es (get s) w (F.round_trip o (get s) fits).back rest;
   packs = λ o s fits made. F.packs o (get s) fits;
+  besides = λ s. F.besides (get s);
+  accepted = λ o s at more all. F.accepted o (get s) at more all;
 }
 
 -- a field of a format with errors of its own
@@ -195,6 +251,32 @@ own_field F get = record {
   round_trip = λ o s f es w fits made rest.
       part-back (F.read o) (part_then f) (F.write o (get s)) es (Ok (get s)) w (F.round_trip o (get s) fits).back rest;
   packs = λ o s fits made. F.packs o (get s) fits;
+  besides = λ s. F.besides (get s);
+  accepted = λ o s at more all. F.accepted o (get s) at more all;
+}
+
+-- the same part, whose value is not made from other fields: what is otherwise so by its making must fit
+abbrev pub free : {S W A : Type 0} → Part S W A → Part S W A
+free p = record p {
+  facts = λ s. p.facts s ++ p.made s;
+  made = λ s. [];
+  round_trip = λ o s f es w fits made rest.
+      p.round_trip o s f es w (first_of_facts (p.facts s) (p.made s) fits) (others_of_facts (p.facts s) (p.made s) fits)
+      rest;
+  packs = λ o s fits made.
+      p.packs o s (first_of_facts (p.facts s) (p.made s) fits) (others_of_facts (p.facts s) (p.made s) fits);
+  besides = λ s. p.facts s ++ p.made s;
+  accepted = λ o s at fits all. fits;
+}
+
+-- the same part, of which nothing must fit: what otherwise must holds of each value
+abbrev pub sure : {S W A : Type 0} (p : Part S W A) → ((s : S) → AllOf (p.facts s)) → Part S W A
+sure p holds = record p {
+  facts = λ s. [];
+  round_trip = λ o s f es w fits made rest. p.round_trip o s f es w (holds s) made rest;
+  packs = λ o s fits made. p.packs o s (holds s) made;
+  besides = λ s. [];
+  accepted = λ o s at more all. tt;
 }
 
 pub const-packs : (o : Order) (n v : ℕ) → Packs (plain (word o n v) ∷ []) n
@@ -212,6 +294,8 @@ const n v fit err = record {
   round_trip = λ o s f es w fits made rest.
       literal-back es w o n v (λ is. if is then f tt else pure (Err err)) fit rest;
   packs = λ o s fits made. const-packs o n v;
+  besides = λ s. [];
+  accepted = λ o s at more all. tt;
 }
 
 -- ---- the laws of a format, in one piece each

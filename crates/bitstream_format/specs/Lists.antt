@@ -1,17 +1,17 @@
 -- Arrays, counted lists, parts that may be missing, values that are made of other values, and errors of another type.
-use Rattle.std.proofs.Common.{◌≡◌, ℕ, ◌*◌, ◌<◌, Bool, List, [], ◌∷◌, ◌++◌, length, Option, Some, None, Result, Ok, Err, refl, subst}
+use Rattle.std.proofs.Common.{◌≡◌, ℕ, ◌+◌, ◌*◌, ◌∙◌, ◌<◌, Bool, List, [], ◌∷◌, ◌++◌, length, Option, Some, None, Result, Ok, Err, refl, subst, ap, arith}
 use Rattle.std.specs.Prelude.{flat_map, is_some}
 use Rattle.std.specs.List.{All}
 use Rattle.std.specs.Option.{ForSome}
-use Rattle.std.proofs.lemmas.List.Elements.{All-weaker}
-use Rattle.bitstream_io.specs.Callers.{Decoder, Encoder, and_then, pure, Order, items_decoder, list_item, vec_decoder, buffer, parts_decoder, part_then, optional_writes, optional_size}
+use Rattle.std.proofs.lemmas.List.Elements.{All-weaker, All-nil, All-cons, All-head, All-tail}
+use Rattle.bitstream_io.specs.Callers.{AllAccepted, Decoder, Encoder, and_then, write_sequence, pure, Order, items_decoder, list_item, vec_decoder, buffer, parts_decoder, part_then, optional_writes, optional_size}
 use Rattle.bitstream_io.specs.Callers as call
 use Rattle.bitstream_io.specs.Loop.{parts_size}
 use Rattle.bitstream_io.specs.ReadBack.{IsReadAs}
 use Rattle.bitstream_io.proofs.CallsBack.{items-read, parts-read, mapped-read, then_made-read}
-use Rattle.bitstream_io.proofs.CallerLemmas.{RoundTrip, Packs, part-back, pure-back, optional-back, packs-parts, packs-optional, bytes-written}
+use Rattle.bitstream_io.proofs.CallerLemmas.{RoundTrip, Packs, part-back, pure-back, optional-back, packs-parts, packs-optional, bytes-written, packs-is, accepted-first, accepted-second}
 use Rattle.bitstream_format.specs.AtomLaws.{bytes-goes, one-packs}
-use Rattle.bitstream_format.specs.Format.{Format, Fits, Plain, Own, Part}
+use Rattle.bitstream_format.specs.Format.{Format, AllOf, Fits, Plain, Own, Part}
 
 -- ---- laws
 
@@ -25,6 +25,16 @@ pub packs_each : {A V : Type 0} {ok : A → V} (F : Format A V ok) (o : Order) (
 packs_each F o xs fit =
     packs-parts (F.write o) F.size xs
     (All-weaker (λ x. Fits F x) (λ x. Packs (F.write o x) (F.size x)) (λ x h. F.packs o x h) xs fit)
+
+pub accepted_each : {A V : Type 0} {ok : A → V} (F : Format A V ok) (o : Order) (xs : List A) (at : ℕ)
+    → All (λ x. AllOf (F.besides x)) xs → AllAccepted (flat_map (F.write o) xs) at → All (λ x. Fits F x) xs
+accepted_each F o [] at more all = All-nil (λ x. Fits F x)
+accepted_each {A = A} F o (x ∷ xs) at more all =
+    let Besides = λ (y : A). AllOf (F.besides y) in
+    All-cons (λ y. Fits F y) x xs
+    (F.accepted o x at (All-head Besides x xs more) (accepted-first (F.write o x) (flat_map (F.write o) xs) at all))
+    (accepted_each F o xs (at + length (write_sequence (F.write o x) at)) (All-tail Besides x xs more)
+    (accepted-second (F.write o x) (flat_map (F.write o) xs) at all))
 
 pub items-goes : {A : Type 0} (F : Plain A) (o : Order) (n : ℕ) (xs : List A) → length xs ≡ n
     → All (λ x. Fits F x) xs → RoundTrip (items_decoder (F.read o) n) (flat_map (F.write o) xs) xs
@@ -91,6 +101,8 @@ mapped {ok = ok} F of to again fit = record {
   facts = λ a. [];
   round_trip = λ o a fits. mapped-goes F of to (ok a) o a (again a) (fit a);
   packs = λ o a fits. F.packs o (to a) (fit a);
+  besides = λ a. [];
+  accepted = λ o a at more all. tt;
 }
 
 -- the same answer, with an error of another type
@@ -112,6 +124,8 @@ with_error make F = record {
   facts = F.facts;
   round_trip = λ o a fits. error-goes F make o a fits;
   packs = F.packs;
+  besides = F.besides;
+  accepted = F.accepted;
 }
 
 pub own-goes : {A E : Type 0} (F : Plain A) (o : Order) (a : A) → Fits F a
@@ -128,6 +142,8 @@ own F = record {
   facts = F.facts;
   round_trip = λ o a fits. own-goes F o a fits;
   packs = F.packs;
+  besides = F.besides;
+  accepted = F.accepted;
 }
 
 -- n items
@@ -139,6 +155,24 @@ array n F = record {
   facts = λ xs. (length xs ≡ n) ∷ All (λ x. Fits F x) xs ∷ [];
   round_trip = λ o xs fits. items-goes F o n xs fits.0 fits.1;
   packs = λ o xs fits. packs_each F o xs fits.1;
+  besides = λ xs. (length xs ≡ n) ∷ All (λ x. Fits F x) xs ∷ [];
+  accepted = λ o xs at fits all. fits;
+}
+
+pub parts_size-even : {A : Type 0} (size : A → ℕ) (w : ℕ) → ((a : A) → size a ≡ w) → (xs : List A)
+    → parts_size size xs ≡ length xs * w
+parts_size-even size w same [] = omega arith
+parts_size-even size w same (x ∷ xs) =
+    let first = same x in
+    let others = parts_size-even size w same xs in
+    omega (arith, first, others)
+
+-- n items of w bits each
+abbrev pub even_array : {A : Type 0} (n w : ℕ) (F : Plain A) → ((a : A) → F.size a ≡ w) → Plain (List A)
+even_array n w F same = record (array n F) {
+  size = λ xs. n * w;
+  packs = λ o xs fits.
+      packs-is (packs_each F o xs fits.1) (parts_size-even F.size w same xs ∙ ap (λ (k : ℕ). k * w) fits.0);
 }
 
 -- ---- parts
@@ -156,6 +190,8 @@ list n F get = record {
       part-back (items_decoder (list_item (F.read o)) n) f (flat_map (F.write o) (get s)) es (get s) w
       (listed-goes F o n (get s) is fits).back rest;
   packs = λ o s fits is. packs_each F o (get s) fits;
+  besides = λ s. All (λ x. AllOf (F.besides x)) (get s) ∷ [];
+  accepted = λ o s at more all. accepted_each F o (get s) at more all;
 }
 
 -- the same of items with errors of their own
@@ -171,6 +207,23 @@ own_list n F get = record {
       part-back (parts_decoder (F.read o) n) (part_then f) (flat_map (F.write o) (get s)) es (Ok (get s)) w
       (parts-goes F o n (get s) is fits).back rest;
   packs = λ o s fits is. packs_each F o (get s) fits;
+  besides = λ s. All (λ x. AllOf (F.besides x)) (get s) ∷ [];
+  accepted = λ o s at more all. accepted_each F o (get s) at more all;
+}
+
+-- such items of w bits each
+abbrev pub even_list : {S W A : Type 0} (n w : ℕ) (F : Plain A) → ((a : A) → F.size a ≡ w) → (S → List A) → Part S W (List A)
+even_list n w F same get = record (list n F get) {
+  size = λ s. length (get s) * w;
+  packs = λ o s fits is. packs-is (packs_each F o (get s) fits) (parts_size-even F.size w same (get s));
+}
+
+-- the same of items with errors of their own
+abbrev pub own_even_list : {S B A E : Type 0} (n w : ℕ) (F : Own E A) → ((a : A) → F.size a ≡ w) → (S → List A)
+    → Part S (Result B E) (List A)
+own_even_list n w F same get = record (own_list n F get) {
+  size = λ s. length (get s) * w;
+  packs = λ o s fits is. packs-is (packs_each F o (get s) fits) (parts_size-even F.size w same (get s));
 }
 
 -- bytes, whose number a part before gives; the read may allocate as they come
@@ -185,6 +238,8 @@ byte_list n get = record {
   round_trip = λ o s f es w fits is rest.
       part-back (vec_decoder o n) f (buffer o (get s) ∷ []) es (get s) w (bytes-goes o n (get s) is fits).back rest;
   packs = λ o s fits is. one-packs (bytes-written o n (get s) is);
+  besides = λ s. All (λ b. b < 256) (get s) ∷ [];
+  accepted = λ o s at fits all. fits;
 }
 
 -- a part that is there if a flag before says so
@@ -198,6 +253,8 @@ optional there F get = record {
   made = λ s. (is_some (get s) ≡ there) ∷ [];
   round_trip = λ o s f es w fits is rest. optional-round_trip o there (get s) es F f w is fits rest;
   packs = λ o s fits is. optional-packs F o (get s) fits;
+  besides = λ s. ForSome (get s) (λ a. Fits F a) ∷ [];
+  accepted = λ o s at fits all. fits;
 }
 
 -- the same of a part with errors of its own
@@ -211,4 +268,6 @@ own_optional there F get = record {
   made = λ s. (is_some (get s) ≡ there) ∷ [];
   round_trip = λ o s f es w fits is rest. own_optional-round_trip F o there (get s) es f w is fits rest;
   packs = λ o s fits is. optional-packs F o (get s) fits;
+  besides = λ s. ForSome (get s) (λ a. Fits F a) ∷ [];
+  accepted = λ o s at fits all. fits;
 }

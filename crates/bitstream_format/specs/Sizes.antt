@@ -156,6 +156,8 @@ sized_part stored n F err other = record {
       limited-goes stored n (only F err other o) o (F.write o a) (Ok a)
       (subst (Packs (F.write o a)) fits.0 (F.packs o a fits.1)) (only-again F err other o a fits.1);
   packs = λ o a fits. F.packs o a fits.1;
+  besides = λ a. (F.size a ≡ 8 * n) ∷ AllOf (F.facts a) ∷ [];
+  accepted = λ o a at fits all. fits;
 }
 
 -- a part that fills n bytes, whose read does not allocate
@@ -179,6 +181,8 @@ fill n F err other = record {
       (λ at. items-again F err other o xs (recursion_from_All (λ x. Fits F x) xs fits.1.0)
       (recursion_from_All (λ x. 0 < F.size x) xs fits.1.1) at 0 (length (write_sequence (flat_map (F.write o) xs) at)) (le_refl _));
   packs = λ o xs fits. packs_each F o xs fits.1.0;
+  besides = λ xs. (parts_size F.size xs ≡ 8 * n) ∷ All (λ x. Fits F x) xs ∷ All (λ x. 0 < F.size x) xs ∷ [];
+  accepted = λ o xs at fits all. fits;
 }
 
 -- ---- a part of a fixed width fills a size of as many bits, and no other

@@ -5,7 +5,7 @@ ghost use Rattle.bitstream_io.specs.Callers.{WritesAll};
 
 use bitstream_io::{BitWrite, Error};
 
-/// Returns the bytes of a number of units, and `less` more. A sum beyond 64 bits counts as 2^64 - 1.
+/// Returns `number` units of `unit` bytes each, plus `less`, in bytes. A sum beyond 64 bits counts as 2^64 - 1.
 #[tactic(auto, unfolding(crate::specs::Stated::size_in_units))]
 pub fn size_in_units(number: u64, unit: u64, less: u64) -> u64
     ensures { result ≡ size_in_units unit less number }
@@ -13,8 +13,8 @@ pub fn size_in_units(number: u64, unit: u64, less: u64) -> u64
     number.saturating_mul(unit).saturating_add(less)
 }
 
-/// Returns the bytes that a number states: those of its units and `less` more, without `plus`. It is `None`
-/// if `plus` is more than they are.
+/// Returns the number of bytes that a stored number states: the bytes of its units, plus `less`, minus `plus`.
+/// Returns `None` if `plus` is greater than that sum.
 #[tactic(auto, unfolding(crate::specs::Stated::stated_size))]
 pub fn stated_size(number: u64, unit: u64, plus: u64, less: u64) -> Option<u64>
     ensures { result ≡ stated_size unit plus less number }
@@ -26,7 +26,7 @@ pub fn stated_size(number: u64, unit: u64, plus: u64, less: u64) -> Option<u64>
     None
 }
 
-/// Returns the number that states so many bytes, or 2^64 - 1 if none does.
+/// Returns the number that states `bytes` bytes, or 2^64 - 1 if none does.
 #[tactic(auto, unfolding(crate::specs::Stated::stored_size))]
 pub fn stored_size(bytes: u64, unit: u64, plus: u64, less: u64) -> u64
     requires { 1 ≤ unit }
@@ -44,8 +44,8 @@ pub fn stored_size(bytes: u64, unit: u64, plus: u64, less: u64) -> u64
 ///
 /// # Errors
 ///
-/// The error of `bits`. `Checked` if no number of so many bits states them. Else the errors of the sink,
-/// which come first.
+/// The errors of the sink, which come first. Otherwise the error of `bits`, or `Checked` if no number of
+/// `width` bits states the size. If so, nothing is written.
 pub fn write_stored_size<W: BitWrite>(
     writer: &mut W,
     width: u32,

@@ -35,11 +35,11 @@ fn varint_length(value: u64) -> u32
     }
 }
 
-/// Reads a number.
+/// Reads a number of 1, 2, 4 or 8 bytes.
 ///
 /// # Errors
 ///
-/// The errors of the reader: after each of them it has failed.
+/// The errors of the reader, after which it has failed.
 ///
 /// # Examples
 ///
@@ -62,11 +62,11 @@ pub fn read_varint<R: BitRead>(reader: &mut R) -> Result<u64, Error>
     reader.read_var(varint_width(length))
 }
 
-/// Writes a number.
+/// Writes a number in 1, 2, 4 or 8 bytes: the fewest that hold it.
 ///
 /// # Errors
 ///
-/// `Checked` for 2^62 or more. Nothing is written then. Else the errors of the sink.
+/// `Checked` for 2^62 or more, before anything is written. Otherwise the errors of the sink.
 pub fn write_varint<W: BitWrite>(writer: &mut W, value: u64) -> Result<(), Error>
     ensures { WritesAll W.sink (varint_writes W.sink.order value) writer.old result writer.new }
 {

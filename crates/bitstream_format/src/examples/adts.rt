@@ -60,8 +60,8 @@ impl AdtsHeader {
     ///
     /// # Errors
     ///
-    /// `NoSync` or `UnknownLayer`: the bits that differ are read then. Otherwise, the errors of the reader: the
-    /// reader has failed after any of them.
+    /// `NoSync` or `UnknownLayer`, after the bits that differ have been read. Otherwise, the errors of the reader,
+    /// after which it has failed.
     pub fn read<R: BitRead>(reader: &mut R) -> Result<AdtsHeader, AdtsError>
         ensures { ReadsOwn R.source becomes_adts (adts.read R.source.order) reader.old result reader.new }
     {
@@ -101,7 +101,7 @@ impl AdtsHeader {
     ///
     /// # Errors
     ///
-    /// `Checked` for a field that does not fit its bits: the fields before it are written then. Otherwise, the errors
+    /// `Checked` for a field that does not fit its bits, after the fields before it have been written. Otherwise, the errors
     /// of the writer.
     pub fn write<W: BitWrite>(&self, writer: &mut W) -> Result<(), Error>
         ensures { WritesAll W.sink (adts.write W.sink.order self.now) writer.old result writer.new }

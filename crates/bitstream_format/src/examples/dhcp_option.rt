@@ -22,7 +22,7 @@ pub enum DhcpOption {
 pub enum DhcpError {
     /// An error of the reader.
     Reader(Error),
-    /// The code is of another option.
+    /// The code is not the code of an option known here.
     UnknownOption,
     /// The value does not fill the bytes that the size states.
     WrongSize,
@@ -65,8 +65,8 @@ impl DhcpOption {
     ///
     /// # Errors
     ///
-    /// `UnknownOption` and `WrongSize`: as many bytes as the buffer has are read then. Otherwise, the errors of the
-    /// reader: the reader has failed after any of them.
+    /// `UnknownOption` and `WrongSize`, after `buffer.len()` bytes have been read. Otherwise, the errors of the reader,
+    /// after which it has failed.
     fn read_filling(
         reader: &mut SliceReader<'_, BE>,
         code: u8,
@@ -84,8 +84,8 @@ impl DhcpOption {
     ///
     /// # Errors
     ///
-    /// `UnknownOption` and `WrongSize`: these bytes are read then. Otherwise, the errors of the reader: the reader
-    /// has failed after any of them.
+    /// `UnknownOption` and `WrongSize`, after these bytes have been read. Otherwise, the errors of the reader, after
+    /// which it has failed.
     pub fn read(reader: &mut SliceReader<'_, BE>) -> Result<DhcpOption, DhcpError>
         ensures { ReadsOwn (memory_source High) becomes_dhcp (dhcp_option.read High) reader.old result reader.new }
     {

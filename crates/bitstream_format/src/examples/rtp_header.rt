@@ -27,7 +27,7 @@ pub struct RtpHeader {
     pub timestamp: u32,
     /// The source that the packet is synchronized to.
     pub ssrc: u32,
-    /// The sources that a mixer made the payload of. Fewer than 2^4.
+    /// The sources from which a mixer made the payload. Fewer than 2^4.
     pub csrc: Vec<u32>,
 }
 
@@ -93,9 +93,9 @@ impl RtpHeader {
     ///
     /// # Errors
     ///
-    /// `WrongVersion`: the bits that differ are read then. `Reader(OutOfMemory)` if the allocation for an item fails:
-    /// the bits up to the end of that item are read then. Otherwise, the errors of the reader: the reader has failed
-    /// after any of them.
+    /// `WrongVersion`, after the bits that differ have been read. `Reader(OutOfMemory)` if the allocation for an item
+    /// fails, after the bits up to the end of that item have been read. Otherwise, the errors of the reader, after
+    /// which it has failed.
     pub fn read<R: BitRead>(reader: &mut R, alloc: Global) -> Result<RtpHeader, RtpError>
         ensures { GrowsOwn R.source becomes_rtp_header (rtp_header.read R.source.order) reader.old result reader.new }
     {
@@ -125,7 +125,7 @@ impl RtpHeader {
     ///
     /// # Errors
     ///
-    /// `Checked` for a field that does not fit its bits: the fields before it are written then. Otherwise, the errors
+    /// `Checked` for a field that does not fit its bits. The fields before it have been written. Otherwise, the errors
     /// of the writer.
     pub fn write<W: BitWrite>(&self, writer: &mut W) -> Result<(), Error>
         ensures { WritesAll W.sink (rtp_header.write W.sink.order self.now) writer.old result writer.new }

@@ -1,4 +1,4 @@
-//! What a vehicle's telemetry measured at one time, in 48 bits.
+//! A measurement of a vehicle's telemetry at one time, in 48 bits.
 ghost use Rattle.bitstream_format.specs.Format.{Fits, RoundTripLaw, LengthLaw, packed_bits};
 ghost use Rattle.bitstream_format.specs.Places.{ThereLaw, ShortLaw};
 ghost use Rattle.bitstream_format.specs.Examples.Sample.{sample, sample_places};
@@ -26,7 +26,7 @@ impl Sample {
     ///
     /// # Errors
     ///
-    /// The errors of the reader: the reader has failed after any of them.
+    /// The errors of the reader, after which it has failed.
     pub fn read<R: BitRead>(reader: &mut R) -> Result<Sample, Error>
         ensures { Reads R.source (sample.read R.source.order) reader.old result reader.new }
     {
@@ -61,7 +61,7 @@ impl Sample {
     ///
     /// # Errors
     ///
-    /// `Checked` for a field that does not fit its bits: the fields before it are written then. Otherwise, the errors
+    /// `Checked` for a field that does not fit its bits. The fields before it have been written. Otherwise, the errors
     /// of the writer.
     pub fn write<W: BitWrite>(&self, writer: &mut W) -> Result<(), Error>
         ensures { WritesAll W.sink (sample.write W.sink.order self.now) writer.old result writer.new }

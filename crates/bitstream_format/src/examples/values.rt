@@ -1,6 +1,6 @@
-//! Formats that are only values, with their laws: GRE (parts behind flags), an address of STUN (a choice in a part of
-//! a stated size), what a relay adds to a DHCP message (a list that fills a size), and the first message of TLS
-//! (extensions as a choice, in such a list).
+//! Formats that are only values, with their laws: GRE (parts after flags), an address of STUN (a choice in a part of
+//! a stated size), the options that a relay adds to a DHCP message (a list that fills a size), and the first message
+//! of TLS (extensions as a choice, in a list that fills a size).
 ghost use Rattle.bitstream_format.specs.Format.{RoundTripLaw, LengthLaw};
 ghost use Rattle.bitstream_format.specs.Sizes.{ListLimitLaw};
 ghost use Rattle.bitstream_format.specs.Examples.Gre.{gre};

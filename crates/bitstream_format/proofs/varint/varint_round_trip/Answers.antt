@@ -1,4 +1,4 @@
-use Rattle.bitstream_format.proofs.VarintLemmas.{varint-back}
+use Rattle.bitstream_format.specs.VarintLaws.{varint-back}
 use Rattle.bitstream_format.proofs.varint.varint_round_trip.Goals as goal
 
 pub returns : goal.returns

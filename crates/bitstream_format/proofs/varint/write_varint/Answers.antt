@@ -2,7 +2,7 @@ use Rattle.std.proofs.Common.{arith}
 use Rattle.std.proofs.lemmas.Bool.{le-leb}
 use Rattle.bitstream_io.proofs.WriteParts.{all_one}
 use Rattle.bitstream_io.proofs.WriteSteps.{next_call, stop_call}
-use Rattle.bitstream_format.proofs.VarintLemmas.{has_varint}
+use Rattle.bitstream_format.specs.VarintLaws.{has_varint}
 use Rattle.bitstream_format.proofs.varint.write_varint.Goals as goal
 
 pub returns-then-value-ge4611686018427387904 : goal.returns-then-value-ge4611686018427387904

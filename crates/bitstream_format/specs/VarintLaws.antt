@@ -1,6 +1,6 @@
 -- Numbers of variable length: they are read back, and how long they are.
-use Rattle.std.proofs.Common.{◌≡◌, ℕ, ◌+◌, ◌^◌, ◌<◌, ◌≤◌, ◌==◌, Bool, true, false, List, [], ◌∷◌, inl, refl, sym, subst, arith}
-use Rattle.std.specs.Prelude.{nat_lt, nat_le, if◌then◌else◌}
+use Rattle.std.proofs.Common.{◌≡◌, ℕ, ◌^◌, ◌<◌, true, List, [], ◌∷◌, inl, refl, sym, subst, arith}
+use Rattle.std.specs.Prelude.{nat_le}
 use Rattle.std.proofs.lemmas.Bool.{leb-true, lt-leb}
 use Rattle.bitstream_io.specs.Callers.{Encoder, Order, unsigned, unsigned_decoder}
 use Rattle.bitstream_io.specs.ReadBack.{IsReadAs}
