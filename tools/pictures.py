@@ -198,7 +198,7 @@ HOLDS = {
     "protocols": "headers of protocols, printed from descriptions",
     "bitstream_formats": "FLAC, H.264, AV1 and others",
     "bitfields_core": "layouts of bit fields",
-    "flac_codec": "FLAC frames, lossless",
+    "flac_codec": "FLAC files, lossless",
     "bitfields": "the program",
     "formats": "the program",
     "wav_header": "a whole program, printed from a description",
@@ -208,6 +208,7 @@ HOLDS = {
     "bitstream_vectors": "test vectors",
     "bits_c": "bits for C, read and written",
     "ccsds_c": "a printed format for C, Rust and Python",
+    "protocols_c": "formats whose size varies, for C",
     "bench_port": "functions of the benchmark",
     "bench_parsers": "functions of the benchmark",
 }

@@ -44,6 +44,7 @@ def check_lines(it: m.Description, own: bool) -> None:
     for index, kind in enumerate(it.kinds):
         name = "" if isinstance(kind, m.Const | m.Skip) else m.label(kind)
         check_name(name, kind.at)
+        check_sum_name(it, kind)
         check_target(it, index, kind)
         if own and name in reserved.WORDS:
             raise Refused(f"`{name}` is a word of the language: take another name", kind.at)
@@ -57,6 +58,16 @@ def check_name(name: str, at: Position) -> None:
     """Refuses a name that Rust does not allow."""
     if name and not re.fullmatch(r"[A-Za-z_][A-Za-z0-9_]*", name):
         raise Refused(f"`{name}` is no name: take letters, digits and `_`", at)
+
+
+def check_sum_name(it: m.Description, kind: m.Kind) -> None:
+    """Refuses a field with a name that code has for a checksum, or for the number of bytes of the rest."""
+    sums = [one.word for one in it.kinds if isinstance(one, m.Check)]
+    rests = [f"{one.name}_bytes" for one in it.kinds if isinstance(one, m.Rest)]
+    if m.is_field(kind) and kind.name in (*sums, *(f"is_{one}" for one in sums)):
+        raise Refused(f"`{kind.name}` is the name of the checksum: take another name", kind.at)
+    if m.is_field(kind) and kind.name in rests:
+        raise Refused(f"`{kind.name}` is the number of bytes of the rest: take another name", kind.at)
 
 
 def check_error(it: m.Description, kind: m.Kind) -> None:
@@ -99,7 +110,9 @@ def fits_words(kind: m.Kind) -> list[tuple[str, set[str]]]:
             return [(kind.name, {"value", f"non_zero_{kind.integer.base}_get"})]
         case m.MaybeNonZero():
             return [(kind.name, {"value", "number_or_zero", f"non_zero_{kind.integer.base}_get"})]
-        case m.Array() | m.List() | m.Rest() | m.Fill() | m.Until():
+        case m.Until() | m.Blocks():
+            return [(kind.name, {"value"}), (f"{kind.name}_most", {"value", "length"})]
+        case m.Array() | m.List() | m.Rest() | m.Fill():
             return many_words(kind)
         case m.Enum(enum=enum) if enum.other:
             s = m.snake(enum.name)
@@ -119,7 +132,7 @@ def fits_words(kind: m.Kind) -> list[tuple[str, set[str]]]:
     return []
 
 
-def many_words(kind: m.Array | m.List | m.Rest | m.Fill | m.Until) -> list[tuple[str, set[str]]]:
+def many_words(kind: m.Array | m.List | m.Rest | m.Fill) -> list[tuple[str, set[str]]]:
     """Returns the clauses of `Fits` for an array or a list."""
     found = [(f"{kind.name}_count", {"value", "length"})] * isinstance(kind, m.Array)
     item = m.held_item(kind)
@@ -177,7 +190,10 @@ def check_choice(it: m.Description, kind: m.Choose, names: set[str]) -> None:
     s = m.snake(kind.type)
     modules = {use.module for one in it.kinds for use in m.uses(one)}
     cases = {f"{kind.type}{arm.case}" for arm in kind.arms} | ({kind.unnamed} - {""})
-    definitions = {f"{s}_{word}" for word in ("number", "read", "writes", "size", "fits", "small", "back", "packs")}
+    definitions = {
+        f"{s}_{word}"
+        for word in ("number", "read", "writes", "size", "fits", "small", "back", "packs", "goes", "choice")
+    }
     taken = sorted(({s} & modules) | (cases & (names | TAKEN)) | (definitions & TAKEN))
     if taken:
         why = f"`{taken[0]}` is what the specs call something of `{kind.type}`, and something else: take another name"

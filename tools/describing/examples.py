@@ -136,6 +136,8 @@ def given(kind: m.Described, said: str) -> Value:
             return part(name, use, said)
         case m.Fill(use=use):
             return many(name, use, said, None)
+        case m.Blocks():
+            return [hexed(name, it) for it in listed(name, said, "[[DE AD] [BE]]")]
         case m.Array() | m.List() | m.Rest() | m.Until() | m.Sized():
             return many(name, kind.item, said, kind.count if isinstance(kind, m.Array) else None)
     return whole(name, said)

@@ -11,16 +11,18 @@ WITHIN = "Rattle.bitstream_format"
 SIZES = "is_end sized_decoder size_encoder within UnlessMemory"
 COUNTS = {"Rattle.bitstream_io.specs.Lengths": "CountsBits"}
 COUNT_LEMMAS = {"Rattle.bitstream_io.proofs.LengthLemmas": "count_done count_stopped"}
-FILL_LEMMAS = "ItemsSoFar filled-read filled-grown so_far-begin so_far-end so_far-more so_far-push so_far-stop"
+FILL_LEMMAS = "ItemsSoFar filled-grown so_far-begin so_far-end so_far-more so_far-push so_far-stop"
 STATED = "sized_bytes size_in_units stated_decoder stored_encoder stored_size"
-STATED_LEMMAS = "stated-none stated-read stated-some stored-back stored-whole stored-written units-again"
-SIZE_LEMMAS = "sized-read size-back size-written within-ok within-err sized-grown"
+STATED_LEMMAS = "stated-none stated-some"
+SIZE_LEMMAS = "within-ok within-err sized-grown"
+SIZE_LAWS = {f"{WITHIN}.specs.SizeLaws": "sized-read size-back size-written filled-read"}
+STATED_LAWS = {f"{WITHIN}.specs.SizeLaws": "stated-read stored-back stored-whole stored-written units-again"}
 
 
 def enum_names(f: Format, line: Line, enum: m.EnumType) -> Table:
     """Returns where the names of an enum come from."""
     base, each = f"{f.declared}.{enum.name}", isinstance(line.kind, m.Array)
-    words = ("of", "number", "each", "read_each") if each else ("of", "number", "read")
+    words = ("of", "number", "each", "read_each") if each else ("of", "number", "read", "cases")
     cases = [f"{it}={called(line, it)}" if it in line.shared else it for it in enum.names()]
     own = {f.specs_path: " ".join(f"{snake(enum.name)}_{it}" for it in words)}
     return {base: enum.name, f"{base}.TheVariants": " ".join(cases)} | own
@@ -29,7 +31,7 @@ def enum_names(f: Format, line: Line, enum: m.EnumType) -> Table:
 def part_names(f: Format, line: Line, use: m.Use) -> Table:
     """Returns where the names of a part come from."""
     base = f"Rattle.{f.crate}.specs.declared.{use.module}"
-    words = " ".join(f"{use.module}_{it}" for it in ("decoder", "writes", "size"))
+    words = " ".join(f"{use.module}_{it}" for it in ("decoder", "writes", "size", "format"))
     found = {
         f"{base}.{use.name}": use.name,
         f"Rattle.{f.crate}.specs.{spec_of(use.module)}": f"{words} Fits={use.name}Fits",
@@ -51,7 +53,7 @@ def part_cases(use: m.Use) -> list[tuple[str, str]]:
 
 def choice_names(f: Format, kind: m.Choose) -> Table:
     """Returns where the names of a choice come from."""
-    base, words = f"{f.declared}.{kind.type}", ("number", "read", "writes", "size", "fits")
+    base, words = f"{f.declared}.{kind.type}", ("number", "read", "writes", "size", "fits", "choice", "goes")
     cases = " ".join(f"{it.case}={kind.type}{it.case}" for it in kind.arms)
     names = [f"{snake(kind.type)}_{it}" for it in words] + [f"{snake(kind.unnamed)}_read"] * bool(kind.unnamed)
     other = {f"{f.declared}.{kind.unnamed}": kind.unnamed} if kind.unnamed else {}
@@ -94,7 +96,7 @@ def parts_specs(f: Format) -> Table:
 
 def own_specs(f: Format) -> Table:
     """Returns where the definitions of the format and of its parts come from."""
-    names = [f"{f.m}_{it}" for it in ("decoder", "writes", "size", "bits", "at")] + [
+    names = [f"{f.m}_{it}" for it in ("decoder", "writes", "size", "format", "bits", "at")] + [
         "Fits",
         f"becomes_{f.m}",
         "bits_at",
@@ -109,8 +111,8 @@ def line_lemmas(f: Format, line: Line) -> Table:
     """Returns where the lemmas of a line come from."""
     if line.enum:
         return {f.lemmas_path: f"{snake(line.enum.name)}_small {snake(line.enum.name)}_again"}
-    own = [{f"{WITHIN}.proofs.WithinLemmas": SIZE_LEMMAS}] * bool(line.measured)
-    own += [{f"{WITHIN}.proofs.StatedLemmas": STATED_LEMMAS}] * bool(line.units)
+    own = [{f"{WITHIN}.proofs.WithinLemmas": SIZE_LEMMAS} | SIZE_LAWS] * bool(line.measured)
+    own += [{f"{WITHIN}.proofs.StatedLemmas": STATED_LEMMAS} | STATED_LAWS] * bool(line.units)
     own += [{f"{WITHIN}.proofs.FilledLemmas": FILL_LEMMAS} | COUNT_LEMMAS] * isinstance(line.kind, m.Fill)
     if isinstance(line.kind, m.Choose):
         own += [{f.lemmas_path: " ".join(f"{snake(line.kind.type)}_{it}" for it in ("small", "back", "packs"))}]

@@ -15,6 +15,7 @@ LONG, EACH = 16, 8
 MOST_BYTES = 1 << 60  # of a size: their bits have a number of 64 bits
 UNPRINTED = "`--show` and `--pack` know this line, but no code is printed for it yet"
 OVERFLOW = ("VariableWidthOverflow", "if a number of variable width has more bits than its type")
+UNENDED = ("RunTooLong", "if what ends bytes is not among the first 2^32")
 REDUNDANT = ("RedundantGroup", "if a number ends in a group of 0 behind others")
 
 
@@ -26,7 +27,7 @@ class Line:
     `repeats` is true if an earlier line defines its enum. `inner` are the lines of a part, `shared` the cases of its
     enum whose names something else has in specs. `arms` are the cases of a choice, each with the line of the part that it
     holds; `choice` is the choice whose tag it is, `measures` the line whose size it is, and `size` the line that has its
-    own size.
+    own size. `covers` are the fields of a checksum.
     """
 
     kind: m.Printed
@@ -40,11 +41,12 @@ class Line:
     choice: m.Choose | None = None
     measures: m.Measured | None = None
     size: m.Size | None = None
+    covers: tuple[m.Kind, ...] = ()
 
     @property
     def name(self) -> str:
         """The name of its value, or an empty text."""
-        return "" if isinstance(self.kind, m.Const | m.Skip) else m.label(self.kind)
+        return "" if isinstance(self.kind, m.Const | m.Skip | m.Verify) else m.label(self.kind)
 
     @property
     def is_field(self) -> bool:
@@ -81,6 +83,8 @@ class Line:
     @property
     def stops(self) -> bool:
         """True if its read may return an error of the format's own, after which nothing is read."""
+        if self.measured:
+            return True
         return bool(self.error) or isinstance(self.kind, m.Part | m.Choose) and m.allocates(self.kind)
 
     @property
@@ -102,10 +106,10 @@ class Line:
     def many(self) -> bool:
         """True if it is written by a list of writes, and not by one."""
         match self.kind:
-            case m.Array() | m.List() | m.Sized():
+            case m.Array() | m.List() | m.Sized() | m.Rest():
                 return not isinstance(self.kind.item, m.Octet)
         return m.is_varint(self.kind) or isinstance(
-            self.kind, m.Golomb | m.Part | m.Optional | m.If | m.Choose | m.Fill
+            self.kind, m.Golomb | m.Part | m.Optional | m.If | m.Choose | m.Fill | m.Until | m.Blocks
         )
 
     def least(self, at: int = 0) -> int:
@@ -136,6 +140,20 @@ def fits_if_accepted(kind: m.Kind) -> bool:
     return isinstance(kind, m.Number | m.NonZero | m.MaybeNonZero | m.Bool | m.Const | m.Skip | m.Flag | m.Count)
 
 
+def all_values(kinds: Iterable[m.Kind]) -> bool:
+    """Returns true if each line is a value with its laws, of which those of the format are projections."""
+    return all(is_value(it) for it in kinds)
+
+
+def is_value(kind: m.Kind) -> bool:
+    """Returns true if a line is a value with its laws."""
+    numbers = (m.Number, m.NonZero, m.MaybeNonZero, m.Enum, m.Unary, m.Groups, m.Golomb, m.Varint)
+    given = (m.Const, m.Skip, m.Flag, m.Count, m.Tag, m.Size)
+    many = (m.Array, m.List, m.Part, m.Optional, m.If, m.Choose, m.Sized, m.Fill)
+    parts = all(all_values(use.description.kinds) for use in m.uses(kind))
+    return isinstance(kind, (m.Bool, *numbers, *given, *many)) and parts
+
+
 def reader_errors(kinds: Iterable[m.Kind]) -> Iterator[tuple[str, str]]:
     """Returns the errors of the reader besides `EndOfInput` that lines may return, each with its condition."""
     for it in kinds:
@@ -143,6 +161,8 @@ def reader_errors(kinds: Iterable[m.Kind]) -> Iterator[tuple[str, str]]:
             yield OVERFLOW
         if isinstance(it, m.Groups) and not it.any:
             yield REDUNDANT
+        if isinstance(it, m.Until | m.Blocks):
+            yield UNENDED
         for use in m.uses(it):
             yield from reader_errors(use.description.kinds)
 
@@ -156,19 +176,25 @@ def lines_of(description: m.Description) -> tuple[Line, ...]:
     found: list[Line] = []
     shared, seen = shared_cases(description), set[int]()
     for index, kind in enumerate(description.kinds):
-        if isinstance(kind, m.Rest | m.Until):
-            raise Refused(UNPRINTED, kind.at)
         check_printed(description, kind)
+        if isinstance(kind, m.Rest) and isinstance(kind.item, m.Use):
+            kind = m.Fill(kind.at, kind.doc, kind.name, kind.item, "")
         enum, error, width = m.held_item(kind), m.error(kind), m.bits(kind)
         again = f"_{at}" if error in [it.error for it in found] else ""
         repeats = id(enum) in seen
         names = frozenset(enum.names()) & shared if isinstance(enum, m.EnumType) else frozenset[str]()
         clause, choice, measures = snake(error) + again, chosen_by(description, kind), measured_by(description, kind)
         arms, inner, size = arm_lines(kind, index), inner_lines(kind), size_of(description, kind)
-        found.append(Line(kind, index, at, clause, repeats, inner, names, arms, choice, measures, size))
+        covers = covered(description, kind)
+        found.append(Line(kind, index, at, clause, repeats, inner, names, arms, choice, measures, size, covers))
         seen.add(id(enum) if isinstance(enum, m.EnumType) else 0)
         at = None if at is None or width is None else at + width
     return tuple(found)
+
+
+def given_line(kind: m.Rest) -> Line:
+    """Returns a line for the number of bytes of the rest, which a read is given."""
+    return Line(m.Size(kind.at, "", kind.name, 64, 1, 0), -1, None, "", False, ())
 
 
 def inner_lines(kind: m.Printed) -> tuple[Line, ...]:
@@ -204,7 +230,7 @@ def is_octets(kind: m.Kind | None) -> bool:
 
 def has_size(kind: m.Kind) -> TypeGuard[m.Measured]:
     """Returns true for a line whose size an earlier line has."""
-    return m.is_measured(kind) or isinstance(kind, m.Sized)
+    return isinstance(kind, m.Sized | m.Fill) or isinstance(kind, m.Choose) and kind.sized
 
 
 def size_of(description: m.Description, kind: m.Kind) -> m.Size | None:
@@ -219,9 +245,11 @@ def check_printed(description: m.Description, kind: m.Printed) -> None:
     match kind:
         case m.If(field=field) if field in tags:
             raise Refused(UNPRINTED, kind.at)
+        case m.Until(item=m.Integer() as item) if item.signed or item.width != 8 or item.base != "u8":
+            raise Refused(f"{UNPRINTED}: in code bytes end at a terminator, `until {kind.name} bytes STOP`", kind.at)
         case m.Sized(item=m.Octet()):
             check_octets(kind, size_of(description, kind))
-        case m.Fill(use=use) if sum(m.bits(it) or 0 for it in use.description.kinds) < 8:
+        case m.Fill(use=use) if least_bits(use) < 8:
             raise Refused("an item that fills a size has at least 8 bits of constant width", kind.at)
         case m.Choose() if m.any_octets(kind) and not kind.sized:
             raise Refused(f"{UNPRINTED}: a case holds bytes in code if a `size` line says how many", kind.at)
@@ -230,13 +258,69 @@ def check_printed(description: m.Description, kind: m.Printed) -> None:
         case m.Size(varint=True):
             if not is_octets(measured_by(description, kind)):
                 raise Refused(f"{UNPRINTED}: a size by `varint quic` is printed for bytes", kind.at)
+        case m.Check():
+            check_covered(description, kind)
+        case m.Rest():
+            check_rest(description, kind)
         case m.Size() if kind.most >= MOST_BYTES:
             raise Refused(f"{UNPRINTED}: a size of fewer than 2^60 bytes is printed", kind.at)
         case m.Optional() | m.If() | m.List() if any(m.ordered(use.description) for use in m.uses(kind)):
             raise Refused("a part with sizes stands neither in a list nor behind a condition", kind.at)
     for use in m.uses(kind):
+        if m.open_ended(use.description):
+            raise Refused(f"{UNPRINTED}: `{use.module}` reads to the end of the bytes", kind.at)
         if m.ordered(use.description) and use.description.order != description.order:
             raise Refused(f"`{use.module}` has sizes, so its order must be {description.order} as here", kind.at)
+
+
+def check_rest(description: m.Description, kind: m.Rest) -> None:
+    """Refuses a rest that is no bytes, that a line follows, or whose first byte is not known."""
+    head = tuple(it for it in description.kinds if it is not kind and not isinstance(it, m.Verify))
+    if not isinstance(kind.item, m.Octet | m.Use):
+        raise Refused(f"{UNPRINTED}: in code the rest is bytes or parts", kind.at)
+    if isinstance(kind.item, m.Use) and not description.error:
+        raise Refused(f"{UNPRINTED}: in code a rest of parts stands in a format with an `error`", kind.at)
+    if isinstance(kind.item, m.Use) and least_bits(kind.item) < 8:
+        raise Refused("a part of the rest has at least 8 bits of constant width", kind.at)
+    if description.kinds.index(kind) != len(head):
+        raise Refused(f"{UNPRINTED}: in code the rest is the last line", kind.at)
+    bits = m.total(head)
+    if bits is None or bits % 8:
+        raise Refused(f"{UNPRINTED}: in code the lines before the rest have whole bytes, of constant width", kind.at)
+
+
+def covered(description: m.Description, kind: m.Kind) -> tuple[m.Kind, ...]:
+    """Returns the fields of a checksum, in its order."""
+    check = kind.check if isinstance(kind, m.Verify) else kind
+    over = check.over if isinstance(check, m.Check) else ()
+    return tuple(it for name in over for it in description.fields if it.name == name)
+
+
+def check_covered(description: m.Description, kind: m.Check) -> None:
+    """Refuses a checksum of fields that are neither bytes nor numbers of whole bytes."""
+    covers = covered(description, kind)
+    for it in covers:
+        octets = isinstance(it, m.Array | m.List | m.Sized | m.Until | m.Rest) and isinstance(it.item, m.Octet)
+        if not octets and not (is_whole(it) and description.order == "BE"):
+            why = f"in code a checksum covers bytes, and numbers and cases of 8, 16 or 32 bits, and `{m.label(it)}` is none"
+            raise Refused(f"{UNPRINTED}: {why}", kind.at)
+    if kind.sum == "sum16" and not all(is_whole(it) for it in covers[:-1]):
+        raise Refused(f"{UNPRINTED}: in code bytes are the last field of a `sum16`", kind.at)
+
+
+def least_bits(use: m.Use) -> int:
+    """Returns the number of bits of the lines of a part that have a constant width."""
+    return sum(m.bits(it) or 0 for it in use.description.kinds)
+
+
+def is_whole(kind: m.Kind) -> bool:
+    """Returns true for an unsigned number, or a case, that has all bits of a type of 8, 16 or 32 bits."""
+    match kind:
+        case m.Number(integer=whole):
+            return whole.base == f"u{whole.width}" and whole.width <= 32
+        case m.Enum(enum=enum):
+            return enum.width in (8, 16, 32)
+    return False
 
 
 def check_octets(kind: m.Sized, size: m.Size | None) -> None:
@@ -277,7 +361,11 @@ class Format:
         self.lines = lines_of(description)
         self.made = f"Made by `./format` from {path}: edit that file and make this one anew."
         self.type, self.doc, self.error = description.name, description.doc, description.error
-        self.total, self.order, self.o = description.bits, description.order, ORDERS[description.order]
+        self.order, self.o = description.order, ORDERS[description.order]
+        self.checks = [it.kind for it in self.lines if isinstance(it.kind, m.Check)]
+        self.total = None if self.checks else description.bits
+        self.rest = next((it for it in description.kinds if isinstance(it, m.Rest)), None)
+        self.given = [given_line(self.rest)] if self.rest else []
         self.grows = any(m.allocates(it.kind) for it in self.lines)  # the read allocates memory
         self.ordered = m.ordered(description)  # code reads it in its own order alone
         self.own, self.sized, self.e = bool(self.error) or self.grows, self.total is not None, self.error or "Error"
@@ -286,12 +374,32 @@ class Format:
         self.parts = [part for it in self.lines for part in it.parts]
         self.tests = [it for it in self.lines if it.error]
         self.fitting = all_fit(description.kinds)
+        self.valued = all_values(description.kinds)  # its laws are projections of a value
         self.result = f"(Result {self.type} {self.e})" if self.own else self.type
         self.spec = spec_of(module)
         self.declared = f"Rattle.{crate}.specs.declared.{module}"
         self.goals = f"Rattle.{crate}.proofs.{module}"
         self.specs_path = f"Rattle.{crate}.specs.{self.spec}"
         self.lemmas_path = f"Rattle.{crate}.proofs.{self.spec}Lemmas"
+
+    @property
+    def head(self) -> int:
+        """The number of bytes before the rest."""
+        return sum(it.wide for it in self.lines) // 8
+
+    @property
+    def rest_line(self) -> Line | None:
+        """The line of the rest, or None if there is none."""
+        return next((it for it in self.lines if self.rest and it.name == self.rest.name), None)
+
+    def decoder(self, order: str, rest: str) -> str:
+        """Returns the reads, of so many bytes of the rest if there is one."""
+        return f"{self.m}_decoder {order}" + f" {rest}" * bool(self.rest)
+
+    @property
+    def written(self) -> list[Line]:
+        """The lines that are written: all but the tests of checksums."""
+        return [it for it in self.lines if not isinstance(it.kind, m.Verify)]
 
     @property
     def bytes(self) -> int:
@@ -304,19 +412,19 @@ class Format:
         return [self.lines[k : k + each] for k in range(0, len(self.lines), each)]
 
     def entry_parts(self) -> list[list[Line]]:
-        """Returns the lines of each definition of the reads: one ends after a line that stops, or with a piece."""
+        """Returns the lines of each definition of the reads: one ends with a piece, or after a line that stops."""
         parts: list[list[Line]] = [[]]
         ends = [it[-1] for it in self.pieces()[:-1]]
         for it in self.lines:
             parts[-1].append(it)
-            if it.stops or it in ends:
+            if it in ends or it.stops and not self.valued:
                 parts.append([])
         return parts
 
     def entry_at(self, line: Line) -> tuple[str, list[Line]]:
         """Returns the definition of the reads that begins with a line, and the earlier lines whose values it takes."""
         k = next(k for k, part in enumerate(self.entry_parts()) if part[:1] == [line])
-        seen = [it for it in self.lines[: line.index] if it.name]
+        seen = self.given + [it for it in self.lines[: line.index] if it.name]
         return (f"{self.m}_decoder_{k}" if k else f"{self.m}_decoder"), seen
 
     def mapped(self, kind: m.Printed) -> bool:

@@ -329,7 +329,10 @@ class Sized(Field):
 
 @dataclass(frozen=True, slots=True)
 class Fill(Field):
-    """fill NAME TYPE of MODULE ERROR: parts up to the end of the size."""
+    """fill NAME TYPE of MODULE ERROR: parts up to the end of the size.
+
+    Back ends have the parts of a `rest` as such a line without an error: the number of bytes is given to the read.
+    """
 
     use: Use
     error: str
@@ -397,22 +400,57 @@ class Rest(Field):
 
 @dataclass(frozen=True, slots=True)
 class Until(Field):
-    """until NAME TYPE BITS STOP: numbers up to the first STOP, which is not an item."""
+    """until NAME bytes STOP, until NAME TYPE BITS STOP: items up to the first STOP, which is not an item."""
 
-    item: Integer
+    item: Integer | Octet
     stop: int
+
+
+@dataclass(frozen=True, slots=True)
+class Blocks(Field):
+    """blocks NAME: bytes in blocks, each behind its size in 8 bits, up to an empty one, which is no item."""
+
+
+# The bits of each checksum.
+SUMS = {"sum16": 16, "crc32": 32, "crc32-mpeg": 32, "crc16-ccitt": 16, "crc16-x25": 16, "crc16-kermit": 16}
+
+
+@dataclass(frozen=True, slots=True)
+class Check(Line):
+    """check SUM over FIELD.. ERROR: the checksum of the bytes of these fields, which may stand behind this line."""
+
+    sum: str
+    over: tuple[str, ...]
+    error: str
+
+    @property
+    def width(self) -> int:
+        """The number of bits."""
+        return SUMS[self.sum]
+
+    @property
+    def word(self) -> str:
+        """The name of the checksum in code."""
+        return self.sum.replace("-", "_")
+
+
+@dataclass(frozen=True, slots=True)
+class Verify(Line):
+    """The test of a `check`, which has no bits: the parser puts it behind the last field of the check."""
+
+    check: Check
 
 
 Described: TypeAlias = (
     Bool | Number | NonZero | MaybeNonZero | Enum | Array | Unary | Groups | Golomb | Varint | Part | Optional | If | List
-    | Sized | Fill | Choose | Rest | Until
+    | Sized | Fill | Choose | Rest | Until | Blocks
 )  # fmt: skip
-Hidden: TypeAlias = Const | Skip | Flag | Count | Tag | Size
+Hidden: TypeAlias = Const | Skip | Flag | Count | Tag | Size | Check | Verify
 Kind: TypeAlias = Described | Hidden
 # The kinds of which code is printed.
 Printed: TypeAlias = (
     Bool | Number | NonZero | MaybeNonZero | Enum | Array | Unary | Groups | Golomb | Varint | Part | Optional | If | List
-    | Const | Skip | Flag | Count | Tag | Choose | Size | Sized | Fill
+    | Const | Skip | Flag | Count | Tag | Choose | Size | Sized | Fill | Until | Rest | Blocks | Check | Verify
 )  # fmt: skip
 Measured: TypeAlias = Sized | Choose | Fill
 
@@ -479,8 +517,10 @@ def bits(kind: Kind) -> int | None:
             return kind.enum.width
         case Array():
             return kind.item.width * kind.count
-        case Const() | Skip() | Count() | Tag() | Size() if not is_varint(kind):
+        case Const() | Skip() | Count() | Tag() | Check() | Size() if not is_varint(kind):
             return kind.width
+        case Verify():
+            return 0
         case Part() if not kind.use.description.error:
             return kind.use.description.bits
     return None
@@ -536,7 +576,7 @@ def held_item(kind: Kind) -> Item | None:
     match kind:
         case Enum():
             return kind.enum
-        case Array() | List() | Rest() | Sized():
+        case Array() | List() | Rest() | Until() | Sized():
             return kind.item
         case Part() | Optional() | If() | Fill():
             return kind.use
@@ -554,6 +594,8 @@ def refusals(kind: Kind) -> list[tuple[str, str]]:
     match kind:
         case Const() | Sized() | Fill():
             own = [(kind.error, ""), *own]
+        case Verify():
+            own = [(kind.check.error, "")]
         case Choose():
             own = [(kind.unknown, ""), (kind.overrun, ""), *own]
         case _ if isinstance(item := held_item(kind), EnumType):
@@ -563,7 +605,7 @@ def refusals(kind: Kind) -> list[tuple[str, str]]:
 
 def grows(kind: Kind) -> bool:
     """Returns true if the value of a line allocates memory."""
-    if isinstance(kind, List | Fill | Rest | Until):
+    if isinstance(kind, List | Fill | Rest | Until | Blocks):
         return True
     if isinstance(kind, Choose):
         return any(isinstance(it.held, Octet) or isinstance(it.held, Use) and has_list(it.held) for it in kind.arms)
@@ -585,7 +627,10 @@ def is_measured(kind: Kind) -> TypeGuard[Measured]:
 
 def ordered(description: Description) -> bool:
     """Returns true if a description, or a part of it, has sizes: code reads it in its own order of bits alone."""
-    return any(is_measured(it) or any(ordered(use.description) for use in uses(it)) for it in description.kinds)
+    parts_to_end = any(isinstance(it, Rest) and isinstance(it.item, Use) for it in description.kinds)
+    return parts_to_end or any(
+        is_measured(it) or any(ordered(use.description) for use in uses(it)) for it in description.kinds
+    )
 
 
 def allocates(kind: Kind) -> bool:
@@ -641,6 +686,8 @@ def rust_type(kind: Described) -> str:
             return f"Vec<{kind.use.name}>"
         case List() | Rest() | Until():
             return f"Vec<{item_type(kind.item)}>"
+        case Blocks():
+            return "Vec<Block>"
 
 
 def span(item: Item) -> tuple[int, int] | None:
@@ -688,6 +735,10 @@ def label(kind: Kind) -> str:
             return f"{kind.target}_bytes"
         case Tag():
             return f"{kind.name}_tag"
+        case Check():
+            return f"stored_{kind.word}"
+        case Verify():
+            return ""
     return kind.name
 
 

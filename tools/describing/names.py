@@ -6,7 +6,7 @@ from typing import TypeAlias
 
 Table: TypeAlias = dict[str, str]  # the names of each module, with blanks between them
 
-SYMBOLS = {it: f"◌{it}◌" for it in "≡ ≢ ∷ ++ ^ < ≤ + - * / ∙ == ⊎ ↔".split()}
+SYMBOLS = {it: f"◌{it}◌" for it in "≡ ≢ ∷ ++ ^ < ≤ + - * / ∙ == ⊎ ↔ &".split()}
 SYMBOLS |= {"[]": "[]", "if": "if◌then◌else◌", "←": "◌>>=◌"}
 # The letters \ue000 to \ue0ff are those of hidden names (`renamed.py`).
 LETTER = r"(?:[^\W\d]|[\ue000-\ue0ff])"
@@ -46,6 +46,9 @@ Rattle.bitstream_io.specs.Callers: ← Decoder Encoder Done pure list_item Error
 Rattle.bitstream_io.specs.Error.TheVariants: VariableWidthOverflow RedundantGroup
 Rattle.bitstream_io.specs.Golomb: ue_decoder ue_writes ue_size se_decoder se_writes se_size
 Rattle.bitstream_format.specs.Varint: varint_decoder varint_writes varint_size
+Rattle.bitstream_format.specs.Until: until_decoder until_writes until_size IsUnended
+Rattle.bitstream_format.specs.Blocks: blocks_decoder blocks_writes blocks_size IsBlock
+Rattle.bitstream_format.specs.Checks: bytes1 bytes2 bytes4 low_step high_step sum16 crc32 crc32_mpeg crc16_ccitt crc16_x25 crc16_kermit
 Rattle.bitstream_io.specs.Grows: GrowingOutcome PartsRead
 Rattle.bitstream_io.specs.Loop: parts_size ItemsRead ItemsWritten
 Rattle.bitstream_io.specs.SliceMut: HoldsFirst written_bytes
@@ -57,12 +60,29 @@ Rattle.bitstream_io.specs.Word: zig
 )
 SPECS |= {f"Rattle.std.specs.declared.num.NonZeroU{n}": f"NonZeroU{n}" for n in (8, 16, 32, 64, 128)}
 
+# In specs of a format that is a value.
+VALUES = table(
+    """
+Rattle.std.proofs.Common: refl true arith
+Rattle.std.proofs.lemmas.Bool: ne_eqb
+Rattle.bitstream_format.specs.Format: ← Plain=PlainFormat Own=OwnFormat Parts=FormatParts format named renamed field own_field const free sure & done
+    own_done
+Rattle.bitstream_format.specs.Lists: even_array even_list own_even_list list own_list byte_list optional own_optional
+    with_error error_of own=as_own
+Rattle.bitstream_format.specs.Cases: cases open_cases cases_array own_cases_array open_cases_array
+Rattle.bitstream_format.specs.Chosen: Choice=FormatChoice chosen by_size Goes=CaseGoes held-goes plain_held-goes alone-goes bytes_held-goes
+Rattle.bitstream_format.specs.Measured: varint vec Written=WrittenPart of_format of_choice of_items size_of_part stored_of_part over_bytes
+    filling in_units
+Rattle.bitstream_format.specs.SizeLaws: units-again
+"""
+)
+
 # In proofs. A name comes from the first module that has it.
 PROOFS = table(
     """
 Rattle.std.proofs.Common: w8 w16 w32 w64 ≡ ≢ ^ < ≤ + - * / ++ ∷ [] == ⊎ ∙ ℕ ℤ Bool true false List Result Ok Err Option Some None length
     refl ap sym subst arith rules
-Rattle.std.specs.Prelude: is_some if take drop pos negsuc map
+Rattle.std.specs.Prelude: is_some if take drop pos negsuc map bit_xor
 Rattle.std.specs.Int: w128
 Rattle.std.proofs.lemmas.List.Elements: All-weaker
 Rattle.std.proofs.lemmas.Int: to_z-of_z
@@ -91,7 +111,12 @@ Rattle.bitstream_io.proofs.GrowsLemmas: go_grown stop_grown grown_end vec-grown
 Rattle.bitstream_io.proofs.EachLemmas: grown_made all-made own_map_err own_optional-back each_part-back made-each packs-made made_items-back
     made_items-finds part_items-finds part_items-misses all_ok-items made-put made-all made-stop
 Rattle.bitstream_io.proofs.GolombLemmas: ue-back ue-packs se-back se-packs
-Rattle.bitstream_format.proofs.VarintLemmas: varint-back varint-packs
+Rattle.bitstream_format.specs.VarintLaws: varint-back varint-packs
+Rattle.bitstream_format.proofs.UntilLemmas: until-back until-packs
+Rattle.bitstream_format.proofs.RestLemmas: rest-back
+Rattle.bitstream_format.proofs.BlocksLemmas: blocks-back blocks-packs
+Rattle.bitstream_format.proofs.ChecksLemmas: sum16-small crc32-small crc32_mpeg-small crc16_ccitt-small crc16_x25-small crc16_kermit-small
+    over-then sum-then verified-back
 Rattle.std.proofs.lemmas.List: map-id length-set
 Rattle.bitstream_io.proofs.SliceLemmas: new_answer
 Rattle.bitstream_io.proofs.ReadsLemmas: map_err
@@ -102,14 +127,21 @@ Rattle.bitstream_io.proofs.WriteParts: all_none
 PROOFS |= {module: names for module, names in SPECS.items() if module != "Rattle.std.specs.Prelude"}
 
 # Names that no type or case of a format may have.
-TAKEN = {it for names in SPECS.values() for it in names.split()} - {"NonZero"} | {"Reader", "Fits"}
+TAKEN = {
+    it
+    for names in [*SPECS.values(), "PlainFormat OwnFormat FormatParts FormatChoice CaseGoes WrittenPart"]
+    for it in names.split()
+} - {"NonZero"} | {
+    "Reader",
+    "Fits",
+}
 
 
 # Words that name no definition: a field after its holder; a name that a line binds, declares or sets; a name that a
 # record has twice; the parameters of a definition of reads.
 BOUND = re.compile(
-    r"\b[a-z]\w*(?:\.[\w-]+)+|(?<=\))\.[\w-]+|^ +\w+ (?=←)|^ +pub \w+ :|(?:^|[{;]) +\w+ =(?= )"
-    r"|\b(\w+) = \1(?= ?[;}])|(?<=_decoder_)\d+ o( \w+)+",
+    r"\b(?!\w+_format\.)[a-z]\w*(?:\.[\w-]+)+|(?<=\))\.[\w-]+|^ +\w+ (?=←)|^ +pub \w+ :|(?:^|[{;]) +\w+ =(?= )"
+    r"|\b(\w+) = \1(?= ?[;}])|(?<=_decoder_)\d+ o( \w+)+|(?<=_lines_)\d+( \w+)+",
     re.MULTILINE,
 )
 
@@ -136,6 +168,9 @@ UNFOLDS: Table = {
     "NonZero": "non_zero non_zero_decoder option_decoder",
     "Vbr": "groups groups_at",
     "Rattle.bitstream_format.specs.Within": "size_encoder",
+    "Rattle.bitstream_format.specs.Until": "until_from",
+    "Rattle.bitstream_format.specs.Blocks": "blocks_from",
+    "Rattle.bitstream_format.specs.Checks": "crc_over steps sum16_state",
     "Rattle.bitstream_format.specs.Stated": "size_in_units stated_size stored_size stored_encoder",
 }
 

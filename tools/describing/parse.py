@@ -51,9 +51,11 @@ STARTS = {
     "fill": "`fill NAME TYPE of MODULE ERROR`",
     "choose": f"`choose NAME TYPE [by FIELD] [sized ERROR]: {ARMS}`",
     "rest": LIST.format("rest"),
-    "until": "`until NAME TYPE BITS STOP`",
+    "blocks": "`blocks NAME`",
+    "check": "`check SUM over FIELD.. ERROR`",
+    "until": "`until NAME bytes STOP` or `until NAME TYPE BITS STOP`",
 }
-COMING = ("tag", "size", "sized", "fill", "choose", "rest", "until")
+COMING = ("tag", "size", "sized", "fill", "choose", "rest", "until", "check", "blocks")
 
 
 class Find(Protocol):
@@ -69,6 +71,19 @@ class Context:
 
     find: Find
     kinds: list[m.Kind] = field(default_factory=list)
+
+    def add(self, kind: m.Kind) -> None:
+        """Adds a line, and behind it the test of each checksum whose last field it is."""
+        self.kinds.append(kind)
+        tested = [it.check for it in self.kinds if isinstance(it, m.Verify)]
+        for it in [it for it in self.kinds if isinstance(it, m.Check) and it not in tested]:
+            if not self.missing(it):
+                self.kinds.append(m.Verify(it.at, it.doc, it))
+
+    def missing(self, check: m.Check) -> list[str]:
+        """Returns the fields of a checksum that no line so far describes."""
+        names = [it.name for it in self.kinds if m.is_field(it)]
+        return [it for it in check.over if it not in names]
 
     def enum(self, name: str) -> m.EnumType | None:
         """Returns the enum of this name that an earlier line defines."""
@@ -485,8 +500,32 @@ def rest_line(words: Words, context: Context, at: Position) -> m.Kind:
 
 def until_line(words: Words, context: Context, at: Position) -> m.Kind:
     name = words.next()
+    if words.peek() == "bytes" and words.next():
+        return m.Until(at, words.behind, name, m.Octet(), words.number(0, 255, "the byte that ends it"))
     whole = integer(words)
     return m.Until(at, words.behind, name, whole, words.number(whole.least, whole.most, "the number that ends it"))
+
+
+def blocks_line(words: Words, context: Context, at: Position) -> m.Kind:
+    name = words.next()
+    return m.Blocks(at, words.behind, name)
+
+
+def check_line(words: Words, context: Context, at: Position) -> m.Kind:
+    name = words.next()
+    if name not in m.SUMS:
+        raise words.refuse(f"`{name}` is no checksum: take one of {', '.join(m.SUMS)}")
+    if words.next() != "over":
+        raise words.refuse(f"`check {name} over FIELD.. ERROR`")
+    over = [words.next()]
+    while words.peek(1):
+        over.append(words.next())
+    error = words.next()
+    if len(set(over)) < len(over):
+        raise Refused("a field counts once in a checksum", at)
+    named = ", ".join(f"`{it}`" for it in over[:-1]) + " and " * (len(over) > 1) + f"`{over[-1]}`"
+    doc = words.behind or f"The checksum of {named} is another one."
+    return m.Check(at, doc, name, tuple(over), error)
 
 
 TypedLine = Callable[[Words, Context, str, Position, str], m.Kind]
@@ -520,6 +559,8 @@ STARTED: dict[str, StartedLine] = {
     "fill": fill_line,
     "choose": choose_line,
     "rest": rest_line,
+    "check": check_line,
+    "blocks": blocks_line,
     "until": until_line,
 }
 
@@ -582,13 +623,20 @@ def take_head(head: Head, words: Words) -> None:
 
 def take(head: Head, context: Context, words: Words) -> None:
     """Parses one line."""
-    if words.peek() in HEADS and len(words.found) < 3:
+    if words.peek() in HEADS and len(words.found) < 3 and words.peek(1) not in TYPES:
         take_head(head, words)
     elif words.peek() == "example":
         digits = " ".join(it for _, it in words.found[1:])
         head.examples.append(m.Example(words.place(), digits, words.behind))
     else:
-        context.kinds.append(kind_of(words, context))
+        context.add(kind_of(words, context))
+
+
+def check_sums(context: Context) -> None:
+    """Refuses a checksum of a field that no line describes."""
+    for it in context.kinds:
+        if isinstance(it, m.Check) and context.missing(it):
+            raise Refused(f"no field `{context.missing(it)[0]}`", it.at)
 
 
 def words_of(line: str, count: int) -> Words:
@@ -613,6 +661,7 @@ def parsed(text: str, find: Find) -> m.Description:
         except (ValueError, IndexError):
             why = f"`{line.strip()}` is not understood: it is "
             raise Refused(why + form_of(words), words.place()) from None
+    check_sums(context)
     kinds, examples = tuple(context.kinds), tuple(head.examples)
     return m.Description(head.name, head.doc, head.order, head.error, kinds, head.heads, examples)
 

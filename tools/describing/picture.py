@@ -53,8 +53,11 @@ def said(kind: m.Kind, kinds: tuple[m.Kind, ...]) -> str:
             return ", ".join(names[:-1]) + " or " * (len(names) > 1) + names[-1]
         case m.Rest():
             return "bytes to the end" if isinstance(kind.item, m.Octet) else f"{m.item_type(kind.item)} to the end"
+        case m.Blocks():
+            return "blocks up to an empty one"
         case m.Until():
-            return f"{kind.item.base} up to {kind.stop}"
+            what = "bytes" if isinstance(kind.item, m.Octet) else kind.item.base
+            return f"{what} up to {kind.stop}"
     return ""
 
 

@@ -6,6 +6,7 @@ from typing import Callable, TypeAlias
 
 from describing import model as m
 from describing.input import Input, ReadError, Value
+from describing.write import checksum_of
 
 
 @dataclass(slots=True)
@@ -46,7 +47,7 @@ def values(kind: m.Kind) -> Callable[[Input], Value] | None:
             return lambda row: row.number(width) + 1
         case m.MaybeNonZero(integer=m.Integer(width=width)):
             return lambda row: row.number(width) or None
-        case m.Count(width=width) | m.Tag(width=width):
+        case m.Count(width=width) | m.Tag(width=width) | m.Check(width=width):
             return lambda row: row.number(width)
         case m.Varint() | m.Size(varint=True):
             return lambda row: row.number(8 * (1 << row.number(2)) - 2)
@@ -73,6 +74,8 @@ def values(kind: m.Kind) -> Callable[[Input], Value] | None:
             return of_golomb(signed)
         case m.Until():
             return of_until(kind)
+        case m.Blocks():
+            return of_blocks
     return None
 
 
@@ -157,16 +160,29 @@ def of_golomb(signed: bool) -> Callable[[Input], Value]:
 
 
 def of_until(kind: m.Until) -> Callable[[Input], Value]:
-    """Returns the reader of numbers up to one that ends them."""
-    one = of_integer(kind.item)
+    """Returns the reader of numbers, or of bytes, up to one that ends them."""
+    octets = isinstance(kind.item, m.Octet)
+    one = of_integer(kind.item) if isinstance(kind.item, m.Integer) else lambda row: row.number(8)
 
     def read(row: Input) -> Value:
-        found: list[Value] = []
+        start, found = row.at, list[int]()
         while (it := one(row)) != kind.stop:
             found.append(it)
-        return found
+            if len(found) == 1 << 32:
+                raise ReadError("RunTooLong", start, why=f"{kind.stop} is not among the first 2^32 items.")
+        return bytes(found) if octets else [*found]
 
     return read
+
+
+def of_blocks(row: Input) -> Value:
+    """Reads blocks of bytes up to an empty one."""
+    start, found = row.at, list[Value]()
+    while size := row.number(8):
+        found.append(row.bytes(size))
+        if len(found) == 1 << 32:
+            raise ReadError("RunTooLong", start, why="None of the first 2^32 blocks is empty.")
+    return found
 
 
 # ---- lines whose values have parts
@@ -397,12 +413,29 @@ def number_in(value: Value) -> int:
     return value if isinstance(value, int) else 0
 
 
+def verify(check: m.Check, nodes: list[Node], description: m.Description) -> None:
+    """Refuses a record whose checksum is not that of its fields, as they are written."""
+    values = {it.name: it.value for it in nodes}
+    stored = next(it for it in nodes if it.kind is check)
+    found = checksum_of(check, description, values)
+    if stored.value != found:
+        raise ReadError(check.error, stored.start, why=f"The {check.sum} is {found:#x}.")
+
+
 def record_reader(description: m.Description) -> Callable[[Input], list[Node]]:
     """Returns the reader of all lines of a description, in order."""
-    readers = [reader_of(it) for it in description.kinds]
+    readers: list[m.Verify | Reader] = []
+    for kind in description.kinds:
+        readers.append(kind if isinstance(kind, m.Verify) else reader_of(kind))
 
     def read(row: Input) -> list[Node]:
         scope: Scope = {}
-        return [it(row, scope) for it in readers]
+        found: list[Node] = []
+        for one in readers:
+            if isinstance(one, m.Verify):
+                verify(one.check, found, description)
+            else:
+                found.append(one(row, scope))
+        return found
 
     return read

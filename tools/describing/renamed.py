@@ -48,7 +48,7 @@ def hide(it: m.Description, names: set[str]) -> m.Description:
 def hidden_kind(kind: Held, names: set[str]) -> Held:
     """Returns a line with hidden names."""
     found: dict[str, object] = {}
-    for attribute in ("name", "target", "field"):
+    for attribute in ("name", "target", "field", "by"):
         said = getattr(kind, attribute, None)
         if isinstance(said, str) and said in names:
             found[attribute] = hidden(said)
@@ -56,6 +56,10 @@ def hidden_kind(kind: Held, names: set[str]) -> Held:
         use = getattr(kind, attribute, None)
         if isinstance(use, m.Use):
             found[attribute] = hidden_use(use, names)
+    if isinstance(kind, m.Check):
+        found["over"] = tuple(hidden(it) if it in names else it for it in kind.over)
+    if isinstance(kind, m.Verify):
+        found["check"] = hidden_kind(kind.check, names)
     if isinstance(kind, m.Choose):
         arms = ((it, it.held) for it in kind.arms)
         found["arms"] = tuple(
@@ -120,7 +124,7 @@ def proof_name(found: re.Match[str]) -> str:
         return said
     if before.endswith("."):
         return f"{said}_" if before.endswith(("fits.", "args.")) else said
-    is_field = re.match(r"\s+=\s+(?!do\b)", behind) and re.search(r"(^|[{;])\s*$", before)
+    is_field = re.match(r"\s+=\s+(?!do\b|facts\b)", behind) and re.search(r"(^|[{;])\s*$", before)
     if before == "  pub ":
         record = text.rfind("pub record ", 0, line)
         is_field = re.match(r"pub record \w+Fields : Type", text[record:line])

@@ -18,7 +18,10 @@ QUOTED = frozenset(
 # Words of the proofs and of the printed code: a variable for a field of such a name has another name.
 LIFTED = (QUOTED - WORDS) | frozenset(
     """
-    alloc at bit bits cc drop first_bit fits from gives grind map more number o omega optional packet plain reader result
+    alloc atom byte_list const done even_array even_list field free list own_done
+    own_even_list own_field own_list own_optional sure with_error
+    chosen filling in_units of_choice of_format of_items over_bytes size_of_part stored_of_part varint vec
+    at bit bits cc drop first_bit fits from gives grind map more number o omega optional packet plain reader result
     rw search signed simp take unsigned value word words writer zeros
     """.split()
 )

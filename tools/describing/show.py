@@ -29,7 +29,8 @@ numbered from 0, and the lines of JSON from 1.
 
     choose body Body by kind: 1 Ack of ack, 2 Raw bytes  a choice with a case that holds bytes
     rest items u16 16                                  items of a list up to the end of the bytes, or of the size around
-    until name u8 8 0                                  numbers up to the first 0, which is no item
+    until name u16 16 0                                numbers up to the first 0, which is no item; or any width
+    check crc32 over level Wrong                       a checksum of fields of any kind
 
 A size limits the reader: no bit after it is read.
 

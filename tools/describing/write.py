@@ -7,6 +7,7 @@ from typing import Callable, TypeAlias, assert_never
 
 from describing import model as m
 from describing.input import Value
+from describing.sums import checksum
 
 
 # The greatest number below which JSON holds every whole number exactly.
@@ -190,6 +191,28 @@ def put_varint(bits: Bits, name: str, value: Value) -> None:
     bits.put(found, 8 * (1 << length) - 2)
 
 
+def put_until(bits: Bits, name: str, kind: m.Until, value: Value) -> None:
+    """Writes items, none of which ends them, and what ends them."""
+    octets = isinstance(kind.item, m.Octet)
+    found = [*raw(name, value)] if octets else items(name, value)
+    if kind.stop in found:
+        raise unfit(name, value, f"{kind.stop} ends it, and is no item")
+    put_items(bits, name, kind.item, value, None)
+    put_integer(bits, name, kind.item if isinstance(kind.item, m.Integer) else m.Integer("u8", 8), kind.stop)
+
+
+def put_blocks(bits: Bits, name: str, value: Value) -> None:
+    """Writes blocks of bytes, none of which is empty, and an empty one."""
+    for index, it in enumerate(items(name, value)):
+        inner = f"{name}[{index}]"
+        size = len(raw(inner, it))
+        if not 0 < size < 256:
+            raise unfit(inner, it, f"a block has 1 to 255 bytes, and not {size}")
+        bits.put(size, 8)
+        put_items(bits, inner, m.Octet(), it, None)
+    bits.put(0, 8)
+
+
 def put_field(bits: Bits, kind: m.Described, value: Value, whole: Record, name: str) -> None:
     """Writes a field."""
     match kind:
@@ -212,9 +235,9 @@ def put_field(bits: Bits, kind: m.Described, value: Value, whole: Record, name: 
         case m.Varint():
             put_varint(bits, name, value)
         case m.Until():
-            if kind.stop in items(name, value):
-                raise unfit(name, value, f"{kind.stop} ends it, and is no item")
-            put_items(bits, name, kind.item, [*items(name, value), kind.stop], None)
+            put_until(bits, name, kind, value)
+        case m.Blocks():
+            put_blocks(bits, name, value)
         case _:
             put_parts(bits, kind, value, whole, name)
 
@@ -348,6 +371,17 @@ def put_hidden(bits: Bits, kind: m.Hidden, description: m.Description, whole: Re
             bits.put(number(kind.name, found, 0, (1 << kind.width) - 1), kind.width)
         case m.Size():
             put_size(bits, kind, description, whole, path)
+        case m.Check():
+            bits.put(checksum_of(kind, description, whole, path), kind.width)
+
+
+def checksum_of(kind: m.Check, description: m.Description, whole: Record, path: str = "") -> int:
+    """Returns the checksum of the bytes of some fields, as they are written."""
+    inside = Bits(description.order)
+    for name in kind.over:
+        target = next(it for it in description.fields if it.name == name)
+        put_field(inside, target, whole.get(name), whole, joined(path, name))
+    return checksum(kind.sum, inside.bytes())
 
 
 def put_size(bits: Bits, kind: m.Size, description: m.Description, whole: Record, path: str) -> None:
@@ -397,7 +431,7 @@ def put_record(bits: Bits, description: m.Description, whole: Record, path: str 
             if isinstance(it, m.Choose):
                 check_selected(it, description, whole, path)
             put_field(bits, it, whole[it.name], asked, joined(path, it.name))
-        elif isinstance(it, m.Const | m.Skip | m.Flag | m.Count | m.Tag | m.Size):
+        elif isinstance(it, m.Const | m.Skip | m.Flag | m.Count | m.Tag | m.Size | m.Check):
             put_hidden(bits, it, description, whole, path)
 
 

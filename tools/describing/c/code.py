@@ -5,12 +5,12 @@ import re
 from typing import assert_never
 
 from describing import model as m
-from describing.c import decided
-from describing.c.cross import Crossed, base, comment, count, enums, fields, is_partial, parts, rust_type
+from describing.c import cross, decided, lists, optional, varying
+from describing.c.cross import Crossed, Member, base, enums, fields, is_narrow, is_partial, members, parts
 from describing.c.imports import ghost_uses
 from describing.c.status import DOES_NOT_FIT, END_OF_INPUT, NO_ROOM, own
 from describing.c.target import Target
-from describing.layout import Format
+from describing.layout import Format, enum_bits
 from describing.rust.reads import places_code
 
 INLINE = "#[inline(always)]"
@@ -20,30 +20,54 @@ EXPORT = "#[unsafe(no_mangle)]"
 def code(t: Target) -> str:
     """Returns the text of the module."""
     f = t.f
-    body = [*struct_code(f), *parsed_code(f), *conversions(f), *helpers(f), *fit_code(f), *answer_code(f)]
-    body += [*parse_code(f), *put_code(f), *pack_code(f)]
+    body = [*struct_code(f), *parsed_code(f), *conversions(f), *helpers(f), *fit_code(f)]
+    if cross.lists(f.description):
+        body += lists_code(f)
+    elif f.sized:
+        body += [*answer_code(f), *parse_code(f), *put_code(f), *pack_code(f)]
+    else:
+        body += [*varying.code(f), *pack_code(f)]
     text = "\n".join(body)
     head = [f"//! {t.made}", "//!", f"//! `{f.type}` for C.", *ghost_uses(t, text), "", *uses(f, text), ""]
     return "\n".join([*head, text]) + "\n"
 
 
+def lists_code(f: Format) -> list[str]:
+    """Returns the functions of a format with lists."""
+    kinds = cross.lists(f.description)
+    out = [line for number in dict.fromkeys(base(it) for it in kinds) for line in lists.keep_code(number)]
+    out += [line for it in kinds for line in lists.read_list_code(f, it)]
+    out += [*lists.read_code(f, to_c), *lists.answer_code(f), *lists.parse_code(f), *lists.writing_code(f)]
+    return [*out, *varying.size_code(f), *varying.put_code(f), *lists.pack_code(f)]
+
+
 def uses(f: Format, text: str) -> list[str]:
     """Returns the imports of the code."""
     names = sorted(
-        {f.type, *[f.error] * bool(f.error), *[it.name for it in enums(f.description) if f"{it.name}::" in text]}
+        {
+            *[f.type] * (not cross.lists(f.description)),
+            *[f.error] * bool(f.error),
+            *[it.name for it in enums(f.description) if f"{it.name}::" in text],
+        }
     )
     out = ["use crate::shared::{Packed, refused};"]
+    out += ["use crate::status::reader_status;"] * ("reader_status(" in text)
     out += [f"use crate::{it.module}::{{self, {it.name}C}};" for it in parts(f.description)]
     out += [f"use {f.crate}::{f.m}::{{{', '.join(names)}}};"]
-    out += ["use bitstream_io::Error;"] * (not f.error)
+    out += [f"use {f.crate}::{it.module}::{it.name};" for it in optional.uses(f)]
+    library = ["Error"] * (not f.error) if f.sized else varying.uses(f)
+    if cross.lists(f.description):
+        library = lists.uses(f)
+    out += [f"use bitstream_io::{{{', '.join(sorted(library))}}};"] * bool(library)
     return out + ["use std::num::NonZero;"] * ("NonZero<" in text)
 
 
 def struct_code(f: Format) -> list[str]:
     """Returns the struct of C."""
     out = [f"/// `struct {f.m}` of C.", "#[repr(C)]", "#[derive(Clone, Copy)]", f"pub struct {f.type}C {{"]
-    for it in fields(f.description):
-        out += [f"    /// {comment(it)}", f"    pub {it.name}: {rust_type(it)},"]
+    for it in members(f.description):
+        said = f"The number of items of `{it.name}`." if it.item else it.comment
+        out += [f"    /// {said}", f"    pub {it.name}: {it.rust},"]
     return [*out, "}", ""]
 
 
@@ -56,6 +80,11 @@ def parsed_code(f: Format) -> list[str]:
         f"pub struct {f.type}Parsed {{",
         "    /// The status.",
         "    pub status: i32,",
+        *[
+            "    /// The number of bytes that were taken, or of the items of a list without room for them.",
+            "    pub taken: usize,",
+        ]
+        * (not f.sized),
         "    /// The fields, if the status is 0.",
         f"    pub value: {f.type}C,",
         "}",
@@ -66,13 +95,20 @@ def parsed_code(f: Format) -> list[str]:
 # ---- conversions
 
 
-def to_c(kind: Crossed) -> str:
-    """Returns the field of C for a field."""
+def to_c(kind: Crossed) -> dict[str, str]:
+    """Returns the members of C for a field."""
+    if isinstance(kind, m.Optional | m.If):
+        return optional.to_c(kind)
+    return {kind.name: one_to_c(kind)}
+
+
+def one_to_c(kind: Crossed) -> str:
+    """Returns the member of C for a field that has one."""
     v = f"value.{kind.name}"
     match kind:
         case m.Bool():
             return f"{v} as u8"
-        case m.Number() | m.Array():
+        case m.Number() | m.Array() | m.Unary() | m.Groups() | m.Golomb() | m.Varint():
             return v
         case m.NonZero():
             return f"{v}.get()"
@@ -82,7 +118,7 @@ def to_c(kind: Crossed) -> str:
             return f"{v}.number()"
         case m.Part():
             return f"{kind.use.name}C::new(&{v})"
-    assert_never(kind)
+    raise AssertionError(kind)
 
 
 def from_c(kind: Crossed) -> str:
@@ -91,28 +127,32 @@ def from_c(kind: Crossed) -> str:
     match kind:
         case m.Bool():
             return f"{v} != 0"
-        case m.Number() | m.Array():
+        case m.Number() | m.Array() | m.Unary() | m.Groups() | m.Golomb() | m.Varint():
             return v
         case m.NonZero():
             return f"option_{base(kind)}({v})"
         case m.MaybeNonZero():
             return f"option_{base(kind)}({v})"
         case m.Enum():
-            return f"{kind.enum.name}::of({v})"
+            return f"{m.snake(kind.enum.name)}_from({v})" if is_narrow(kind.enum) else f"{kind.enum.name}::of({v})"
         case m.Part():
             return f"{v}.fields()"
-    assert_never(kind)
+        case m.Optional() | m.If():
+            return optional.from_c(kind)
+    raise AssertionError(kind)
 
 
-def zero(kind: Crossed) -> str:
-    """Returns the field of C after an error."""
-    if isinstance(kind, m.Part):
-        return f"{kind.use.module}::zero()"
-    return f"[0; {kind.count}]" if isinstance(kind, m.Array) else "0"
+def zero(member: Member) -> str:
+    """Returns a member of C after an error."""
+    if member.module:
+        return f"{member.module}::zero()"
+    return "0" if member.count is None else f"[0; {member.count}]"
 
 
 def conversions(f: Format) -> list[str]:
     """Returns the functions from the fields to the struct of C and back."""
+    if cross.lists(f.description):
+        return [*lists.given_code(f), *lists.fields_code(f, from_c, let_code), *zero_code(f)]
     t, all_fields = f.type, fields(f.description)
     return [
         f"impl {t}C {{",
@@ -122,11 +162,11 @@ def conversions(f: Format) -> list[str]:
         f"        ensures {{ result ≡ {f.m}_to_c value.now }}",
         "    {",
         f"        {t}C {{",
-        *[f"            {it.name}: {to_c(it)}," for it in all_fields],
+        *[f"            {name}: {value}," for it in all_fields for name, value in to_c(it).items()],
         "        }",
         "    }",
         "",
-        "    /// Returns the fields, or `None` if a number of C is no value of its field.",
+        "    /// Returns the fields, or `None` if a number of C is not a value of its field.",
         f"    {INLINE}",
         f"    pub(crate) fn fields(&self) -> Option<{t}>",
         f"        ensures {{ result ≡ {f.m}_from_c self.now }}",
@@ -138,13 +178,21 @@ def conversions(f: Format) -> list[str]:
         "    }",
         "}",
         "",
+        *zero_code(f),
+    ]
+
+
+def zero_code(f: Format) -> list[str]:
+    """Returns the function that makes the struct of C after an error."""
+    t = f.type
+    return [
         "/// Returns the struct of C after an error.",
         INLINE,
         f"pub(crate) fn zero() -> {t}C",
         f"    ensures {{ result ≡ {f.m}_zero }}",
         "{",
         f"    {t}C {{",
-        *[f"        {it.name}: {zero(it)}," for it in all_fields],
+        *[f"        {it.name}: {zero(it)}," for it in members(f.description)],
         "    }",
         "}",
         "",
@@ -153,7 +201,7 @@ def conversions(f: Format) -> list[str]:
 
 def let_code(kind: Crossed) -> list[str]:
     """Returns the statement that returns `None` unless a number of C is a value."""
-    case = "Ok" if isinstance(kind, m.Enum) else "Some"
+    case = "Ok" if isinstance(kind, m.Enum) and not is_narrow(kind.enum) else "Some"
     return [f"        let {case}({kind.name}) = {from_c(kind)} else {{", "            return None;", "        };"]
 
 
@@ -168,9 +216,28 @@ def helpers(f: Format) -> list[str]:
             found[f"option_{base(it)}"] = option_code(base(it))
         if isinstance(it, m.MaybeNonZero):
             found[f"number_{base(it)}"] = number_code(base(it))
-        if isinstance(it, m.Array):
+        if isinstance(it, m.Enum) and is_narrow(it.enum):
+            found[it.enum.name] = narrow_code(f, it.enum)
+        if isinstance(it, m.Array | m.List):
             found[items_name(it)] = items_code(it)
-    return [line for it in found.values() for line in it]
+    return [line for it in found.values() for line in it] + optional.code(f)
+
+
+def narrow_code(f: Format, enum: m.EnumType) -> list[str]:
+    """Returns the function from a number of C to a case, for an enum of which each number of its bits is a case."""
+    name = m.snake(enum.name)
+    return [
+        f"/// Returns the case of a number, or `None` for a number of more than {enum.width} bits.",
+        f"fn {name}_from(number: u{enum_bits(enum)}) -> Option<{enum.name}>",
+        f"    ensures {{ result ≡ {f.m}_{name}_from number }}",
+        "{",
+        f"    if number > {2**enum.width - 1} {{",
+        "        return None;",
+        "    }",
+        f"    Some({enum.name}::of(number))",
+        "}",
+        "",
+    ]
 
 
 def option_code(number: str) -> list[str]:
@@ -202,14 +269,14 @@ def number_code(number: str) -> list[str]:
     ]
 
 
-def items_name(kind: m.Array) -> str:
-    """Returns the name of the function that tests the items of an array."""
-    width = kind.item.width
+def items_name(kind: m.Array | m.List) -> str:
+    """Returns the name of the function that tests the items of an array or a list."""
+    width = kind.item.width if not isinstance(kind.item, m.Use) else 0
     return f"all_fit_{base(kind)}_{width}" if isinstance(kind.item, m.Integer) else "all_bytes"
 
 
-def items_code(kind: m.Array) -> list[str]:
-    """Returns the function that tests the items of an array."""
+def items_code(kind: m.Array | m.List) -> list[str]:
+    """Returns the function that tests the items of an array or a list."""
     item, says, test = kind.item, "λ b. b < 256", "u16::from(*x) < 256"
     if isinstance(item, m.Integer) and item.signed:
         says, test = f"FitsSignedBits {item.width}", f"*x >= {item.least} && *x <= {item.most}"
@@ -226,13 +293,19 @@ def items_code(kind: m.Array) -> list[str]:
     ]
 
 
-def tests(kind: Crossed) -> list[str]:
+def tests(f: Format, kind: Crossed) -> list[str]:
     """Returns the tests that a field fits its bits."""
     v = f"value.{kind.name}"
     match kind:
         case m.Bool():
             return []
-        case m.Number():
+        case m.Unary():
+            return [f"{v} <= {2**32 - 1}"]
+        case m.Varint():
+            return [f"{v} <= {2**62 - 1}"]
+        case m.Golomb():
+            return [f"{v} > {-(2**31)}" if kind.signed else f"{v} < {2**32 - 1}"]
+        case m.Number() | m.Groups():
             return [f"{v} >= {kind.integer.least}"] * kind.integer.signed + [f"{v} <= {kind.integer.most}"]
         case m.NonZero():
             return [f"{v}.get() - 1 <= {kind.integer.most}"]
@@ -245,17 +318,21 @@ def tests(kind: Crossed) -> list[str]:
             return [f"{items_name(kind)}(&{v})"]
         case m.Part():
             return [f"{kind.use.module}::is_fit(&{v})"]
+        case m.Optional() | m.If():
+            return optional.tests(f, kind)
+        case m.List():
+            return lists.tests(f, kind)
     assert_never(kind)
 
 
 def fit_code(f: Format) -> list[str]:
     """Returns the function that tests whether all fields fit their bits."""
-    found = [test for it in fields(f.description) for test in tests(it)] or ["true"]
+    found = [test for it in fields(f.description) for test in tests(f, it)] or ["true"]
     return [
         "/// Returns true if each field fits its bits.",
         INLINE,
-        f"pub(crate) fn is_fit(value: &{f.type}) -> bool",
-        "    ensures { IsTrue result ↔ Fits value.now }",
+        f"pub(crate) fn is_fit(value: &{varying.given(f)}) -> bool",
+        f"    ensures {{ IsTrue result ↔ Fits {varying.value_of(f, 'value.now')} }}",
         "{",
         "    " + "\n        && ".join(found),
         "}",
@@ -362,11 +439,12 @@ def put_code(f: Format) -> list[str]:
 def pack_code(f: Format) -> list[str]:
     """Returns the function that packs the struct of C."""
     c = f"({f.m}_from_c value.now)"
+    n = f.bytes if f.sized else f"({f.m}_room {c})"
     return [
         "/// Writes the fields to the first bytes of a buffer.",
         EXPORT,
         f'pub extern "C" fn proved_{f.m}_pack(value: &{f.type}C, buffer: &mut [u8]) -> Packed',
-        f"    ensures {{ PacksInto (IsSomeAnd {c} Fits) {f.o} {f.bytes} ({f.m}_held {c}) buffer.old result buffer.new }}",
+        f"    ensures {{ PacksInto (IsSomeAnd {c} Fits) {f.o} {n} ({f.m}_held {c}) buffer.old result buffer.new }}",
         "{",
         "    match value.fields() {",
         "        Some(fields) => put(&fields, buffer),",

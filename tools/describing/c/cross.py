@@ -1,37 +1,138 @@
 """How the fields of a format cross to C: which of them can, and the number types that hold them there."""
 from __future__ import annotations
 
+from dataclasses import dataclass
 from typing import TypeAlias, TypeGuard, assert_never
 
 from describing import model as m
-from describing.layout import enum_bits
+from describing.layout import LONG, enum_bits
 from describing.model import Refused
 from describing.rust.calls import integer_range
 
-Crossed: TypeAlias = m.Bool | m.Number | m.NonZero | m.MaybeNonZero | m.Enum | m.Array | m.Part
+Crossed: TypeAlias = (
+    m.Bool | m.Number | m.NonZero | m.MaybeNonZero | m.Enum | m.Array | m.Unary | m.Groups | m.Golomb | m.Varint | m.Part
+    | m.Optional | m.If | m.List
+)  # fmt: skip
+
+# The most bytes of a format whose size varies: `pack` holds them on the stack.
+MOST_BYTES = 4096
+
+# Why a field of another kind does not cross to C.
+OTHERS = {
+    m.Fill: "has as many parts as fill a size, which does not cross to C yet",
+    m.Sized: "has a size of its own, which does not cross to C yet",
+    m.Choose: "is a choice, which does not cross to C yet",
+}
+
+
+@dataclass(frozen=True, slots=True)
+class Member:
+    """A member of the struct of C: its name, the Rust type of it, or of each item of an array, and its comment.
+
+    `module` is that of a part, `flag` is true for a `bool` of C, `count` the number of items of an array, and `item` the
+    type of the items of a list, of which the member is the number.
+    """
+
+    name: str
+    base: str
+    comment: str
+    module: str = ""
+    flag: bool = False
+    count: int | None = None
+    item: str = ""
+
+    @property
+    def rust(self) -> str:
+        """The type in the Rust struct that crosses."""
+        return self.base if self.count is None else f"[{self.base}; {self.count}]"
 
 
 def crosses(kind: m.Kind) -> TypeGuard[Crossed]:
     """Returns true if a field has a type in C."""
-    return isinstance(kind, m.Bool | m.Number | m.NonZero | m.MaybeNonZero | m.Enum | m.Array | m.Part)
+    return m.is_field(kind) and type(kind) not in OTHERS
 
 
 def check(description: m.Description) -> None:
-    """Refuses a format that has no constant number of bytes, or a field that C does not have."""
+    """Refuses a format with a field that C does not have."""
+    for it in description.kinds:
+        if isinstance(it, m.Check):
+            raise Refused("a checksum does not cross to C yet", it.at)
     for kind in description.fields:
         if not crosses(kind):
-            raise Refused(f"`{kind.name}` has no constant number of bits, so it does not cross to C", kind.at)
+            raise Refused(f"`{kind.name}` {OTHERS[type(kind)]}", kind.at)
         check_field(kind)
-    if description.bits is None:
-        raise Refused("a part has errors of its own, so the format does not cross to C yet")
+    names = [it.name for it in members(description)]
+    if lists(description) and len(description.kinds) > LONG:
+        raise Refused(f"a format with a list and more than {LONG} lines does not cross to C yet")
+    for kind in description.fields:
+        if isinstance(kind, m.Optional | m.If) and names.count(f"has_{kind.name}") > 1:
+            raise Refused(f"two members of the struct of C have one name, `has_{kind.name}`", kind.at)
+    if description.bits is None and most(description) > 8 * MOST_BYTES:
+        longest = max(description.fields, key=lambda it: most_of(description, it))
+        raise Refused(
+            f"`{longest.name}` can make the format longer than {MOST_BYTES} bytes, which does not cross to C yet",
+            longest.at,
+        )
 
 
 def check_field(kind: Crossed) -> None:
     """Refuses a field that C does not have."""
     if isinstance(kind, m.Array) and isinstance(kind.item, m.EnumType):
         raise Refused(f"`{kind.name}` is an array of an enum, which does not cross to C yet", kind.at)
-    if not isinstance(kind, m.Part) and base(kind).endswith("128"):
+    if not isinstance(kind, m.Part | m.Optional | m.If) and base(kind).endswith("128"):
         raise Refused(f"`{kind.name}` has a number of 128 bits, which C does not have", kind.at)
+    if isinstance(kind, m.List) and not is_plain(kind.item):
+        raise Refused(
+            f"`{kind.name}` is a list of other items than unsigned numbers and bytes, which does not cross to C yet",
+            kind.at,
+        )
+    for use in m.uses(kind):
+        try:
+            check(use.description)
+        except Refused as why:
+            raise Refused(f"`{use.module}`: {why}", kind.at) from None
+        if m.allocating(use):
+            raise Refused(f"`{kind.name}` is a part with a list, which does not cross to C yet", kind.at)
+
+
+def is_plain(item: m.Item) -> bool:
+    """Returns true for bytes and unsigned numbers."""
+    return isinstance(item, m.Octet) or isinstance(item, m.Integer) and not item.signed
+
+
+def item_width(kind: m.List | m.Array) -> int:
+    """Returns the bits of an item."""
+    return kind.item.width if isinstance(kind.item, m.Integer) else 8
+
+
+def most(description: m.Description) -> int:
+    """Returns a number of bits that the fields that fit do not exceed."""
+    return sum(most_of(description, it) for it in description.kinds)
+
+
+def most_of(description: m.Description, kind: m.Kind) -> int:
+    """Returns a number of bits that a line does not exceed."""
+    width = m.bits(kind)
+    if width is not None:
+        return width
+    match kind:
+        case m.Unary():
+            return 1 << 32
+        case m.Groups():
+            return kind.group * ((kind.integer.width - 1) // (kind.group - 1) + 1)
+        case m.Golomb():
+            return 63
+        case m.Varint():
+            return 64
+        case m.List():
+            count = next(it.width for it in description.kinds if isinstance(it, m.Count) and it.target == kind.name)
+            return ((1 << count) - 1) * item_width(kind)
+    return sum(most(use.description) for use in m.uses(kind))
+
+
+def lists(description: m.Description) -> list[m.List]:
+    """Returns the lists of a format."""
+    return [it for it in description.fields if isinstance(it, m.List)]
 
 
 def fields(description: m.Description) -> list[Crossed]:
@@ -39,30 +140,42 @@ def fields(description: m.Description) -> list[Crossed]:
     return [it for it in description.fields if crosses(it)]
 
 
+def members(description: m.Description) -> list[Member]:
+    """Returns the members of the struct of C."""
+    return [member for it in fields(description) for member in members_of(description, it)]
+
+
+def members_of(description: m.Description, kind: Crossed) -> list[Member]:
+    """Returns the members for a field."""
+    match kind:
+        case m.Part():
+            return [Member(kind.name, base(kind), comment(kind), kind.use.module)]
+        case m.Optional() | m.If():
+            there = Member(f"has_{kind.name}", "u8", f"True if `{kind.name}` is there.", flag=True)
+            return [there, Member(kind.name, base(kind), comment(kind), kind.use.module)]
+        case m.Array():
+            return [Member(kind.name, base(kind), comment(kind), count=kind.count)]
+        case m.List():
+            return [Member(kind.name, "usize", list_comment(description, kind), item=base(kind))]
+    return [Member(kind.name, base(kind), comment(kind), flag=isinstance(kind, m.Bool))]
+
+
 def base(kind: Crossed) -> str:
     """Returns the Rust type of the number, or of each number, that a field is in C; for a part, its struct."""
     match kind:
         case m.Bool():
             return "u8"
-        case m.Number() | m.NonZero() | m.MaybeNonZero():
+        case m.Number() | m.NonZero() | m.MaybeNonZero() | m.Groups():
             return kind.integer.base
         case m.Enum():
             return f"u{enum_bits(kind.enum)}"
-        case m.Array():
+        case m.Array() | m.List():
             return kind.item.base if isinstance(kind.item, m.Integer) else "u8"
-        case m.Part():
+        case m.Unary() | m.Golomb() | m.Varint():
+            return m.rust_type(kind)
+        case m.Part() | m.Optional() | m.If():
             return f"{kind.use.name}C"
     assert_never(kind)
-
-
-def count(kind: Crossed) -> int | None:
-    """Returns the number of items of an array, or None."""
-    return kind.count if isinstance(kind, m.Array) else None
-
-
-def rust_type(kind: Crossed) -> str:
-    """Returns the type of a field in the Rust struct that crosses."""
-    return f"[{base(kind)}; {kind.count}]" if isinstance(kind, m.Array) else base(kind)
 
 
 def is_partial(kind: Crossed) -> bool:
@@ -71,8 +184,13 @@ def is_partial(kind: Crossed) -> bool:
         case m.Part():
             return any(is_partial(it) for it in fields(kind.use.description))
         case m.Enum():
-            return bool(kind.enum.error)
-    return isinstance(kind, m.NonZero)
+            return bool(kind.enum.error) or is_narrow(kind.enum)
+    return isinstance(kind, m.NonZero | m.Optional | m.If)
+
+
+def is_narrow(enum: m.EnumType) -> bool:
+    """Returns true if each number of its bits is that of a case, and its number in C has more bits."""
+    return enum.total and enum.width < enum_bits(enum)
 
 
 def partial(description: m.Description) -> list[Crossed]:
@@ -93,15 +211,28 @@ def limits(kind: Crossed) -> str:
             return f"From 1 to {kind.integer.most + 1}."
         case m.MaybeNonZero():
             return f"At most {kind.integer.most}; 0 stands for none."
+        case m.Varint():
+            return "Below 2^62."
+        case m.Golomb():
+            return "From -2^31 + 1 on." if kind.signed else "Below 2^32 - 1."
         case m.Enum():
             other = f", or another one below 2^{kind.enum.width}" if kind.enum.other else ""
             return f"A number of `{m.snake(kind.enum.name)}`{other}."
+        case m.If():
+            return f"It is there if, and only if, `{kind.condition}`."
     return ""
 
 
 def comment(kind: Crossed) -> str:
     """Returns the comment of a field, with its range."""
     return f"{kind.doc or f'The field `{kind.name}`.'} {limits(kind)}".strip()
+
+
+def list_comment(description: m.Description, kind: m.List) -> str:
+    """Returns the comment of a list, with its range."""
+    width = next(it.width for it in description.kinds if isinstance(it, m.Count) and it.target == kind.name)
+    said = integer_range(kind.item) if isinstance(kind.item, m.Integer) else ""
+    return f"{comment(kind)} Fewer than 2^{width}{f', each {said}' if said else ''}."
 
 
 def enums(description: m.Description) -> list[m.EnumType]:
@@ -112,26 +243,33 @@ def enums(description: m.Description) -> list[m.EnumType]:
 
 def parts(description: m.Description) -> list[m.Use]:
     """Returns the parts of the fields, each once."""
-    found = [it.use for it in fields(description) if isinstance(it, m.Part)]
+    found = [use for it in fields(description) for use in m.uses(it)]
     return list({it.module: it for it in found}.values())
 
 
-def alignment(kind: Crossed) -> int:
-    """Returns the alignment of a field in the struct of C, in bytes."""
-    return layout(kind.use.description)[2] if isinstance(kind, m.Part) else int(base(kind)[1:]) // 8
+def optional(description: m.Description) -> list[m.Use]:
+    """Returns the parts that may be there or not, each once."""
+    found = [it.use for it in fields(description) if isinstance(it, m.Optional | m.If)]
+    return list({it.module: it for it in found}.values())
 
 
-def size(kind: Crossed) -> int:
-    """Returns the size of a field in the struct of C, in bytes."""
-    if isinstance(kind, m.Part):
-        return layout(kind.use.description)[0]
-    return alignment(kind) * (count(kind) or 1)
+def layout(description: m.Description, public: bool = False) -> tuple[int, int, int]:
+    """Returns the size of the struct of C, the offset of its last member, and its alignment.
 
-
-def layout(description: m.Description) -> tuple[int, int, int]:
-    """Returns the size of the struct of C, the offset of its last field, and its alignment."""
+    A list has its number of items there, or in the public struct a pointer, its capacity and its length.
+    """
     at, last, most = 0, 0, 1
-    for it in fields(description):
-        at += -at % alignment(it)
-        last, at, most = at, at + size(it), max(most, alignment(it))
+    inner = {it.module: layout(it.description) for it in parts(description)}
+    for it in members(description):
+        size, _, align = inner[it.module] if it.module else sizes(it, public)
+        at += -at % align
+        last, at, most = at, at + size * (it.count or 1), max(most, align)
     return at + -at % most, last, most
+
+
+def sizes(member: Member, public: bool) -> tuple[int, int, int]:
+    """Returns the size of a member, or of an item of it, 0, and its alignment."""
+    if member.item:
+        return (24 if public else 8), 0, 8
+    width = int(member.base[1:]) // 8
+    return width, 0, width

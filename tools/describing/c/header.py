@@ -2,8 +2,8 @@
 from __future__ import annotations
 
 from describing import model as m
-from describing.c.cross import Crossed, base, comment, enums, fields, layout, parts
-from describing.c.status import own, statuses
+from describing.c.cross import Member, enums, layout, lists, members, parts
+from describing.c.status import numbers, own, rooms, statuses
 from describing.c.target import Target
 from describing.c.words import c_comment, c_name, drawn, paragraph, quoted
 from describing.model import snake
@@ -17,7 +17,7 @@ def header(t: Target) -> str:
     out += [f'#include "{it.module}.h"' for it in parts(f.description)]
     out += ["#include <stdbool.h>", "#include <stddef.h>", "#include <stdint.h>", ""]
     out += ["#ifdef __cplusplus", 'extern "C" {', "#endif", ""]
-    out += ["/* The bytes that the fields take. */", f"#define {up}_SIZE {f.bytes}", ""]
+    out += ["/* The bytes that the fields take. */", f"#define {up}_SIZE {f.bytes}", ""] * f.sized
     out += [line for it in enums(f.description) for line in enum_code(t, it)]
     out += [*struct_code(t), *status_code(t), *calls_code(t)]
     return "\n".join([*out, "#ifdef __cplusplus", "}", "#endif", "#endif"]) + "\n"
@@ -31,23 +31,51 @@ def enum_code(t: Target, enum: m.EnumType) -> list[str]:
     return [f"/* The numbers of `{snake(enum.name)}`{more}. */", f"enum {name} {{", ",\n".join(rows), "};", ""]
 
 
-def c_type(kind: Crossed) -> str:
-    """Returns the type of a field, or of its items, in C."""
-    if isinstance(kind, m.Bool):
-        return "bool"
-    if isinstance(kind, m.Part):
-        return f"struct {kind.use.module}"
-    number = base(kind)
-    return f"{'' if number[0] == 'i' else 'u'}int{number[1:]}_t"
+def c_type(member: Member) -> str:
+    """Returns the type of a member, or of its items, in C."""
+    if member.flag or member.module:
+        return "bool" if member.flag else f"struct {member.module}"
+    if member.base == "usize":
+        return "size_t"
+    return f"{'' if member.base[0] == 'i' else 'u'}int{member.base[1:]}_t"
 
 
 def struct_code(t: Target) -> list[str]:
     """Returns the struct of the fields."""
-    out = [f"struct {t.f.m} {{"]
-    for it in fields(t.f.description):
-        items = f"[{it.count}]" if isinstance(it, m.Array) else ""
-        out += [*c_comment(comment(it), "    "), f"    {c_type(it)} {c_name(it.name)}{items};"]
+    out = [line for it in members(t.f.description) if it.item for line in list_code(t, it)]
+    out += [f"struct {t.f.m} {{"]
+    for it in members(t.f.description):
+        items, kind = "" if it.count is None else f"[{it.count}]", c_type(it)
+        if it.item:
+            kind = f"struct {t.f.m}_{it.name}"
+        out += [*c_comment(it.comment + renamed(it), "    "), f"    {kind} {c_name(it.name)}{items};"]
     return [*out, "};", ""]
+
+
+def renamed(member: Member) -> str:
+    """Returns the sentence about the name of a member that C or C++ does not allow, or an empty text."""
+    return f" The description calls it `{member.name}`." * (c_name(member.name) != member.name)
+
+
+def item_type(member: Member) -> str:
+    """Returns the type of the items of a list in C."""
+    return f"uint{member.item[1:]}_t"
+
+
+def list_code(t: Target, member: Member) -> list[str]:
+    """Returns the struct of a list, whose items the caller has."""
+    return [
+        f"/* The list `{member.name}`, in storage of the caller. */",
+        f"struct {t.f.m}_{member.name} {{",
+        "    /* The storage: null only if it has room for no item. A pack only reads it. */",
+        f"    {item_type(member)} *items;",
+        "    /* The number of items that it has room for. A parse needs it, and a pack does not. */",
+        "    size_t capacity;",
+        "    /* The number of items. */",
+        "    size_t length;",
+        "};",
+        "",
+    ]
 
 
 def status_code(t: Target) -> list[str]:
@@ -69,47 +97,98 @@ def status_code(t: Target) -> list[str]:
 
 def calls_code(t: Target) -> list[str]:
     """Returns the declarations of the two functions."""
-    f, up, name = t.f, t.f.m.upper(), f"{t.f.m}_status"
-    n, own_errors = f.bytes, "".join(f"{up}_{it.name} if {it.short}; " for it in own(f))
-    first = "the first in the order of the bits: " if own_errors else ""
-    here = ", if nothing in them is refused" if own_errors else ""
-    parses = (
-        f"Parses the fields at the start of `length` bytes into `*out`, and returns {up}_OK. After an error `*out` is as"
-        f" before. The errors are: {up}_NULL if `out` is null, or `bytes` is null and `length` is not 0; else {first}"
-        f"{own_errors}{up}_END_OF_INPUT for fewer than {n} bytes{here}."
-    )
-    packs = (
-        f"Writes the fields to the first {n} of `length` bytes, sets `*written` to {n} unless `written` is null, and"
-        f" returns {up}_OK. The bytes after them are as before. After an error all bytes are as before, and `*written` is"
-        f" 0. `*in` and the buffer may not overlap. The errors are: {up}_NULL if `in` is null, or `buffer` is null and"
-        f" `length` is not 0; else {up}_DOES_NOT_FIT if a field has a value that the format does not allow; else"
-        f" {up}_NO_ROOM for fewer than {n} bytes."
-    )
+    f, name = t.f, f"{t.f.m}_status"
+    taken = "" if f.sized else ", size_t *taken"
     return [
-        *c_comment(parses),
-        f"enum {name} {f.m}_parse(const uint8_t *bytes, size_t length, struct {f.m} *out);",
+        *c_comment(parse_comment(t)),
+        f"enum {name} {f.m}_parse(const uint8_t *bytes, size_t length, struct {f.m} *out{taken});",
         "",
-        *c_comment(packs),
+        *c_comment(pack_comment(t)),
         f"enum {name} {f.m}_pack(",
         f"    const struct {f.m} *in, uint8_t *buffer, size_t length, size_t *written);",
         "",
     ]
 
 
+def parse_comment(t: Target) -> str:
+    """Returns the comment of the parse."""
+    f, up = t.f, t.f.m.upper()
+    refusals = [*own(f), *numbers(f)]
+    own_errors = "".join(f"{up}_{it.name} if {it.short}; " for it in refusals)
+    in_order = "the first in the order of the bits: " if own_errors else ""
+    here = ", if nothing in them is refused" if own_errors else ""
+    few = f"for fewer than {f.bytes} bytes" if f.sized else "if the bytes end before the fields do"
+    taken = "" if f.sized else ", sets `*taken` to the number of bytes that they take unless `taken` is null"
+    after = "" if f.sized else ", and `*taken` is 0"
+    if lists(f.description):
+        return list_comment(t, in_order + own_errors, here)
+    return (
+        f"Parses the fields at the start of `length` bytes into `*out`{taken}, and returns {up}_OK. After an error `*out`"
+        f" is as before{after}. The errors are: {up}_NULL if `out` is null, or `bytes` is null and `length` is not 0; else"
+        f" {in_order}{own_errors}{up}_END_OF_INPUT {few}{here}."
+    )
+
+
+def list_comment(t: Target, refused: str, here: str) -> str:
+    """Returns the comment of the parse of a format with lists."""
+    f, up = t.f, t.f.m.upper()
+    names = [it.name for it in lists(f.description)]
+    items = " and ".join(f"`out->{it}`" for it in names)
+    full = "; ".join(
+        f"{up}_{it.name} if `{name}` has more items than its capacity" for name, it in zip(names, rooms(f))
+    )
+    return (
+        f"Parses the fields at the start of `length` bytes into `*out`, and the items of lists into the storage that the"
+        f" caller has set in {items}. Sets `*taken` to the number of bytes that the fields take unless `taken` is null,"
+        f" and returns {up}_OK. Items after the last one are as before. After an error `*out` is as before, but the items"
+        f" in the storage are unspecified, and `*taken` is the number of items of the list without room for them, or 0. The"
+        f" errors are: {up}_NULL if `out` is null, or `bytes` is null and `length` is not 0, or the items of a list are"
+        f" null and its capacity is not 0; else {refused}{up}_END_OF_INPUT if the bytes end before the fields do{here};"
+        f" else {full}."
+    )
+
+
+def pack_comment(t: Target) -> str:
+    """Returns the comment of the pack."""
+    f, up = t.f, t.f.m.upper()
+    firsts = f"the first {f.bytes} of `length` bytes, sets `*written` to {f.bytes}"
+    room = f"for fewer than {f.bytes} bytes"
+    if not f.sized:
+        firsts = (
+            "the first of `length` bytes, and zeros up to a whole byte, sets `*written` to the number of these bytes"
+        )
+        room = "if they are more than `length`"
+    null = f"{up}_NULL if `in` is null, or `buffer` is null and `length` is not 0"
+    if lists(f.description):
+        null += ", or the items of a list are null and its length is not 0"
+    return (
+        f"Writes the fields to {firsts} unless `written` is null, and returns {up}_OK. The bytes after them are as before."
+        f" After an error all bytes are as before, and `*written` is 0. `*in` and the buffer may not overlap. The errors"
+        f" are: {null}; else {up}_DOES_NOT_FIT if a field has"
+        f" a value that the format does not allow; else {up}_NO_ROOM {room}."
+    )
+
+
 def source(t: Target) -> str:
     """Returns the C file: the test for null pointers, which the proved functions do not have."""
     f, up = t.f, t.f.m.upper()
-    name, last = f"{f.m}_status", c_name(fields(f.description)[-1].name)
+    name, last = f"{f.m}_status", c_name(members(f.description)[-1].name)
     size, offset, _ = layout(f.description)
     texts = [
         line for it in statuses(f) for line in (f"    case {up}_{it.name}:", f"        return {quoted(it.short)};")
     ]
+    listed = lists_source(t) if lists(f.description) else Listed(f.m)
+    more, parameter, none, told = "", "", "", ""
+    if not f.sized:
+        more, parameter = "\n    size_t taken;", ", size_t *taken"
+        none = "\n    if (taken)\n        *taken = 0;"
+        told = "\n    if (taken)\n        *taken = parsed.taken;"
     return f"""/* {t.made} */
 #include "{f.m}.h"
 
-struct {f.m}_parsed {{
-    int32_t status;
-    struct {f.m} value;
+{listed.struct}struct {f.m}_parsed {{
+    int32_t status;{more}
+    struct {listed.crossing} value;
 }};
 
 struct {f.m}_packed {{
@@ -118,28 +197,26 @@ struct {f.m}_packed {{
 }};
 
 /* The proved functions. */
-struct {f.m}_parsed proved_{f.m}_parse(const uint8_t *bytes, size_t length);
-struct {f.m}_packed proved_{f.m}_pack(const struct {f.m} *value, uint8_t *buffer, size_t length);
+struct {f.m}_parsed proved_{f.m}_parse(const uint8_t *bytes, size_t length{listed.stored});
+struct {f.m}_packed proved_{f.m}_pack(const struct {listed.crossing} *value, {listed.given}uint8_t *buffer, size_t length);
 
 /* The layout that the proved functions have: with another one this type has a negative size. */
-typedef char {f.m}_layout[sizeof(struct {f.m}) == {size} && offsetof(struct {f.m}, {last}) == {offset} ? 1 : -1];
+typedef char {f.m}_layout[sizeof(struct {listed.crossing}) == {size} && offsetof(struct {listed.crossing}, {last}) == {offset} ? 1 : -1];
 
-enum {name} {f.m}_parse(const uint8_t *bytes, size_t length, struct {f.m} *out)
+enum {name} {f.m}_parse(const uint8_t *bytes, size_t length, struct {f.m} *out{parameter})
 {{
-    struct {f.m}_parsed parsed;
-    if (!out || (!bytes && length))
+    struct {f.m}_parsed parsed;{none}
+    if (!out || (!bytes && length){listed.no_storage})
         return {up}_NULL;
-    parsed = proved_{f.m}_parse(bytes, length);
-    if (parsed.status == {up}_OK)
-        *out = parsed.value;
+    parsed = proved_{f.m}_parse(bytes, length{listed.storage});
+    if (parsed.status == {up}_OK){listed.taken_out}{told}
     return (enum {name})parsed.status;
 }}
 
 enum {name} {f.m}_pack(const struct {f.m} *in, uint8_t *buffer, size_t length, size_t *written)
 {{
     struct {f.m}_packed packed = {{{up}_NULL, 0}};
-    if (in && (buffer || !length))
-        packed = proved_{f.m}_pack(in, buffer, length);
+    if (in && (buffer || !length){listed.has_items}){listed.pack}
     if (written)
         *written = packed.written;
     return (enum {name})packed.status;
@@ -153,3 +230,46 @@ const char *{name}_text(enum {name} status)
     return "no status";
 }}
 """
+
+
+class Listed:
+    """The pieces of the C file that a format with lists has otherwise: `crossing` names the struct that crosses."""
+
+    def __init__(self, module: str) -> None:
+        self.crossing, self.struct, self.stored, self.given = module, "", "", ""
+        self.no_storage, self.storage, self.has_items = "", "", ""
+        self.taken_out = "\n        *out = parsed.value;"
+        self.pack = f"\n        packed = proved_{module}_pack(in, buffer, length);"
+
+
+def lists_source(t: Target) -> Listed:
+    """Returns the pieces of the C file of a format with lists."""
+    f, kinds, all_of = t.f, [it for it in members(t.f.description) if it.item], members(t.f.description)
+    found = Listed(f.m)
+    found.crossing = f"{f.m}_head"
+    rows = [f"    {c_type(it)} {c_name(it.name)}{'' if it.count is None else f'[{it.count}]'};" for it in all_of]
+    found.struct = "\n".join(
+        ["/* The fields, and the numbers of items of the lists. */", f"struct {f.m}_head {{", *rows, "};", "", ""]
+    )
+    found.stored = "".join(f", {item_type(it)} *{it.name}_items, size_t {it.name}_capacity" for it in kinds)
+    found.given = "".join(f"const {item_type(it)} *{it.name}_items, size_t {it.name}_length, " for it in kinds)
+    names = [c_name(it.name) for it in kinds]
+    found.no_storage = "".join(f" || (!out->{it}.items && out->{it}.capacity)" for it in names)
+    found.storage = "".join(f", out->{it}.items, out->{it}.capacity" for it in names)
+    found.has_items = "".join(f" && (in->{it}.items || !in->{it}.length)" for it in names)
+    out, into = list[str](), list[str]()
+    for it in all_of:
+        name = c_name(it.name)
+        if it.count is not None:
+            out.append(f"memcpy(out->{name}, parsed.value.{name}, sizeof out->{name});")
+            into.append(f"memcpy(head.{name}, in->{name}, sizeof head.{name});")
+        else:
+            out.append(f"out->{name}{'.length' * bool(it.item)} = parsed.value.{name};")
+            into.append(f"head.{name} = in->{name}{'.length' * bool(it.item)};")
+    given = "".join(f"in->{it}.items, in->{it}.length, " for it in names)
+    into = [f"struct {f.m}_head head;", *into, f"packed = proved_{f.m}_pack(&head, {given}buffer, length);"]
+    found.taken_out = " {\n        " + "\n        ".join(out) + "\n    }"
+    found.pack = " {\n        " + "\n        ".join(into) + "\n    }"
+    if any(it.count is not None for it in all_of):
+        found.struct = "#include <string.h>\n\n" + found.struct
+    return found

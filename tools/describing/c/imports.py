@@ -3,16 +3,22 @@ from __future__ import annotations
 
 import re
 
-from describing.c.cross import parts
+from describing.c import optional, varying
+from describing.c.cross import enums, is_narrow, lists, parts
 from describing.c.target import Target
 from describing.imports import own_specs, types
+from describing.model import snake
 from describing.names import SPECS, Table, spec_of, uses
 from describing.rust.clauses import clauses
 
 # The names of the standard library that texts for C use.
 PRELUDE: Table = {
-    "Rattle.std.specs.Prelude": "≡ ≢ ^ < ≤ + - * ++ ∷ [] == ↔ if ℕ ℤ Bool true false not List Result Ok Err Option"
-    " Some None IsTrue IsSomeAnd All length take drop map pos negsuc",
+    "Rattle.std.specs.Prelude": "≡ ≢ ^ < ≤ + - * / ++ ∷ [] == ↔ if ℕ ℤ Bool true false not List Result Ok Err Option"
+    " Some None IsTrue IsSomeAnd All length take drop map pos negsuc is_some"
+    " option_map nat_lt",
+    "Rattle.bitstream_io.specs.Reads": "BitSource",
+    "Rattle.std.specs.Option": "ForSome",
+    "Rattle.bitstream_io.specs.Codec": "Prefix Incomplete Done",
 }
 
 
@@ -20,8 +26,15 @@ def own_names(t: Target) -> Table:
     """Returns where the definitions of the crate for C come from."""
     f, base = t.f, f"Rattle.{t.crate}.specs.declared"
     words = ("to_c", "from_c", "made", "zero", "parsed", "answer", "held")
+    more = [f"{f.m}_{it}" for it in varying.WORDS] * (not f.sized)
+    more += [f"{f.m}_{snake(it.name)}_from" for it in enums(f.description) if is_narrow(it)]
+    if lists(f.description):
+        more += [f"{f.m}_of", f"{f.m}_short", f"{f.type}Read"]
     found: Table = {
-        f"Rattle.{t.crate}.specs.{f.spec}": " ".join(f"{f.m}_{it}" for it in words),
+        f"Rattle.{t.crate}.specs.{f.spec}": " ".join([*(f"{f.m}_{it}" for it in words), *more, optional.names(f)]),
+        f"Rattle.{t.crate}.specs.Varied": "IsDecided reader_status",
+        f"Rattle.{t.crate}.specs.Lists": "ReadsInto ItemsKept stored",
+        f"{base}.{f.m}.{f.type}Given": f"{f.type}Given",
         f"Rattle.{t.crate}.specs.Shared": "PacksInto",
         f"{base}.{f.m}.{f.type}C": f"{f.type}C",
         f"{base}.{f.m}.{f.type}Parsed": f"{f.type}Parsed",
@@ -51,26 +64,53 @@ def spec_uses(t: Target, text: str) -> list[str]:
 
 # The lemmas that proofs for C use.
 LEMMAS: Table = {
-    "Rattle.std.proofs.Common": "≡ ≢ < ≤ ++ ∙ ℕ ℤ Bool List Result Ok Err length refl sym ap arith rules",
+    "Rattle.std.proofs.Common": "≡ ≢ < ≤ ++ ∷ [] ∙ + - * / ℕ ℤ Bool List Result Ok Err length refl sym ap ap₂ subst arith rules",
     "Rattle.std.specs.Prelude": "pos take drop",
-    "Rattle.std.proofs.lemmas.List": "take-append-drop",
+    "Rattle.std.proofs.lemmas.List": "take-append-drop length-take-le take_at drop_at",
     "Rattle.std.proofs.lemmas.Bool": "cases_lt",
-    "Rattle.std.proofs.lemmas.Bool.Decides": "eqb_tells",
+    "Rattle.std.proofs.lemmas.Bool.Decides": "nat_tests eqb_tells",
     "Rattle.bitstream_io.proofs.WordLemmas": "length-bits bits-append",
-    "Rattle.bitstream_io.proofs.CallerLemmas": "inl inr packs-whole",
-    "Rattle.bitstream_io.specs.Callers": "EndOfInput Error High Low bits",
+    "Rattle.bitstream_io.proofs.CallerLemmas": "inl inr packs-whole is_error slice_ends packed-bits packed-room",
+    "Rattle.bitstream_io.proofs.SequenceLemmas": "counted",
+    "Rattle.bitstream_io.proofs.UnaryLemmas": "length-unary",
+    "Rattle.bitstream_io.proofs.VbrLemmas": "zig-lt",
+    "Rattle.bitstream_io.specs.Word": "zig",
+    "Rattle.bitstream_format.specs.Varint": "varint_length varint_width",
+    "Rattle.bitstream_io.specs.Callers": "EndOfInput Error High Low align OwnAnswer ReadsOwn BitSource result_map bits same_error",
+    "Rattle.std.specs.Result": "IsErrAnd",
+    "Rattle.bitstream_io.specs.Codec": "Prefix Incomplete Done",
 }
 
 
 def lemma_uses(t: Target, text: str) -> list[str]:
     """Returns the imports of the lemmas of a format."""
     f = t.f
-    shared = {f"Rattle.{t.crate}.proofs.SharedLemmas": "failed", f.lemmas_path: f"{f.m}_packs told"}
-    return uses(text, own_names(t), own_specs(f), types(f), shared, LEMMAS)
+    shared = {f"Rattle.{t.crate}.proofs.SharedLemmas": "failed", f.lemmas_path: f"{f.m}_packs {f.m}_goes told"}
+    parts_most = {
+        f"Rattle.{t.crate}.proofs.{spec_of(it.module)}Lemmas": f"{it.module}_most" for it in parts(f.description)
+    }
+    return uses(text, own_names(t), own_specs(f), types(f), shared, parts_most, varied(t), LEMMAS)
+
+
+def varied(t: Target) -> Table:
+    """Returns where the lemmas about reads of bytes in memory come from."""
+    return {
+        f"Rattle.{t.crate}.proofs.SharedLemmas": "packs-done",
+        f"Rattle.{t.crate}.proofs.VariedLemmas": "aligned_bytes counted_past groups_most optional_most padded read_decided",
+        f"Rattle.{t.crate}.proofs.ListLemmas": "bytes_into failed_ok kept_none kept_more kept_begin",
+    }
 
 
 def parse_uses(t: Target, text: str) -> list[str]:
     """Returns the imports of the proof of a parse."""
-    own = {f"Rattle.{t.crate}.proofs.{t.f.spec}Lemmas": "first_bytes ok_only"}
-    goal = f"use Rattle.{t.crate}.proofs.{t.f.m}.proved_{t.f.m}_parse.Goals as goal"
-    return [*uses(text, own_names(t), own, LEMMAS), goal]
+    return answer_uses(t, f"proved_{t.f.m}_parse", text)
+
+
+def answer_uses(t: Target, function: str, text: str) -> list[str]:
+    """Returns the imports of the proof of a function."""
+    f = t.f
+    names = f"first_bytes ok_only decided found_is packed within {f.m}_most"
+    own = {f"Rattle.{t.crate}.proofs.{f.spec}Lemmas": names}
+    own |= {f.lemmas_path: f"{f.m}_packs{' told' * (not f.sized)}"}
+    goal = f"use Rattle.{t.crate}.proofs.{f.m}.{function}.Goals as goal"
+    return [*uses(text, own_names(t), own_specs(f), own, varied(t), LEMMAS), goal]

@@ -6,9 +6,9 @@ import os
 import re
 import tempfile
 
-from describing.c import header, python, rust, shared
+from describing.c import header, list_shared, python, rust, shared, varied
 from describing.c.code import code
-from describing.c.cross import check, parts
+from describing.c.cross import check, lists, parts
 from describing.c.proofs import answer_files
 from describing.c.specs import specs
 from describing.c.target import Target, target
@@ -16,9 +16,9 @@ from describing.layout import Format
 from describing.model import Refused
 from describing.printing import add_line, format_of, lay_out, put, text_of
 
-ROOT = """//! What C, Rust and Python call of the library `LIBRARY`, a module for each format.
+ROOT = """//! The functions of the library `LIBRARY` that C, Rust and Python call: a module for each format.
 //!
-//! Each function is proved to do what its contract says, in each call that meets what the header asks for.
+//! Each function is proved to do what its contract says, in each call that meets the conditions in the header.
 #![tactic(auto)]
 
 mod shared;
@@ -29,6 +29,10 @@ def files_of(t: Target) -> dict[str, str]:
     """Returns the texts of the crate by their places in it."""
     f = t.f
     found = {f"src/{f.m}.rt": code(t), f"specs/{f.spec}.antt": specs(t)} | answer_files(t) | shared.files(t.crate)
+    if not f.sized:
+        found |= varied.files(t.crate)
+    if lists(f.description):
+        found |= list_shared.files(t.crate)
     return found | binding_files(t)
 
 
@@ -72,17 +76,29 @@ def printed(description: str, folder: str) -> tuple[Target, dict[str, str]]:
         for place, text in texts.items():
             put(crate, place, text)
         put(room, "crates.txt", f"{t.crate} staticlib:\n")
-        put(crate, "src/lib.rt", f"mod {t.f.m};\nmod shared;\n")
+        modules = [it.removeprefix("src/").removesuffix(".rt") for it in texts if it.startswith("src/")]
+        put(crate, "src/lib.rt", "".join(f"mod {it};\n" for it in modules))
         lay_out(crate)
         return t, {place: text_of(crate, place) for place in texts}
 
 
 def listed(t: Target) -> dict[str, list[str]]:
     """Returns the lines that name the files, by the file that has them."""
+    more, some = not t.f.sized, bool(lists(t.f.description))
     return {
-        "src/lib.rt": [f"mod {t.f.m};"],
-        "specs/Lib.antt": [f"pub mod {t.f.spec}", "pub mod Shared"],
-        "proofs/Lib.antt": [f"pub mod {t.f.spec}Lemmas", "pub mod SharedLemmas"],
+        "src/lib.rt": [f"mod {t.f.m};", *["mod status;"] * more],
+        "specs/Lib.antt": [
+            f"pub mod {t.f.spec}",
+            "pub mod Shared",
+            *["pub mod Varied"] * more,
+            *["pub mod Lists"] * some,
+        ],
+        "proofs/Lib.antt": [
+            f"pub mod {t.f.spec}Lemmas",
+            "pub mod SharedLemmas",
+            *["pub mod VariedLemmas"] * more,
+            *["pub mod ListLemmas"] * some,
+        ],
     }
 
 

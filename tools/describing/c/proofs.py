@@ -2,9 +2,9 @@
 from __future__ import annotations
 
 from describing import model as m
-from describing.c import decided
+from describing.c import cross, decided, list_proofs, lists, varying
 from describing.c.cross import base, fields
-from describing.c.imports import lemma_uses, parse_uses
+from describing.c.imports import answer_uses, lemma_uses, parse_uses
 from describing.c.target import Target
 from describing.layout import Line
 from describing.specs.terms import only_constants
@@ -15,6 +15,11 @@ HEAD = "-- The number of bytes of a `{}`, its bits before others, and when a par
 
 def lemmas(t: Target) -> str:
     """Returns the lemmas of a format: its number of bytes, and its bits before others."""
+    if not t.f.sized:
+        text = lists.lemmas(t.f) if cross.lists(t.f.description) else varying.lemmas(t.f)
+        return "\n".join(
+            [f"-- {t.made}", f"-- When a parse of a `{t.f.type}` succeeds.", *lemma_uses(t, text), "", text]
+        )
     f, o, n = t.f, t.f.o, t.f.bytes
     all_bits = f"bits {o} bytes"
     text = f"""-- the number of bytes
@@ -126,5 +131,13 @@ def answer_files(t: Target) -> dict[str, str]:
     m_ = t.f.m
     numbers = [base(it) for it in fields(t.f.description) if isinstance(it, m.NonZero | m.MaybeNonZero)]
     found = {f"proofs/{m_}/option_{it}/Answers.antt": option_answers(t, it) for it in numbers}
-    found[f"proofs/{m_}/proved_{m_}_parse/Answers.antt"] = parse_answers(t)
-    return found | {f"proofs/{m_}/put/Answers.antt": put_answers(t), f"proofs/{t.f.spec}Lemmas.antt": lemmas(t)}
+    found[f"proofs/{t.f.spec}Lemmas.antt"] = lemmas(t)
+    if t.f.sized:
+        found[f"proofs/{m_}/proved_{m_}_parse/Answers.antt"] = parse_answers(t)
+        return found | {f"proofs/{m_}/put/Answers.antt": put_answers(t)}
+    if cross.lists(t.f.description):
+        return found | list_proofs.files(t)
+    for function, text in varying.answers(t.f).items():
+        lines = [f"-- {t.made}", *answer_uses(t, function, text), "", text]
+        found[f"proofs/{m_}/{function}/Answers.antt"] = "\n".join(lines)
+    return found

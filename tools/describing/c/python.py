@@ -4,8 +4,21 @@ from __future__ import annotations
 from typing import assert_never
 
 from describing import model as m
-from describing.c.cross import Crossed, base, comment, enums, fields, layout, parts
-from describing.c.status import NO_ROOM, Status, own, refused
+from describing.c.cross import (
+    Crossed,
+    Member,
+    base,
+    comment,
+    enums,
+    fields,
+    item_width,
+    layout,
+    list_comment,
+    lists,
+    members,
+    parts,
+)
+from describing.c.status import NO_ROOM, Status, numbers, own, refused, rooms
 from describing.c.target import Target
 from describing.c.words import drawn, paragraph, python_name, quoted
 
@@ -81,7 +94,15 @@ def library_module(library: str) -> str:
 
 def module(t: Target) -> str:
     """Returns the module."""
-    body = [*enum_codes(t), *errors_code(t), *struct_code(t), *fields_code(t), *calls_code(t), *end_code(t)]
+    body = [
+        *enum_codes(t),
+        *errors_code(t),
+        *struct_code(t),
+        *lists_code(t),
+        *fields_code(t),
+        *calls_code(t),
+        *end_code(t),
+    ]
     return "\n".join([*head_code(t), *body]) + "\n"
 
 
@@ -90,8 +111,10 @@ def head_code(t: Target) -> list[str]:
     f = t.f
     out = [f'"""{t.made}', "", *paragraph(f.doc, "", ""), "", *drawn(f.description), '"""']
     out += ["from __future__ import annotations", "", "import ctypes"] + ["import enum"] * bool(enums(f.description))
-    out += ["from dataclasses import dataclass", "from typing import ClassVar", "", ""]
-    body = "".join(to_c(it) for it in fields(f.description))
+    typed = "ClassVar, Sequence" if lists(f.description) else "ClassVar"
+    out += ["from dataclasses import dataclass", f"from typing import {typed}", "", ""]
+    body = "".join(value for it in fields(f.description) for value in to_c(it).values())
+    body += "\n".join(lists_code(t))
     needs = [it for it in ("case", "items", "number", "part") if f"{it}(" in body]
     out[-1] = f"from ._library import {', '.join(sorted([*needs, 'library']))}"
     return out + [f"from . import {it.module} as _{it.module}" for it in parts(f.description)] + ["", ""]
@@ -117,7 +140,7 @@ def error_name(t: Target) -> str:
 
 
 def raised(t: Target) -> list[Status]:
-    """Returns the statuses that become an exception: the buffer of a pack is never too short."""
+    """Returns the statuses that become an exception: the buffer of a pack is never too short in the end."""
     return [it for it in refused(t.f) if it.number != NO_ROOM]
 
 
@@ -138,17 +161,30 @@ def errors_code(t: Target) -> list[str]:
     return [*out, f"_ERRORS: dict[int, type[{e}]] = {{{rows}}}", "", ""]
 
 
-def c_type(kind: Crossed) -> str:
-    """Returns the type of `ctypes` of a field."""
-    if isinstance(kind, m.Part):
-        return f"_{kind.use.module}._C"
-    one = f"ctypes.c_{'int' if base(kind)[0] == 'i' else 'uint'}{base(kind)[1:]}"
-    return f"{one} * {kind.count}" if isinstance(kind, m.Array) else one
+def c_type(member: Member) -> str:
+    """Returns the type of `ctypes` of a member."""
+    if member.module:
+        return f"_{member.module}._C"
+    if member.item:
+        return f"_{member.name.capitalize()}Items"
+    one = f"ctypes.c_{'int' if member.base[0] == 'i' else 'uint'}{member.base[1:]}"
+    return one if member.count is None else f"{one} * {member.count}"
 
 
 def struct_code(t: Target) -> list[str]:
+    """Returns the struct of C, and before it those of the lists."""
+    out = list[str]()
+    for it in members(t.f.description):
+        if it.item:
+            out += [f"class _{it.name.capitalize()}Items(ctypes.Structure):", "    _fields_ = ["]
+            out += [f'        ("items", ctypes.POINTER(ctypes.c_uint{it.item[1:]})),']
+            out += ['        ("capacity", ctypes.c_size_t),', '        ("length", ctypes.c_size_t),', "    ]", "", ""]
+    return out + fields_struct(t)
+
+
+def fields_struct(t: Target) -> list[str]:
     """Returns the struct of C."""
-    rows = [f'        ("{python_name(it.name)}", {c_type(it)}),' for it in fields(t.f.description)]
+    rows = [f'        ("{python_name(it.name)}", {c_type(it)}),' for it in members(t.f.description)]
     return ["class _C(ctypes.Structure):", "    _fields_ = [", *rows, "    ]", "", ""]
 
 
@@ -157,7 +193,7 @@ def hint(kind: Crossed) -> str:
     match kind:
         case m.Bool():
             return "bool"
-        case m.Number() | m.NonZero():
+        case m.Number() | m.NonZero() | m.Unary() | m.Groups() | m.Golomb() | m.Varint():
             return "int"
         case m.MaybeNonZero():
             return "int | None"
@@ -167,11 +203,17 @@ def hint(kind: Crossed) -> str:
             return "bytes" if isinstance(kind.item, m.Octet) else "list[int]"
         case m.Part():
             return f"_{kind.use.module}.{kind.use.name}"
+        case m.Optional() | m.If():
+            return f"_{kind.use.module}.{kind.use.name} | None"
+        case m.List():
+            return "bytes" if isinstance(kind.item, m.Octet) else "list[int]"
     assert_never(kind)
 
 
-def said(kind: Crossed) -> str:
+def said(t: Target, kind: Crossed) -> str:
     """Returns the comment of a field."""
+    if isinstance(kind, m.List):
+        return list_comment(t.f.description, kind)
     text = comment(kind)
     if isinstance(kind, m.MaybeNonZero):
         text = f"{kind.doc} From 1 to {kind.integer.most}, or `None`."
@@ -185,15 +227,19 @@ def fields_code(t: Target) -> list[str]:
     """Returns the dataclass with its fields."""
     out = ["@dataclass", f"class {t.f.type}:", f'    """{t.f.doc}"""', ""]
     for it in fields(t.f.description):
-        out += [f"    {python_name(it.name)}: {hint(it)}", f'    """{said(it)}"""']
-    return [*out, "", f"    SIZE: ClassVar[int] = {t.f.bytes}", '    """The bytes that the fields take."""', ""]
+        out += [f"    {python_name(it.name)}: {hint(it)}", f'    """{said(t, it)}"""']
+    size = [f"    SIZE: ClassVar[int] = {t.f.bytes}", '    """The bytes that the fields take."""', ""] * t.f.sized
+    return [*out, "", *size]
 
 
 def span(kind: Crossed) -> str:
     """Returns the least and the greatest number of a field, or of each item."""
     match kind:
-        case m.Number(integer=number) | m.Array(item=m.Integer() as number):
+        case m.Number(integer=number) | m.Array(item=m.Integer() as number) | m.Groups(integer=number):
             return f"{number.least}, {number.most}"
+        case m.Unary() | m.Varint() | m.Golomb():
+            least, most = m.range_of(kind) or (0, 0)
+            return f"{least}, {most}"
         case m.NonZero():
             return f"1, {kind.integer.most + 1}"
         case m.MaybeNonZero():
@@ -203,8 +249,21 @@ def span(kind: Crossed) -> str:
     return "0, 255"
 
 
-def to_c(kind: Crossed) -> str:
-    """Returns the field of C for a field."""
+def to_c(kind: Crossed) -> dict[str, str]:
+    """Returns the members of C for a field."""
+    if isinstance(kind, m.Optional | m.If):
+        v, at = f"self.{python_name(kind.name)}", f'at + "{python_name(kind.name)}"'
+        one = f'part({v}, _{kind.use.module}.{kind.use.name}, {at})._to_c({at[:-1]}.")'
+        none = f"_{kind.use.module}._C() if {v} is None else {one}"
+        return {python_name(f"has_{kind.name}"): f"0 if {v} is None else 1", python_name(kind.name): none}
+    if isinstance(kind, m.List):
+        name = python_name(kind.name)
+        return {name: f'_{kind.name}(self.{name}, at + "{name}")'}
+    return {python_name(kind.name): one_to_c(kind)}
+
+
+def one_to_c(kind: Crossed) -> str:
+    """Returns the member of C for a field that has one."""
     v, at = f"self.{python_name(kind.name)}", f'at + "{python_name(kind.name)}"'
     match kind:
         case m.Bool():
@@ -226,7 +285,7 @@ def from_c(kind: Crossed) -> str:
     match kind:
         case m.Bool():
             return f"{v} != 0"
-        case m.Number() | m.NonZero():
+        case m.Number() | m.NonZero() | m.Unary() | m.Groups() | m.Golomb() | m.Varint():
             return v
         case m.MaybeNonZero():
             return f"{v} or None"
@@ -236,47 +295,49 @@ def from_c(kind: Crossed) -> str:
             return f"{'bytes' if isinstance(kind.item, m.Octet) else 'list'}({v})"
         case m.Part():
             return f"_{kind.use.module}.{kind.use.name}._from_c({v})"
+        case m.Optional() | m.If():
+            return f"_{kind.use.module}.{kind.use.name}._from_c({v}) if out.has_{kind.name} else None"
+        case m.List():
+            return f"{'bytes' if isinstance(kind.item, m.Octet) else 'list'}({v}.items[: {v}.length])"
     assert_never(kind)
+
+
+def lists_code(t: Target) -> list[str]:
+    """Returns the functions that make the structs of lists."""
+    out = list[str]()
+    for it in lists(t.f.description):
+        kind, most = f"ctypes.c_uint{base(it)[1:]}", 2 ** item_width(it) - 1
+        out += [
+            f"def _{it.name}(values: Sequence[int], name: str) -> _{it.name.capitalize()}Items:",
+            f'    found = items(values, len(values) if hasattr(values, "__len__") else 0, 0, {most}, name)',
+            f"    return _{it.name.capitalize()}Items(({kind} * len(found))(*found), len(found), len(found))",
+            "",
+            "",
+        ]
+    return out
+
+
+def refusals(t: Target) -> str:
+    """Returns the exceptions of a parse."""
+    f = t.f
+    few = (
+        f"`EndOfInput` for fewer than {f.bytes} bytes"
+        if f.sized
+        else "`EndOfInput` if the bytes end before the fields do"
+    )
+    cases = ", ".join(f"`{it.camel}`" for it in [*own(f), *numbers(f)])
+    return f"the first in the order of the bits: {cases}; {few}, if nothing in them is refused" if cases else few
 
 
 def calls_code(t: Target) -> list[str]:
     """Returns the methods of the dataclass."""
     f, of_all = t.f, fields(t.f.description)
-    refusals = f"`EndOfInput` for fewer than {f.bytes} bytes"
-    if own(f):
-        cases = ", ".join(f"`{it.case}`" for it in own(f))
-        refusals = f"the first in the order of the bits: {cases}; {refusals}, if nothing in them is refused"
     return [
-        "    @classmethod",
-        f"    def parse(cls, data: bytes | bytearray | memoryview) -> {f.type}:",
-        '        """Parses the fields at the start of `data`.',
-        "",
-        *paragraph(f"Raises {refusals}.", " " * 8, " " * 8),
-        '        """',
-        "        first, out = bytes(data[: cls.SIZE]), _C()",
-        f"        status = library.{f.m}_parse(first, len(first), ctypes.byref(out))",
-        "        if status:",
-        "            raise _ERRORS[status]()",
-        "        return cls._from_c(out)",
-        "",
-        "    def pack(self) -> bytes:",
-        f'        """Returns the {f.bytes} bytes of the fields.',
-        "",
-        "        Raises `DoesNotFit` if the format does not allow the value of a field, and `TypeError` for another type.",
-        '        """',
-        "        try:",
-        "            fields = self._to_c()",
-        "        except OverflowError as it:",
-        "            raise DoesNotFit(str(it)) from None",
-        "        buffer, written = ctypes.create_string_buffer(self.SIZE), ctypes.c_size_t()",
-        f"        status = library.{f.m}_pack(ctypes.byref(fields), buffer, len(buffer), ctypes.byref(written))",
-        "        if status:",
-        "            raise _ERRORS[status]()",
-        "        return buffer.raw[: written.value]",
-        "",
+        *parse_code(t),
+        *pack_code(t),
         '    def _to_c(self, at: str = "") -> _C:',
         "        return _C(",
-        *[f"            {to_c(it)}," for it in of_all],
+        *[f"            {value}," for it in of_all for value in to_c(it).values()],
         "        )",
         "",
         "    @classmethod",
@@ -289,16 +350,121 @@ def calls_code(t: Target) -> list[str]:
     ]
 
 
+def parse_code(t: Target) -> list[str]:
+    """Returns the parse."""
+    f = t.f
+    told = "" if f.sized else ", and returns them with the number of bytes that they take"
+    if lists(f.description):
+        return parse_lists_code(t)
+    first_, taken, end = "bytes(data[: cls.SIZE])", "", "cls._from_c(out)"
+    if not f.sized:
+        first_, taken, end = "bytes(data)", ", ctypes.byref(taken)", "cls._from_c(out), taken.value"
+    return [
+        "    @classmethod",
+        f"    def parse(cls, data: bytes | bytearray | memoryview) -> {f.type if f.sized else f'tuple[{f.type}, int]'}:",
+        *paragraph(f'"""Parses the fields at the start of `data`{told}.', " " * 8, " " * 8),
+        "",
+        *paragraph(f"Raises {refusals(t)}.", " " * 8, " " * 8),
+        '        """',
+        f"        first, out = {first_}, _C()",
+        *["        taken = ctypes.c_size_t()"] * (not f.sized),
+        f"        status = library.{f.m}_parse(first, len(first), ctypes.byref(out){taken})",
+        "        if status:",
+        "            raise _ERRORS[status]()",
+        f"        return {end}",
+        "",
+    ]
+
+
+def parse_lists_code(t: Target) -> list[str]:
+    """Returns the parse of a format with lists: it is called again with room for the items that it asks for."""
+    f = t.f
+    out = [
+        "    @classmethod",
+        f"    def parse(cls, data: bytes | bytearray | memoryview) -> tuple[{f.type}, int]:",
+        *paragraph(
+            '"""Parses the fields at the start of `data`, and returns them with the number of bytes that they take.',
+            " " * 8,
+            " " * 8,
+        ),
+        "",
+        *paragraph(f"Raises {refusals(t)}.", " " * 8, " " * 8),
+        '        """',
+        "        first, out, taken = bytes(data), _C(), ctypes.c_size_t()",
+        f"        status = library.{f.m}_parse(first, len(first), ctypes.byref(out), ctypes.byref(taken))",
+        "        while status:",
+    ]
+    for k, (it, status) in enumerate(zip(lists(f.description), rooms(f))):
+        out += [
+            f"            {'el' * (k > 0)}if status == {status.number}:",
+            f'                out.{python_name(it.name)} = _{it.name}([0] * taken.value, "")',
+        ]
+    return [
+        *out,
+        "            else:",
+        "                raise _ERRORS[status]()",
+        f"            status = library.{f.m}_parse(first, len(first), ctypes.byref(out), ctypes.byref(taken))",
+        "        return cls._from_c(out), taken.value",
+        "",
+    ]
+
+
+def pack_code(t: Target) -> list[str]:
+    """Returns the pack."""
+    f = t.f
+    call = f"library.{f.m}_pack(ctypes.byref(fields), buffer, len(buffer), ctypes.byref(written))"
+    body = [
+        f"        buffer, written = ctypes.create_string_buffer(self.SIZE), ctypes.c_size_t()",
+        f"        status = {call}",
+    ]
+    if not f.sized:
+        body = [
+            "        status, buffer, written = NO_ROOM, ctypes.create_string_buffer(32), ctypes.c_size_t()",
+            "        while status == NO_ROOM:",
+            "            buffer = ctypes.create_string_buffer(2 * len(buffer))",
+            f"            status = {call}",
+        ]
+        body = [it.replace("NO_ROOM", str(NO_ROOM)) for it in body]
+    return [
+        "    def pack(self) -> bytes:",
+        f'        """Returns the {f"{f.bytes} " if f.sized else ""}bytes of the fields.',
+        "",
+        "        Raises `DoesNotFit` if the format does not allow the value of a field, and `TypeError` for another type.",
+        '        """',
+        "        try:",
+        "            fields = self._to_c()",
+        "        except OverflowError as it:",
+        "            raise DoesNotFit(str(it)) from None",
+        *body,
+        "        if status:",
+        "            raise _ERRORS[status]()",
+        "        return buffer.raw[: written.value]",
+        "",
+    ]
+
+
 def end_code(t: Target) -> list[str]:
     """Returns the test of the layout, and the types of the functions of C."""
     f = t.f
-    size, offset, _ = layout(f.description)
-    last = python_name(fields(f.description)[-1].name)
+    size, offset, _ = layout(f.description, public=True)
+    last = python_name(members(f.description)[-1].name)
+    taken = [] if f.sized else ["    ctypes.POINTER(ctypes.c_size_t),"]
+    pointers = "[ctypes.c_char_p, ctypes.c_size_t, ctypes.POINTER(_C)]"
+    parse = [f"{f'library.{f.m}'}_parse.argtypes = {pointers}"]
+    if taken:
+        parse = [
+            f"library.{f.m}_parse.argtypes = [",
+            "    ctypes.c_char_p,",
+            "    ctypes.c_size_t,",
+            "    ctypes.POINTER(_C),",
+            *taken,
+            "]",
+        ]
     of_c = f"library.{f.m}"
     return [
         f'if ctypes.sizeof(_C) != {size} or getattr(_C, "{last}").offset != {offset}:',
         '    raise ImportError("the library has another layout")',
-        f"{of_c}_parse.argtypes = [ctypes.c_char_p, ctypes.c_size_t, ctypes.POINTER(_C)]",
+        *parse,
         f"{of_c}_parse.restype = ctypes.c_int",
         f"{of_c}_pack.argtypes = [",
         "    ctypes.POINTER(_C),",

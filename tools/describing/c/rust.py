@@ -4,13 +4,27 @@ from __future__ import annotations
 from typing import assert_never
 
 from describing import model as m
-from describing.c.cross import Crossed, base, comment, enums, fields, layout, limits, parts, rust_type
-from describing.c.status import DOES_NOT_FIT, Status, own, refused
+from describing.c.cross import (
+    Crossed,
+    Member,
+    base,
+    comment,
+    enums,
+    fields,
+    layout,
+    limits,
+    list_comment,
+    lists,
+    members,
+    parts,
+)
+from describing.c.status import DOES_NOT_FIT, Status, numbers, own, refused, rooms
 from describing.c.target import Target
 from describing.c.words import doc, drawn, quoted
 from describing.layout import enum_bits
 
 DERIVES = "#[derive(Clone, Copy, Debug, PartialEq, Eq, Hash)]"
+OWNING = "#[derive(Clone, Debug, PartialEq, Eq, Hash)]"  # of a type with lists
 
 
 def module(t: Target) -> str:
@@ -22,16 +36,18 @@ def module(t: Target) -> str:
     out = [f"//! {t.made}", "//!", f"//! {f.doc}", "//!", "//! ```text", *[f"//! {it}" for it in drawn(f.description)]]
     out += ["//! ```", ""]
     out += [f"use crate::{it.module}::{{{it.name}, {it.name}C}};" for it in parts(f.description)]
+    out += ["extern crate alloc;", "use alloc::vec;", "use alloc::vec::Vec;"] * (not f.sized)
     out += ["use core::num::NonZero;"] * ("NonZero" in text)
     return "\n".join([*out, *[""] * (out[-1] != ""), text]) + "\n"
 
 
 def struct_code(t: Target) -> list[str]:
     """Returns the struct of the fields."""
-    out = [*doc(t.f.doc), DERIVES, f"pub struct {t.f.type} {{"]
+    out = [*doc(t.f.doc), OWNING if lists(t.f.description) else DERIVES, f"pub struct {t.f.type} {{"]
     for it in fields(t.f.description):
         said = it.doc if isinstance(it, m.Enum | m.MaybeNonZero) else comment(it)
         said = f"{said} {limits(it).split(';')[0]}." if isinstance(it, m.MaybeNonZero) else said
+        said = list_comment(t.f.description, it) if isinstance(it, m.List) else said
         out += [*doc(said, "    "), f"    pub {it.name}: {m.rust_type(it)},"]
     return [*out, "}", ""]
 
@@ -42,7 +58,7 @@ def enum_code(t: Target, enum: m.EnumType) -> list[str]:
     kind = next(it for it in fields(t.f.description) if isinstance(it, m.Enum) and it.enum.name == name)
     out = [*doc(kind.doc or f"The field `{kind.name}`."), DERIVES, f"pub enum {name} {{"]
     for value, case in enum.cases:
-        out += [f"    /// {value}.", f"    {case},"]
+        out += [f"    /// Encoded as {value}.", f"    {case},"]
     said = f"Another number below 2^{enum.width}. With the number of a case above it packs as that case."
     out += [*doc(said, "    "), f"    {enum.other}({number}),"] * bool(enum.other)
     last = f"Some({name}::{enum.other}(number))" if enum.other else "None"
@@ -119,13 +135,27 @@ def number(status: Status) -> str:
 # ---- the struct that crosses
 
 
-def to_c(kind: Crossed) -> str:
-    """Returns the field of the struct that crosses for a field."""
+def to_c(kind: Crossed) -> dict[str, str]:
+    """Returns the members of the struct that crosses for a field."""
+    v = f"value.{kind.name}"
+    if isinstance(kind, m.List):
+        return {kind.name: f"{v}.len()"}
+    if isinstance(kind, m.Optional | m.If):
+        there = f"u8::from({v}.is_some())"
+        return {
+            f"has_{kind.name}": there,
+            kind.name: f"{v}.as_ref().map_or({kind.use.name}C::ZERO, {kind.use.name}C::new)",
+        }
+    return {kind.name: one_to_c(kind)}
+
+
+def one_to_c(kind: Crossed) -> str:
+    """Returns the member of the struct that crosses for a field that has one."""
     v = f"value.{kind.name}"
     match kind:
         case m.Bool():
             return f"u8::from({v})"
-        case m.Number() | m.Array():
+        case m.Number() | m.Array() | m.Unary() | m.Groups() | m.Golomb() | m.Varint():
             return v
         case m.NonZero():
             return f"{v}.get()"
@@ -135,7 +165,7 @@ def to_c(kind: Crossed) -> str:
             return f"{v}.number()"
         case m.Part():
             return f"{kind.use.name}C::new(&{v})"
-    assert_never(kind)
+    raise AssertionError(kind)
 
 
 def from_c(kind: Crossed) -> str:
@@ -144,7 +174,7 @@ def from_c(kind: Crossed) -> str:
     match kind:
         case m.Bool():
             return f"{v} != 0"
-        case m.Number() | m.Array():
+        case m.Number() | m.Array() | m.Unary() | m.Groups() | m.Golomb() | m.Varint():
             return v
         case m.NonZero():
             return f"NonZero::<{base(kind)}>::new({v})?"
@@ -154,29 +184,38 @@ def from_c(kind: Crossed) -> str:
             return f"{kind.enum.name}::of({v})?"
         case m.Part():
             return f"{v}.fields()?"
+        case m.Optional() | m.If():
+            return f"if self.has_{kind.name} == 0 {{ None }} else {{ Some({v}.fields()?) }}"
+        case m.List():
+            return f"{kind.name}_items"
     assert_never(kind)
 
 
 def crossing_code(t: Target) -> list[str]:
     """Returns the struct that crosses, the results, and the proved functions."""
     f = t.f
-    name, of_all = f"{f.type}C", fields(f.description)
+    name, of_all, of_c = f"{f.type}C", fields(f.description), members(f.description)
     size, offset, _ = layout(f.description)
     return [
         "#[repr(C)]",
         "#[derive(Clone, Copy)]",
         f"pub(crate) struct {name} {{",
-        *[f"    {it.name}: {rust_type(it)}," for it in of_all],
+        *[f"    pub(crate) {it.name}: {it.rust}," for it in of_c],
         "}",
         "",
         f"impl {name} {{",
+        "    #[allow(dead_code)]",
+        f"    pub(crate) const ZERO: {name} = {name} {{",
+        *[f"        {it.name}: {zero(it)}," for it in of_c],
+        "    };",
+        "",
         f"    pub(crate) fn new(value: &{f.type}) -> {name} {{",
         f"        {name} {{",
-        *[f"            {it.name}: {to_c(it)}," for it in of_all],
+        *[f"            {name_}: {value}," for it in of_all for name_, value in to_c(it).items()],
         "        }",
         "    }",
         "",
-        f"    pub(crate) fn fields(&self) -> Option<{f.type}> {{",
+        f"    pub(crate) fn fields(&self{items_parameters(t)}) -> Option<{f.type}> {{",
         f"        Some({f.type} {{",
         *[f"            {it.name}: {from_c(it)}," for it in of_all],
         "        })",
@@ -186,6 +225,7 @@ def crossing_code(t: Target) -> list[str]:
         "#[repr(C)]",
         "struct Parsed {",
         "    status: i32,",
+        *["    taken: usize,"] * (not f.sized),
         f"    value: {name},",
         "}",
         "",
@@ -196,65 +236,169 @@ def crossing_code(t: Target) -> list[str]:
         "}",
         "",
         'extern "C" {',
-        f"    fn proved_{f.m}_parse(bytes: *const u8, length: usize) -> Parsed;",
-        f"    fn proved_{f.m}_pack(value: &{name}, buffer: *mut u8, length: usize) -> Packed;",
+        f"    fn proved_{f.m}_parse(bytes: *const u8, length: usize{pointers(t, 'mut')}) -> Parsed;",
+        f"    fn proved_{f.m}_pack(value: &{name}{pointers(t, 'const')}, buffer: *mut u8, length: usize) -> Packed;",
         "}",
         "",
         "// The layout that the proved functions have.",
         f"const _: () = assert!(core::mem::size_of::<{name}>() == {size});",
-        f"const _: () = assert!(core::mem::offset_of!({name}, {of_all[-1].name}) == {offset});",
+        f"const _: () = assert!(core::mem::offset_of!({name}, {of_c[-1].name}) == {offset});",
         "",
     ]
 
 
+def zero(member: Member) -> str:
+    """Returns a member of the struct that crosses whose members are all 0."""
+    if member.module:
+        return f"{member.base}::ZERO"
+    return "0" if member.count is None else f"[0; {member.count}]"
+
+
+def items_parameters(t: Target) -> str:
+    """Returns the parameters for the items of the lists."""
+    return "".join(f", {it.name}_items: Vec<{base(it)}>" for it in lists(t.f.description))
+
+
+def pointers(t: Target, how: str) -> str:
+    """Returns the parameters for the items of the lists of a proved function."""
+    names = [(it.name, base(it)) for it in lists(t.f.description)]
+    return "".join(f", {name}_items: *{how} {number}, {name}_count: usize" for name, number in names)
+
+
 def calls_code(t: Target) -> list[str]:
-    """Returns the two functions."""
+    """Returns the functions."""
+    f = t.f
+    size = ["    /// The bytes that the fields take.", f"    pub const SIZE: usize = {f.bytes};", ""] * f.sized
+    return [f"impl {f.type} {{", *size, *parse_code(t), *pack_into_code(t), *pack_code(t), "}"]
+
+
+def refusals(t: Target) -> str:
+    """Returns the errors of a parse."""
+    f = t.f
+    few = (
+        f"`EndOfInput` for fewer than {f.bytes} bytes"
+        if f.sized
+        else "`EndOfInput` if the bytes end before the fields do"
+    )
+    cases = ", ".join(f"`{it.camel}`" for it in [*own(f), *numbers(f)])
+    return f"The first in the order of the bits: {cases}; {few}, if nothing in them is refused" if cases else few
+
+
+def parse_code(t: Target) -> list[str]:
+    """Returns the parse."""
+    if lists(t.f.description):
+        return parse_lists_code(t)
     f, e = t.f, error_name(t)
-    refusals = f"`EndOfInput` for fewer than {f.bytes} bytes"
-    if own(f):
-        cases = ", ".join(f"`{it.case}`" for it in own(f))
-        refusals = f"The first in the order of the bits: {cases}; {refusals}, if nothing in them is refused"
+    told = "" if f.sized else ", and returns them with the number of bytes that they take"
+    found, value = (f.type, "parsed.value.fields()") if f.sized else (f"({f.type}, usize)", "fields")
+    end = f"        {value}.ok_or({e}::DoesNotFit)"
     return [
-        f"impl {f.type} {{",
-        "    /// The bytes that the fields take.",
-        f"    pub const SIZE: usize = {f.bytes};",
-        "",
-        "    /// Parses the fields at the start of `bytes`.",
+        *doc(f"Parses the fields at the start of `bytes`{told}.", "    "),
         "    ///",
         "    /// # Errors",
         "    ///",
-        *doc(f"{refusals}.", "    "),
-        f"    pub fn parse(bytes: &[u8]) -> Result<{f.type}, {e}> {{",
+        *doc(f"{refusals(t)}.", "    "),
+        f"    pub fn parse(bytes: &[u8]) -> Result<{found}, {e}> {{",
         "        // SAFETY: the pointer and the length are a slice's.",
         f"        let parsed = unsafe {{ proved_{f.m}_parse(bytes.as_ptr(), bytes.len()) }};",
         "        done(parsed.status)?;",
-        f"        parsed.value.fields().ok_or({e}::DoesNotFit)",
+        *["        let fields = parsed.value.fields().map(|it| (it, parsed.taken));"] * (not f.sized),
+        end,
         "    }",
         "",
-        f"    /// Writes the fields to the first {f.bytes} bytes of a buffer, and returns {f.bytes}. The other bytes",
-        "    /// stay as they were. After an error all bytes are as before.",
+    ]
+
+
+def parse_lists_code(t: Target) -> list[str]:
+    """Returns the parse of a format with lists: it is called again with room for the items that it asks for."""
+    f, e, kinds = t.f, error_name(t), lists(t.f.description)
+    given = "".join(f", {it.name}_items.as_mut_ptr(), {it.name}_items.len()" for it in kinds)
+    out = [
+        *doc(
+            "Parses the fields at the start of `bytes`, and returns them with the number of bytes that they take.",
+            "    ",
+        ),
         "    ///",
         "    /// # Errors",
         "    ///",
-        "    /// `DoesNotFit` if a field has a value that the format does not allow; else `NoRoom` for fewer than",
-        f"    /// {f.bytes} bytes.",
+        *doc(f"{refusals(t)}.", "    "),
+        f"    pub fn parse(bytes: &[u8]) -> Result<({f.type}, usize), {e}> {{",
+        *[f"        let mut {it.name}_items = Vec::new();" for it in kinds],
+        "        loop {",
+        "            // SAFETY: the pointers and the lengths are those of slices, of which the later ones are borrowed mutably.",
+        f"            let parsed = unsafe {{ proved_{f.m}_parse(bytes.as_ptr(), bytes.len(){given}) }};",
+        "            match parsed.status {",
+    ]
+    for it, status in zip(kinds, rooms(f)):
+        out.append(f"                {status.number} => {it.name}_items = vec![0; parsed.taken],")
+    cut = [f"                    {it.name}_items.truncate(parsed.value.{it.name});" for it in kinds]
+    names = ", ".join(f"{it.name}_items" for it in kinds)
+    return [
+        *out,
+        "                status => {",
+        "                    done(status)?;",
+        *cut,
+        f"                    let fields = parsed.value.fields({names}).map(|it| (it, parsed.taken));",
+        f"                    return fields.ok_or({e}::DoesNotFit);",
+        "                }",
+        "            }",
+        "        }",
+        "    }",
+        "",
+    ]
+
+
+def pack_into_code(t: Target) -> list[str]:
+    """Returns the pack into a buffer."""
+    f, e = t.f, error_name(t)
+    given = "".join(f", self.{it.name}.as_ptr(), self.{it.name}.len()" for it in lists(f.description))
+    said = f"Writes the fields to the first {f.bytes} bytes of a buffer, and returns {f.bytes}."
+    room = f"`NoRoom` for fewer than {f.bytes} bytes"
+    if not f.sized:
+        said = "Writes the fields to the first bytes of a buffer, and zeros up to a whole byte, and returns the number of these bytes."
+        room = "`NoRoom` if the buffer is too short"
+    return [
+        *doc(f"{said} The other bytes stay as they were. After an error all bytes are as before.", "    "),
+        "    ///",
+        "    /// # Errors",
+        "    ///",
+        *doc(f"`DoesNotFit` if a field has a value that the format does not allow; else {room}.", "    "),
         f"    pub fn pack_into(&self, buffer: &mut [u8]) -> Result<usize, {e}> {{",
         f"        let value = {f.type}C::new(self);",
         "        // SAFETY: the pointer and the length are a slice's, which is borrowed mutably.",
-        f"        let packed = unsafe {{ proved_{f.m}_pack(&value, buffer.as_mut_ptr(), buffer.len()) }};",
+        f"        let packed = unsafe {{ proved_{f.m}_pack(&value{given}, buffer.as_mut_ptr(), buffer.len()) }};",
         "        done(packed.status)?;",
         "        Ok(packed.written)",
         "    }",
         "",
-        f"    /// Returns the {f.bytes} bytes of the fields.",
+    ]
+
+
+def pack_code(t: Target) -> list[str]:
+    """Returns the pack into bytes of its own."""
+    f, e = t.f, error_name(t)
+    body = [f"        let mut bytes = [0; {f.bytes}];", "        self.pack_into(&mut bytes)?;", "        Ok(bytes)"]
+    if not f.sized:
+        body = [
+            "        let mut bytes = vec![0; 64];",
+            "        loop {",
+            "            match self.pack_into(&mut bytes) {",
+            f"                Err({e}::NoRoom) => bytes = vec![0; 2 * bytes.len()],",
+            "                Err(error) => return Err(error),",
+            "                Ok(written) => {",
+            "                    bytes.truncate(written);",
+            "                    return Ok(bytes);",
+            "                }",
+            "            }",
+            "        }",
+        ]
+    return [
+        f"    /// Returns the {f'{f.bytes} ' if f.sized else ''}bytes of the fields.",
         "    ///",
         "    /// # Errors",
         "    ///",
         "    /// `DoesNotFit` if a field has a value that the format does not allow.",
-        f"    pub fn pack(&self) -> Result<[u8; {f.bytes}], {e}> {{",
-        f"        let mut bytes = [0; {f.bytes}];",
-        "        self.pack_into(&mut bytes)?;",
-        "        Ok(bytes)",
+        f"    pub fn pack(&self) -> Result<{f'[u8; {f.bytes}]' if f.sized else 'Vec<u8>'}, {e}> {{",
+        *body,
         "    }",
-        "}",
     ]

@@ -4,28 +4,65 @@ from __future__ import annotations
 from typing import assert_never
 
 from describing import model as m
-from describing.c.cross import Crossed, base, fields, partial
+from describing.c import cross, lists, optional, varying
+from describing.c.cross import Crossed, Member, base, fields, members, partial
 from describing.c.imports import spec_uses
 from describing.c.status import END_OF_INPUT, own
 from describing.c.target import Target
+from describing.layout import Format
 from describing.model import snake
 
 
 def specs(t: Target) -> str:
     """Returns the text of the specs."""
-    body = [*to_c_specs(t), *from_c_specs(t), *zero_specs(t), *result_specs(t), *held_specs(t)]
+    results = result_specs(t) if t.f.sized else varying.specs(t.f)
+    if cross.lists(t.f.description):
+        results = lists.specs(t.f)
+    body = [
+        *narrow_specs(t.f),
+        *optional.specs(t.f),
+        *to_c_specs(t),
+        *from_c_specs(t),
+        *zero_specs(t),
+        *results,
+        *held_specs(t),
+    ]
     text = "\n".join(body).rstrip("\n")
     head = [f"-- {t.made}", f"-- A `{t.f.type}` as C sees it.", *spec_uses(t, text), ""]
     return "\n".join([*head, text]) + "\n"
 
 
-def to_c(kind: Crossed) -> str:
-    """Returns the field of C for a field."""
+def narrow_specs(f: Format) -> list[str]:
+    """Returns the definitions of the cases of numbers of C, for enums of which each number of their bits is a case."""
+    out = list[str]()
+    for it in cross.enums(f.description):
+        if cross.is_narrow(it):
+            name = f"{f.m}_{snake(it.name)}_from"
+            out += [
+                f"-- the case of a number, or none for a number of more than {it.width} bits",
+                f"abbrev pub {name} : ℕ → Option {it.name}",
+                f"{name} n = if nat_lt {2**it.width - 1} n then None else Some ({snake(it.name)}_of n)",
+                "",
+            ]
+    return out
+
+
+def to_c(f: Format, kind: Crossed) -> dict[str, str]:
+    """Returns the members of C for a field."""
+    if isinstance(kind, m.Optional | m.If):
+        return optional.to_c_specs(f, kind)
+    if isinstance(kind, m.List):
+        return {kind.name: f"length value.{kind.name}"}
+    return {kind.name: one_to_c(kind)}
+
+
+def one_to_c(kind: Crossed) -> str:
+    """Returns the member of C for a field that has one."""
     v = f"value.{kind.name}"
     match kind:
         case m.Bool():
             return f"if {v} then 1 else 0"
-        case m.Number() | m.Array():
+        case m.Number() | m.Array() | m.Unary() | m.Groups() | m.Golomb() | m.Varint():
             return v
         case m.NonZero():
             return f"non_zero_{base(kind)}_get {v}"
@@ -35,7 +72,7 @@ def to_c(kind: Crossed) -> str:
             return f"{snake(kind.enum.name)}_number {v}"
         case m.Part():
             return f"{kind.use.module}_to_c {v}"
-    assert_never(kind)
+    raise AssertionError(kind)
 
 
 def to_c_specs(t: Target) -> list[str]:
@@ -45,25 +82,31 @@ def to_c_specs(t: Target) -> list[str]:
         "-- the struct of C with these fields",
         f"abbrev pub {f.m}_to_c : {f.type} → {f.type}C",
         f"{f.m}_to_c value = record {{",
-        *[f"  {it.name} = {to_c(it)};" for it in fields(f.description)],
+        *[f"  {name} = {term};" for it in fields(f.description) for name, term in to_c(f, it).items()],
         "}",
         "",
     ]
 
 
-def from_c(kind: Crossed, name: str) -> str:
+def from_c(f: Format, kind: Crossed) -> str:
     """Returns the field for a field of C; that of a partial one is an `Option` or a `Result`."""
+    name = f"c.{kind.name}"
     match kind:
         case m.Bool():
             return f"not ({name} == 0)"
-        case m.Number() | m.Array():
+        case m.Number() | m.Array() | m.Unary() | m.Groups() | m.Golomb() | m.Varint():
             return name
         case m.NonZero() | m.MaybeNonZero():
             return f"if_any non_zero_{base(kind)} {name}"
         case m.Enum():
-            return f"{snake(kind.enum.name)}_of {name}"
+            own = f"{f.m}_{snake(kind.enum.name)}_from"
+            return f"{own} {name}" if cross.is_narrow(kind.enum) else f"{snake(kind.enum.name)}_of {name}"
         case m.Part():
             return f"{kind.use.module}_from_c {name}"
+        case m.Optional() | m.If():
+            return optional.from_c_specs(f, kind)
+        case m.List():
+            return f"{kind.name}_items"
     assert_never(kind)
 
 
@@ -72,10 +115,14 @@ def partial_type(t: Target, kind: Crossed) -> str:
     match kind:
         case m.NonZero():
             return f"Option NonZero{base(kind).upper()}"
+        case m.Enum() if cross.is_narrow(kind.enum):
+            return f"Option {kind.enum.name}"
         case m.Enum():
             return f"Result {kind.enum.name} {t.f.error}"
         case m.Part():
             return f"Option {kind.use.name}"
+        case m.Optional() | m.If():
+            return f"Option (Option {kind.use.name})"
     raise AssertionError(kind)
 
 
@@ -87,34 +134,39 @@ def given(t: Target) -> list[Crossed]:
 
 def pattern(kind: Crossed) -> tuple[str, str]:
     """Returns the patterns of a value and of none."""
-    return (f"(Ok {kind.name})", "(Err e)") if isinstance(kind, m.Enum) else (f"(Some {kind.name})", "None")
+    fails = isinstance(kind, m.Enum) and not cross.is_narrow(kind.enum)
+    return (f"(Ok {kind.name})", "(Err e)") if fails else (f"(Some {kind.name})", "None")
 
 
 def from_c_specs(t: Target) -> list[str]:
     """Returns the definition of the fields of a struct of C."""
     f, held = t.f, given(t)
-    made = [f"  {it.name} = {it.name if it in held else from_c(it, f'c.{it.name}')};" for it in fields(f.description)]
+    made = [f"  {it.name} = {it.name if it in held else from_c(f, it)};" for it in fields(f.description)]
     says = "-- the fields of a struct of C, or none if a number of C is no value of its field"
-    head = f"abbrev pub {f.m}_from_c : {f.type}C → Option {f.type}"
+    kinds = cross.lists(f.description)
+    items, of_items = "".join(f" {it.name}_items" for it in kinds), "List ℕ → " * len(kinds)
+    head = f"abbrev pub {f.m}_from_c : {f.type}C → {of_items}Option {f.type}"
     if not held:
-        return [says, head, f"{f.m}_from_c c = Some (record {{", *made, "})", ""]
-    types = " → ".join([f"{f.type}C", *(partial_type(t, it) for it in held), f"Option {f.type}"])
+        return [says, head, f"{f.m}_from_c c{items} = Some (record {{", *made, "})", ""]
+    types = " → ".join(
+        [f"{f.type}C", *["List ℕ"] * len(kinds), *(partial_type(t, it) for it in held), f"Option {f.type}"]
+    )
     somes = [pattern(it)[0] for it in held]
     out = ["-- the fields of a struct of C, of which some are made already", f"abbrev pub {f.m}_made : {types}"]
-    out += [f"{f.m}_made c {' '.join(somes)} = Some (record {{", *made, "})"]
+    out += [f"{f.m}_made c{items} {' '.join(somes)} = Some (record {{", *made, "})"]
     for k, it in reversed(list(enumerate(held))):
         rest = [f"v{j}" for j in range(k + 1, len(held))]
-        out.append(f"{f.m}_made c {' '.join([*somes[:k], pattern(it)[1], *rest])} = None")
-    terms = [f"({from_c(it, f'c.{it.name}')})" for it in held]
-    return [*out, "", says, head, f"{f.m}_from_c c = {f.m}_made c {' '.join(terms)}", ""]
+        out.append(f"{f.m}_made c{items} {' '.join([*somes[:k], pattern(it)[1], *rest])} = None")
+    terms = [f"({from_c(f, it)})" for it in held]
+    return [*out, "", says, head, f"{f.m}_from_c c{items} = {f.m}_made c{items} {' '.join(terms)}", ""]
 
 
-def zero(kind: Crossed) -> str:
-    """Returns a field of the struct of C after an error."""
-    if isinstance(kind, m.Part):
-        return f"{kind.use.module}_zero"
-    one = "pos 0" if base(kind)[0] == "i" else "0"
-    return " ∷ ".join([one] * kind.count + ["[]"]) if isinstance(kind, m.Array) else one
+def zero(member: Member) -> str:
+    """Returns a member of the struct of C after an error."""
+    if member.module:
+        return f"{member.module}_zero"
+    one = "pos 0" if member.base[0] == "i" else "0"
+    return one if member.count is None else " ∷ ".join([one] * member.count + ["[]"])
 
 
 def zero_specs(t: Target) -> list[str]:
@@ -124,7 +176,7 @@ def zero_specs(t: Target) -> list[str]:
         "-- the struct of C after an error",
         f"abbrev pub {f.m}_zero : {f.type}C",
         f"{f.m}_zero = record {{",
-        *[f"  {it.name} = {zero(it)};" for it in fields(f.description)],
+        *[f"  {it.name} = {zero(it)};" for it in members(f.description)],
         "}",
         "",
     ]

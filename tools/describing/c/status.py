@@ -3,11 +3,12 @@ from __future__ import annotations
 
 from dataclasses import dataclass
 
-from describing.layout import Format
+from describing import model as m
+from describing.layout import Format, reader_errors
 from describing.model import snake
 from describing.rust.calls import refusal
 
-OK, END_OF_INPUT, NO_ROOM, DOES_NOT_FIT, NULL = range(5)
+OK, END_OF_INPUT, NO_ROOM, DOES_NOT_FIT, NULL, BAD_NUMBER = range(6)
 
 
 @dataclass(frozen=True, slots=True)
@@ -39,20 +40,55 @@ FIRST = (
     Status(DOES_NOT_FIT, "DOES_NOT_FIT", "A field has a value that the format does not allow."),
     Status(NULL, "NULL", "A pointer is null."),
 )
+NUMBER = Status(
+    BAD_NUMBER, "BAD_NUMBER", "A number of variable width is too large, or ends in a group of 0 behind others."
+)
+
+
+def has_numbers(kinds: tuple[m.Kind, ...]) -> bool:
+    """Returns true if numbers of variable width may be refused by the reader."""
+    runs = any(isinstance(it, m.Unary) or any(has_numbers(use.description.kinds) for use in m.uses(it)) for it in kinds)
+    return runs or any(True for _ in reader_errors(kinds))
+
+
+def numbers(f: Format) -> list[Status]:
+    """Returns the status of numbers of variable width that are refused, if there are any."""
+    return [NUMBER] * has_numbers(f.description.kinds)
+
+
+def rooms(f: Format) -> list[Status]:
+    """Returns the statuses of lists without room for their items."""
+    names = [it.name for it in f.description.fields if isinstance(it, m.List)]
+    last = len(FIRST) + len(numbers(f))
+    return [
+        Status(last + k, f"NO_ROOM_{it.upper()}", f"The storage has no room for the items of `{it}`.")
+        for k, it in enumerate(names)
+    ]
+
+
+def first(f: Format) -> list[Status]:
+    """Returns the statuses that are not the format's own errors."""
+    return [*FIRST, *numbers(f), *rooms(f)]
 
 
 def own(f: Format) -> list[Status]:
     """Returns the statuses of the format's own errors."""
     firsts = {it.error: it for it in reversed(f.tests)}
     cases = dict.fromkeys(it.error for it in f.tests)
-    return [Status(len(FIRST) + k, snake(it).upper(), refusal(firsts[it]), it) for k, it in enumerate(cases)]
+    return [Status(len(first(f)) + k, snake(it).upper(), refusal(firsts[it]), it) for k, it in enumerate(cases)]
+
+
+def held(f: Format) -> set[str]:
+    """Returns the cases of the error that hold the error of a part."""
+    return {case for it in f.tests for case, error in m.refusals(it.kind) if error}
 
 
 def statuses(f: Format) -> list[Status]:
     """Returns all statuses, in the order of their numbers."""
-    return [*FIRST, *own(f)]
+    return [*first(f), *own(f)]
 
 
 def refused(f: Format) -> list[Status]:
     """Returns the statuses that a caller in Rust or Python may see as an error."""
-    return [it for it in statuses(f) if it.number not in (OK, NULL)]
+    without = [OK, NULL, *[it.number for it in rooms(f)]]
+    return [it for it in statuses(f) if it.number not in without]

@@ -6,6 +6,7 @@ from typing import assert_never
 from describing import model as m
 from describing.layout import Format, Line, has_size, is_octets
 from describing.model import snake
+from describing.specs import checks
 from describing.specs.sizes import overrun
 from describing.specs.terms import (
     bit,
@@ -71,6 +72,12 @@ def back(f: Format, line: Line, behind: str) -> str:
         case m.Varint():
             goes = f"(varint-back o {term} fits.{kind.name}).back"
             return f"part-back ({entry(f, line)}) _ ({word(line)}) _ {term} _ {goes} ({behind})"
+        case m.Blocks():
+            goes = f"(blocks-back o {term} fits.{kind.name} fits.{kind.name}_most).back"
+            return f"part-back ({entry(f, line)}) _ ({word(line)}) _ {term} _ {goes} ({behind})"
+        case m.Until():
+            goes = f"(until-back o {kind.stop} (omega arith) {term} fits.{kind.name} fits.{kind.name}_most).back"
+            return f"part-back ({entry(f, line)}) _ ({word(line)}) _ {term} _ {goes} ({behind})"
         case m.Count():
             length = f"(length value.{kind.target})"
             return f"unsigned-back o {kind.width} _ _ 64 {length} _ refl fits.{line.name} ({behind})"
@@ -80,6 +87,14 @@ def back(f: Format, line: Line, behind: str) -> str:
             return f"unsigned-back o {kind.width} _ _ {tag_bits(kind.width)} ({number}) _ refl {small_tag} ({behind})"
         case m.Size():
             return size_back(line, kind, behind)
+        case m.Check():
+            number = f"({checks.written_sum(kind, line.covers)})"
+            small_sum = f"({kind.word}-small ({checks.octets_of(line.covers, 'value.')}))"
+            return f"unsigned-back o {kind.width} _ _ {kind.width} {number} _ refl {small_sum} ({behind})"
+        case m.Verify():
+            return f"verified-back ({checks.written_sum(kind.check, line.covers)}) _ _ _ ({behind})"
+        case m.Rest():
+            return f"vec-back _ _ o (length {term}) {term} _ refl fits.{kind.name} ({behind})"
         case m.Sized(item=m.Octet()):
             return octets_back(line, kind, behind)
         case m.Sized() | m.Fill():
@@ -177,9 +192,9 @@ def most(kind: m.Size) -> str:
 
 def read_size(line: Line) -> str:
     """Returns the number that a size has when it is read again."""
-    assert line.size and has_size(line.kind)
+    assert has_size(line.kind)
     size = f"{measured_size(line.kind, 'High')} / 8" if line.measured else f"length {value(line)}"
-    return stated_number(line.size, size)
+    return stated_number(line.size, size) if line.size else size
 
 
 def octets_back(line: Line, kind: m.Sized, behind: str) -> str:
@@ -341,7 +356,7 @@ def filled_back(f: Format, line: Line, kind: m.Fill) -> str:
     word_of = f"write_sequence ({use.module}_writes o x) at"
     long = f"let long : length ({word_of}) ≡ {use.module}_size o x = ({use.module}_packs o x is).size at in omega (arith, long)"
     some = each_is(line, use, f"(at : ℕ) → 8 ≤ length ({word_of})", f"λ x is at. {long}")
-    shape = f"(λ o. {read}) {kind.error} (λ error. Reader error) {kind.name}_ended o"
+    shape = f"(λ o. {read}) {overrun(kind)} (λ error. Reader error) {kind.name}_ended o"
     packs = f"(packs-is ({measured_packs(kind, 'o')}) (fits.{kind.name}_whole o))"
     size = f"({measured_size(kind, 'High')} / 8)"
     return f"filled-read {shape} {size} ({use.module}_writes o) {value(line)} {packs} {back} {some}"

@@ -74,6 +74,10 @@ def read_call(f: Format, line: Line) -> tuple[str, str, str]:
             return own_read(f, part_contract(use), becomes(use.description.error, use.module)), "", ""
         case m.Optional() | m.If():
             return own_read(f, OWN if line.error else PLAIN, f.becomes_name), "", ""
+        case m.Until() | m.Blocks():
+            return "grown", "", ""
+        case m.Rest():
+            return "growing", "reads", ""
         case m.Sized(item=m.Octet()) if not kind.error:
             return "growing", "reads", ""
         case m.Sized() | m.Fill():
@@ -97,6 +101,9 @@ def read_answers(f: Format, k: int) -> str:
     pieces, labels, steps = f.pieces(), Labels(), Labels()
     calls = []
     for it in pieces[k]:
+        if isinstance(it.kind, m.Verify):
+            calls.append(verify_call(it, it.kind.check, steps))
+            continue
         form, fact, wide = read_call(f, it)
         asks = isinstance(it.kind, m.If) and asked_enum(f, it.kind) is not None
         asks = asks or isinstance(it.kind, m.Choose) and by_enum(f, it.kind) is not None
@@ -113,6 +120,18 @@ def read_answers(f: Format, k: int) -> str:
         form = own_read(f, contract(f.error, f.grows), f.becomes_name)
         calls.append(Call(form, "", name, name, "end"))
     return text(f, answers, calls, f.type, f"read_{k + 1}" if k else "read")
+
+
+def verify_call(line: Line, kind: m.Check, steps: Labels) -> Call:
+    """Returns the test of a checksum, with the equations of its arguments."""
+    label = f"not-is_{kind.word}"
+    return Call("if", "", label, label, "if", "not", known=(f"c.{kind.word}_of.ensures", *known_sum(line, steps)))
+
+
+def known_sum(line: Line, steps: Labels) -> list[str]:
+    """Returns the equations of the arguments of the function that computes a checksum."""
+    known = [f"c.{steps.next('number')}.ensures" for it in line.covers if isinstance(it, m.Enum)]
+    return known + [f"c.{steps.next('deref')}.ensures.value" for it in line.covers if m.grows(it)]
 
 
 def signed_width(kind: m.Kind) -> str:
@@ -169,13 +188,17 @@ class Writes:
                 return form, f"write_{short(kind)}", "", ""
             case m.Varint() | m.Size(varint=True):
                 return "list", "write_varint", "", ""
+            case m.Until():
+                return "list", "write_until", "", ""
+            case m.Blocks():
+                return "list", "write_blocks", "", ""
             case m.Const():
                 return "call", "write_const", "writes", ""
             case m.Skip():
                 return "call", "pad", "writes", ""
             case m.Unary():
                 return "call", "write_unary", "writes", ""
-            case m.Sized(item=m.Octet()):
+            case m.Rest() | m.Sized(item=m.Octet()):
                 return "call", "write_bytes", "writes", ""
             case m.Part() | m.Choose() | m.Sized():
                 return "list", "write", "", ""
@@ -199,9 +222,11 @@ class Writes:
                 return (f"c.{self.steps.next('number')}.ensures",)
             case m.Size():
                 return self.known_size(line, kind)
+            case m.Check():
+                return (f"c.{kind.word}_of.ensures", *known_sum(line, self.steps))
             case m.Count():
                 return (self.known_length(kind.target),)
-            case m.List() | m.Fill() | m.Sized(item=m.Octet()):
+            case m.List() | m.Fill() | m.Until() | m.Rest() | m.Blocks() | m.Sized(item=m.Octet()):
                 return (f"c.{self.steps.next('deref')}.ensures.value",)
         return ()
 
@@ -227,7 +252,7 @@ class Writes:
 def write_answers(f: Format, k: int) -> str:
     """Returns the answers of the function that writes a piece."""
     pieces, writes = f.pieces(), Writes(f)
-    calls = [writes.call(it) for it in pieces[k]]
+    calls = [writes.call(it) for it in pieces[k] if it in f.written]
     answers = Answers("WritesAll", "", "rw (← c.self.view_is)" if f.grows else "", True)
     if k + 1 < len(pieces):
         name, known = f"write_{k + 2}", ("(← c.self.view_is)",) * f.grows

@@ -243,9 +243,12 @@ class Answers:
             if call.form == "if":
                 holds, fails = TESTS[self.kind][::-1] if call.wide else TESTS[self.kind]
                 at = f"c.if-{call.label}"
-                ends = [self.term(f"{holds} {at}.true"), self.term(END[self.kind])]
+                true, false = f"{at}.true", f"{at}.false"
+                if call.known:  # numbers are compared
+                    true, false = f"(ne_eqb 2 {self.knowing(call, true)})", f"(eq-eqb 2 {self.knowing(call, false)})"
+                ends = [self.term(f"{holds} {true}"), self.term(END[self.kind])]
                 found.append(self.answer(f"returns-then-{call.label}", front + ends))
-                front = front + [self.term(f"{fails} {at}.false")]
+                front = front + [self.term(f"{fails} {false}")]
                 continue
             if call.way == "?":
                 arm = f"in_err-{call.label}"
@@ -258,6 +261,12 @@ class Answers:
             front = front + [f"rw ({self.known_signed()})"]
         end = self.of_call(last, LAST, last.step) if last else self.term(END[self.kind])
         return found + [self.answer("returns", front + [end])]
+
+    def knowing(self, call: Call, fact: str) -> str:
+        """Returns a fact, rewritten by what is known of the arguments of a call."""
+        for it in call.known:
+            fact = f"(rw {it} at {fact})"
+        return fact
 
     def known_signed(self) -> str:
         """Returns that the signed numbers that a reading function takes are the values of their bits."""

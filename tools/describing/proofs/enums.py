@@ -28,7 +28,9 @@ def answers(f: Format, line: Line, enum: m.EnumType) -> Answers:
     if line.repeats:
         return {}
     goals = f"use {f.goals}.{enum.name}"
-    found = {f"{enum.name}/of": of_answers(enum, goals), f"{enum.name}/number": number_answers(enum, goals)}
+    found = {f"{enum.name}/of": of_answers(enum, goals)}
+    if len(enum.names()) > 1:  # of one case a search finds the number
+        found[f"{enum.name}/number"] = number_answers(enum, goals)
     if not isinstance(line.kind, m.Array):
         return found | {f"{enum.name}/read": read_answers(line, goals, "read", "number", "of")}
     found[f"{enum.name}/read_each"] = read_answers(line, goals, "read_each", "numbers", "each")

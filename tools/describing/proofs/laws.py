@@ -8,11 +8,14 @@ from describing.proofs.back import back, lets
 from describing.proofs.enums import lemmas as enum_lemmas
 from describing.proofs.written import accepted, written
 from describing.specs.printed import writes_behind
-from describing.specs.terms import fits, word
+from describing.specs.terms import fits, rest_count, word
+from describing.specs.values import besides
 
 
 def lemmas(f: Format) -> list[str]:
     """Returns all lemmas of a format."""
+    if f.valued:
+        return [*projections(f), *told(f)]
     out = [line for it in f.lines for line in line_lemmas(f, it)]
     return [*out, *goes(f), *packs(f), *(accepts(f) if f.fitting else []), *told(f)]
 
@@ -24,6 +27,30 @@ def line_lemmas(f: Format, line: Line) -> list[str]:
     return enum_lemmas(line, line.enum) if line.enum else []
 
 
+def projections(f: Format) -> list[str]:
+    """Returns the laws of a format that is a value: they are its own."""
+    given = f"(o : Order) (value : {f.type})"
+    out = [
+        "-- a written value is read back",
+        f"pub {f.m}_goes : {given} → Fits value",
+        f"    → RoundTrip ({f.m}_decoder o) ({f.m}_writes o value) {'(Ok value)' if f.own else 'value'}",
+        f"{f.m}_goes = {f.m}_format.round_trip",
+        "",
+        "-- each write is accepted, and the value's size is the number of bits written",
+        f"pub {f.m}_packs : {given} → Fits value",
+        f"    → Packs ({f.m}_writes o value) ({f.m}_size o value)",
+        f"{f.m}_packs = {f.m}_format.packs",
+        "",
+    ]
+    fits_law = [
+        "-- each field fits if each write is accepted",
+        f"pub {f.m}_fits : {given} (at : ℕ) → AllAccepted ({f.m}_writes o value) at → Fits value",
+        f"{f.m}_fits o value at = {f.m}_format.accepted o value at {besides(f)}",
+        "",
+    ]
+    return out + fits_law * f.fitting
+
+
 def goes(f: Format) -> list[str]:
     """Returns the lemma of the round trip."""
     ok, term = "(Ok value)" if f.own else "value", "pure-back _"
@@ -32,7 +59,7 @@ def goes(f: Format) -> list[str]:
     return [
         "-- a written value is read back",
         f"pub {f.m}_goes : (o : Order) (value : {f.type}) → Fits value",
-        f"    → RoundTrip ({f.m}_decoder o) ({f.m}_writes o value) {ok}",
+        f"    → RoundTrip ({f.decoder('o', rest_count(f))}) ({f.m}_writes o value) {ok}",
         f"{f.m}_goes o value fits =",
         *[f"    {line}" for it in f.lines for line in lets(f, it)],
         f"    {term}",
@@ -43,7 +70,7 @@ def goes(f: Format) -> list[str]:
 def packs(f: Format) -> list[str]:
     """Returns the lemma of the size."""
     term = "packs-none"
-    for it in reversed(f.lines):
+    for it in reversed(f.written):
         term = f"{'packs-part' if it.many else 'packs-more'} ({written(it)}) ({term})"
     return [
         "-- each write is accepted, and the value's size is the number of bits written",

@@ -7,7 +7,7 @@ from describing import model as m
 from describing.layout import Format, Line
 from describing.proofs.found import found as line_found
 from describing.proofs.found import missed
-from describing.specs.terms import at_bits, fails, known_of, only_constants
+from describing.specs.terms import at_bits, fails, known_of, only_constants, rest_count
 
 Clause = tuple[str, str, str]  # a clause, the parameters of its answer, and the term
 OVER = "slice_ends c.over.ensures.state refl c.read.ensures"
@@ -26,7 +26,7 @@ def parse_lines(f: Format) -> list[str]:
 def answer_term(f: Format) -> str:
     """Returns the term of the clause of the result."""
     if f.grows:
-        return or_refused_term("found", "(is_error _ _ lack.0, lack.1)")
+        return or_refused_term(f, "found", "(is_error _ _ lack.0, lack.1)")
     return f"own_answered {OVER}" if f.own else "new_answer slice_ends _ _ c.over.ensures.state c.read.ensures"
 
 
@@ -37,15 +37,26 @@ def back_term(f: Format) -> str:
         is_ = f"(is ∙ ap (λ w. w ++ more) (sym (told value) ∙ packs-whole ({f.m}_packs {f.o} value fits) refl))"
     back = f"c.{f.m}_round_trip.ensures.back {f.o} value 0 0 more fits"
     front = f"(ap (({f.m}_decoder {f.o}).reads 0) {is_} ∙ {back})"
+    if f.rest:
+        packs, written = f"({f.m}_packs {f.o} value fits)", f"({f.m}_writes {f.o} value)"
+        if f.rest_line and f.rest_line.measured:
+            whole = f"let whole = fits.{f.rest.name}_whole {f.o} in omega (arith, whole)"
+            packs = f"(packs-is {packs} ({whole}))"
+        shape = f"({f.m}_decoder {f.o}) {f.o} c.args.packet.now {written} {f.head} {rest_count(f)} _"
+        front = f"(rest-back {shape} {packs} is (λ more. {back}))"
     if f.grows:
         motive = f"(λ prefix. OwnAnswer {f.becomes_name} (λ answer. answer) (sure_answer prefix) c.read.result)"
-        return f"λ value more fits is.\n    {or_refused_term(f'subst {motive} {front} found')}"
+        names = "value fits" if f.rest else "value more fits"
+        return f"λ {names} is.\n    {or_refused_term(f, f'subst {motive} {front} found')}"
     return f"λ value more fits is.\n    {'own_' * f.own}prefix_answered {OVER} {front}"
 
 
-def or_refused_term(term: str, lack: str = "(is_error _ _ lack.0)") -> str:
+def or_refused_term(f: Format, term: str, lack: str = "(is_error _ _ lack.0)") -> str:
     """Returns the term of a fact from a term of it for `found`, or that an allocation failed."""
-    return f"elim (own_grown_answered {OVER}) [ | inl found ↦ inl ({term}) | inr lack ↦ inr {lack} ]"
+    over = OVER
+    if f.given:
+        over = f"slice_ends c.over.ensures.state refl (rw c.rest_of-{f.given[0].name}.ensures at c.read.ensures)"
+    return f"elim (own_grown_answered {over}) [ | inl found ↦ inl ({term}) | inr lack ↦ inr {lack} ]"
 
 
 # ---- by places

@@ -5,7 +5,7 @@ from describing import model as m
 from describing.imports import own_lemmas, own_specs, parts_lemmas, types
 from describing.layout import Format, Line
 from describing.names import PROOFS, Table, modules_of, uses
-from describing.proofs import choices, enums, lists, parts, sizes
+from describing.proofs import checks, choices, enums, lists, parts, sizes
 from describing.proofs.laws import lemmas
 from describing.proofs.parse import parse_lines
 from describing.proofs.rows import rows
@@ -80,6 +80,8 @@ def line_answers(f: Format, line: Line) -> Answers:
         found |= sizes.stated_answers(f, line, kind)
     if isinstance(kind, m.List) and not isinstance(kind.item, m.Octet):
         found |= lists.answers(f, line, kind)
+    if isinstance(kind, m.Check):
+        found |= checks.answers(f, kind, line.covers)
     return found
 
 
@@ -104,7 +106,7 @@ def traits(f: Format) -> Answers:
     around = "" if f.own else "plainly_read "
     read = f"record {{ reads = {around}c.read.ensures }}"
     found = answer(f, f"{f.type}FromBitStream{'Using' * f.grows}/from_reader", ("returns", "g c", read))
-    return ({} if f.ordered else found) | to_answers(f, f.type)
+    return ({} if f.ordered or f.rest else found) | to_answers(f, f.type)
 
 
 def to_answers(f: Format, type: str) -> Answers:

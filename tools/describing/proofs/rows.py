@@ -22,10 +22,13 @@ def term(line: Line, value: Value, within: str = "") -> str:
             return f"non_zero_{kind.integer.base} {number(value) - 1}"
         case m.MaybeNonZero():
             return "None" if value is None else f"Some (non_zero_{kind.integer.base} {number(value) - 1})"
-        case m.Array() | m.List():
+        case m.Array() | m.List() | m.Until() | m.Rest():
             return list_term(line, kind.item, value, within)
         case m.Fill():
             return list_term(line, kind.use, value, within)
+        case m.Blocks():
+            assert isinstance(value, list)
+            return "".join(f"({list_term(line, m.Octet(), it, within)}) ∷ " for it in value) + "[]"
         case m.Sized(item=m.Octet() as octet):
             return list_term(line, octet, value, within)
         case m.Enum():
@@ -117,23 +120,24 @@ def row(f: Format, k: int, data: bytes, said: dict[str, Value] | str, unfolds: l
     """Returns the bytes of a test vector, and that they have its fields, or its error."""
     known = [f"row_{k} : List ℕ", f"row_{k} = {''.join(f'{it} ∷ ' for it in data)}[]", ""]
     if isinstance(said, str):
-        return [*known, *refused_row(f, k, said, unfolds)]
-    return [*known, *value_row(f, k, said, unfolds)]
+        return [*known, *refused_row(f, k, len(data), said, unfolds)]
+    return [*known, *value_row(f, k, len(data), said, unfolds)]
 
 
-def refused_row(f: Format, k: int, said: str, unfolds: list[str]) -> list[str]:
+def refused_row(f: Format, k: int, size: int, said: str, unfolds: list[str]) -> list[str]:
     """Returns that the bytes are refused with an error."""
     own = any(case == said for it in f.tests for case, _ in m.refusals(it.kind))
     answer = f"Ok (Err {said})" if own else f"Err {said}"
+    decoder = f.decoder(f.o, str(max(size - f.head, 0)))
     return [
-        f"refused_{k} : sure_answer (({f.m}_decoder {f.o}).reads 0 (bits {f.o} row_{k})) ≡ {answer}",
+        f"refused_{k} : sure_answer (({decoder}).reads 0 (bits {f.o} row_{k})) ≡ {answer}",
         f"unfolding row_{k} {' '.join(unfolds)}",
         f"refused_{k} = refl",
         "",
     ]
 
 
-def value_row(f: Format, k: int, said: dict[str, Value], unfolds: list[str]) -> list[str]:
+def value_row(f: Format, k: int, size: int, said: dict[str, Value], unfolds: list[str]) -> list[str]:
     """Returns that the fields are written to the bytes, and read from them."""
     ok = f"(Ok (Ok value_{k}))" if f.own else f"(Ok value_{k})"
     return [
@@ -143,7 +147,7 @@ def value_row(f: Format, k: int, said: dict[str, Value], unfolds: list[str]) -> 
         "}",
         "",
         f"written_{k} : (write_sequence ({f.m}_writes {f.o} value_{k} ++ align ∷ []) 0 ≡ bits {f.o} row_{k})",
-        f"    × (({f.m}_decoder {f.o}).reads 0 (bits {f.o} row_{k})",
+        f"    × (({f.decoder(f.o, str(size - f.head))}).reads 0 (bits {f.o} row_{k})",
         f"    ≡ Done (length (write_sequence ({f.m}_writes {f.o} value_{k}) 0)) {ok})",
         f"unfolding row_{k} value_{k} {' '.join(unfolds)}",
         f"written_{k} = (refl, refl)",

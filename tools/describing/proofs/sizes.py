@@ -17,7 +17,8 @@ def answers(f: Format, line: Line, kind: m.Measured) -> Answers:
     found |= stated_answers(f, line, kind) if line.units else {}
     if not isinstance(kind, m.Fill):
         return found
-    return found | {f"count_{kind.name}": count_answers(f, kind)} | write_answers(f, kind)
+    counts = {f"count_{kind.name}": count_answers(f, kind)} if line.size else {}
+    return found | counts | write_answers(f, kind)
 
 
 def stated_answers(f: Format, line: Line, kind: m.Measured) -> Answers:
@@ -41,7 +42,7 @@ def stated_answers(f: Format, line: Line, kind: m.Measured) -> Answers:
 
 def invariants(f: Format, line: Line, kind: m.Fill) -> Answers:
     """Returns the invariants of the loops over items, by the function."""
-    read, shape = inside(f, line, f.o), f"{kind.error} (λ error. Reader error) {kind.name}_ended"
+    read, shape = inside(f, line, f.o), f"{overrun(kind)} (λ error. Reader error) {kind.name}_ended"
     lines = [
         f"use {f.goals}.{kind.name}_in.Given as goal",
         "-- the items so far were read",
@@ -54,7 +55,7 @@ def invariants(f: Format, line: Line, kind: m.Fill) -> Answers:
 
 def items_answers(f: Format, line: Line, kind: m.Fill) -> list[str]:
     """Returns the answers of the function that reads items over their bytes."""
-    read, shape = inside(f, line, f.o), f"{kind.error} (λ error. Reader error) {kind.name}_ended"
+    read, shape = inside(f, line, f.o), f"{overrun(kind)} (λ error. Reader error) {kind.name}_ended"
     so_far = f"({read}) {shape} (bits {f.o} c.args.bytes.now) c.args.size"
     here = f"{so_far} c.loop.counter c.loop.invariant"
     more = f"{here} c.loop-test.true c.if-is_at_end.ensures.left"

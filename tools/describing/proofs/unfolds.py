@@ -28,12 +28,20 @@ def unfolds(line: Line) -> list[str]:
             return ["skip_decoder"]
         case m.Enum() | m.Count() | m.Tag():
             return [*NUMBER]
+        case m.Check():
+            return [*NUMBER, *(["sum16_state"] if kind.sum == "sum16" else ["crc_over", "steps"])]
+        case m.Verify():
+            return []
         case m.Varint() | m.Size(varint=True):
             return [*NUMBER]
+        case m.Until():
+            return [*NUMBER, "until_from"]
+        case m.Blocks():
+            return [*NUMBER, "blocks_from", "bytes_decoder", "bytes_of"]
         case m.Size():
             sizes = ["size_in_units", "stated_size", "stored_size", "stored_encoder"]
             return [*NUMBER, *(sizes if kind.units else ["size_encoder"])]
-        case m.Sized(item=m.Octet()):
+        case m.Rest() | m.Sized(item=m.Octet()):
             return ["bytes_decoder", "bytes_of"]
         case m.Unary():
             return ["unary_decoder"]

@@ -15,6 +15,7 @@ from describing.proofs.back import (
     size_facts,
     small,
 )
+from describing.specs import checks
 from describing.specs.terms import (
     bit,
     enum_number,
@@ -65,6 +66,10 @@ def written(line: Line) -> str:
             return f"{short(kind)}-packs o {term} fits.{kind.name}"
         case m.Varint():
             return f"varint-packs o {term} fits.{kind.name}"
+        case m.Blocks():
+            return f"blocks-packs o {term} fits.{kind.name}"
+        case m.Until():
+            return f"until-packs o {kind.stop} (omega arith) {term} fits.{kind.name}"
         case m.Count():
             return f"unsigned-written o 64 {kind.width} (length value.{kind.target}) refl fits.{line.name}"
         case m.Tag():
@@ -73,7 +78,12 @@ def written(line: Line) -> str:
             return f"unsigned-written o {width} {kind.width} ({number}) refl {choice_small(line.choice)}"
         case m.Size():
             return size_written(line, kind)
-        case m.Sized(item=m.Octet()):
+        case m.Check():
+            small_sum = f"({kind.word}-small ({checks.octets_of(line.covers, 'value.')}))"
+            return f"unsigned-written {checks.shape(kind)} ({checks.written_sum(kind, line.covers)}) refl {small_sum}"
+        case m.Verify():
+            raise AssertionError(kind)
+        case m.Rest() | m.Sized(item=m.Octet()):
             return f"bytes-written o (length {term}) {term} refl"
         case m.Choose() | m.Sized() | m.Fill():
             return measured_packs(kind, "o")

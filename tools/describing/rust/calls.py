@@ -7,6 +7,7 @@ from typing import assert_never
 from describing import model as m
 from describing.layout import Format, Line, enum_bits, is_octets
 from describing.model import snake
+from describing.rust.checks import arguments
 from describing.specs.terms import asked_enum, by_enum, short, tag_bits, tag_of, width
 from describing.text import article
 
@@ -39,6 +40,10 @@ def limits(line: Line) -> str:
             return f"Below 2^{kind.integer.width}; 0 means `None`."
         case m.Varint():
             return "Below 2^62."
+        case m.Until():
+            return f"No byte is {kind.stop}, which ends it."
+        case m.Blocks():
+            return "Each has 1 to 255 bytes."
         case m.Golomb():
             return "From -2^31 + 1 on." if kind.signed else "Below 2^32 - 1."
     return ""
@@ -63,12 +68,14 @@ def imports(line: Line) -> list[str]:
     kind, found = line.kind, list[str]()
     if isinstance(kind, m.NonZero | m.MaybeNonZero):
         found.append("std::num::NonZero")
+    if isinstance(kind, m.Blocks):
+        found.append("bitstream_format::blocks::{Block, read_blocks, write_blocks}")
     if isinstance(kind, m.Golomb):
         found.append(f"bitstream_io::golomb::{{read_{short(kind)}, write_{short(kind)}}}")
     for use in m.uses(kind):
         error = use.description.error
         found.append(f"crate::{use.module}::{f'{{{use.name}, {error}}}' if error else use.name}")
-    if isinstance(kind, m.List | m.Fill) and line.error:
+    if isinstance(kind, m.List) and line.error or isinstance(kind, m.Fill):
         found.append("std::alloc::AllocFailed")
     return found
 
@@ -90,7 +97,7 @@ def shown(sentence: str) -> str:
 def refusal(line: Line) -> str:
     """Returns the comment of the case of the error for a line."""
     if line.use:
-        return f"An error of a `{line.use.name}` that is not the reader's."
+        return f"An error of {article(line.use.name)} that is not the reader's."
     if line.enum:
         what = f"`{line.name}`" if isinstance(line.kind, m.Enum) else f"An item of `{line.name}`"
         return f"{what} is not the number of a case of `{line.enum.name}`."
@@ -104,7 +111,7 @@ def error_cases(line: Line) -> dict[str, list[str]]:
         return {kind.error: small_case(line, kind)} if kind.error else {}
     if isinstance(kind, m.Sized | m.Fill):
         inner = {it: error_case(line) for it, held in m.refusals(kind) if held}
-        return overrun_case(kind.name, kind.error) | inner
+        return (overrun_case(kind.name, kind.error) if kind.error else {}) | inner
     if not isinstance(kind, m.Choose):
         return {line.error: error_case(line)} if line.error else {}
     why = f"The number before `{kind.name}` is that of no case of `{kind.type}`."
@@ -149,7 +156,16 @@ def reads(f: Format, line: Line) -> str:
         return f"{call}?;"
     if isinstance(kind, m.Skip):
         return f"reader.skip({kind.width})?;"
+    if isinstance(kind, m.Verify):
+        return verify(f, line, kind.check)
     return f"let {line.name} = {read(f, line)}?;"
+
+
+def verify(f: Format, line: Line, kind: m.Check) -> str:
+    """Returns the statements that compare a checksum."""
+    name = f"is_{kind.word}"
+    test = f"let {name} = {m.label(kind)} == {kind.word}_of({arguments(line.covers)});"
+    return f"{test}\n        if !{name} {{\n            return Err({f.error}::{line.error});\n        }}"
 
 
 def read(f: Format, line: Line) -> str:
@@ -173,9 +189,15 @@ def read(f: Format, line: Line) -> str:
             return f"read_{short(kind)}(reader)"
         case m.Varint() | m.Size(varint=True):
             return "read_varint(reader)"
+        case m.Until():
+            return f"read_until(reader, alloc, {kind.stop})"
+        case m.Blocks():
+            return "read_blocks(reader, alloc)"
+        case m.Rest():
+            return f"reader.read_to_vec(alloc, {kind.name}_bytes as usize)"
         case m.Count():
             return f"reader.read::<Bits<{kind.width}>, u64>()"
-        case m.Tag():
+        case m.Tag() | m.Check():
             return f"reader.read::<Bits<{kind.width}>, {value_type(kind)}>()"
         case m.Size():
             return f"reader.read::<Bits<{kind.width}>, u64>()"
@@ -196,7 +218,7 @@ def read(f: Format, line: Line) -> str:
             if isinstance(kind.item, m.Octet):
                 return f"reader.read_to_vec(alloc, {kind.name}_count as usize)"
             return f"read_{kind.name}(reader, alloc, {kind.name}_count)"
-        case m.Const() | m.Skip():
+        case m.Const() | m.Skip() | m.Verify():
             raise AssertionError(kind)
     assert_never(kind)
 
@@ -262,7 +284,7 @@ def write(line: Line) -> str:
             return f"writer.write::<Bits<{kind.enum.width}>, u{enum_bits(kind.enum)}>(self.{kind.name}.number())"
         case m.Array(item=m.Integer() as item):
             return f"writer.write::<Bits<{item.width}>, {m.rust_type(kind)}>(self.{kind.name})"
-        case m.Array() | m.List() | m.Sized(item=m.Octet()):
+        case m.Array() | m.List() | m.Rest() | m.Sized(item=m.Octet()):
             if isinstance(kind.item, m.Octet):
                 return f"writer.write_bytes(&self.{kind.name})"
             return f"write_{kind.name}(writer, &self.{kind.name})"
@@ -274,6 +296,10 @@ def write(line: Line) -> str:
             return f"write_{short(kind)}(writer, self.{kind.name})"
         case m.Varint():
             return f"write_varint(writer, self.{kind.name})"
+        case m.Until():
+            return f"write_until(writer, &self.{kind.name}, {kind.stop})"
+        case m.Blocks():
+            return f"write_blocks(writer, &self.{kind.name})"
         case m.Const():
             return f"writer.write_const::<Bits<{kind.width}>, Bits<{kind.value}>>()"
         case m.Skip():
@@ -286,6 +312,11 @@ def write(line: Line) -> str:
             return f"writer.write::<Bits<{kind.width}>, {value_type(kind)}>(self.{target}.number())"
         case m.Size():
             return write_size(line, kind)
+        case m.Check():
+            given = arguments(line.covers, "self.")
+            return f"writer.write::<Bits<{kind.width}>, {value_type(kind)}>({kind.word}_of({given}))"
+        case m.Verify():
+            raise AssertionError(kind)
         case m.Fill():
             return f"write_{kind.name}(writer, &self.{kind.name})"
         case m.Choose() | m.Part() | m.Sized():
@@ -328,6 +359,8 @@ def value_type(kind: m.Printed) -> str:
             return "u64"
         case m.Tag():
             return f"u{tag_bits(kind.width)}"
-        case m.Const() | m.Skip():
+        case m.Check():
+            return f"u{kind.width}"
+        case m.Const() | m.Skip() | m.Verify():
             raise AssertionError(kind)
     return m.rust_type(kind)

@@ -13,9 +13,13 @@ def choice_code(f: Format, line: Line, kind: m.Choose, number: str) -> list[str]
     out = [f"/// {kind.doc or f'A {kind.type}.'}", f"#[derive({derives})]", f"pub enum {kind.type} {{"]
     for arm, part in line.arms:
         held = part.use.name if part and part.use else number if arm.number is None else ""
-        said = f"{arm.number}." if arm.number is not None else "Another number, with nothing after it."
+        said = (
+            "Any other number, with nothing after it."
+            if arm.number is None
+            else f"The case for the number {arm.number}."
+        )
         if arm.held and not part:
-            held, said = kind.unnamed, "Another number, and the bytes after it."
+            held, said = kind.unnamed, "Any other number, and the bytes after it."
         out += [f"    /// {said}", f"    {arm.case}{f'({held})' if held else ''},"]
     body = [*number_code(kind, number), *read_code(f, line, kind, number), *write_code(line, kind)]
     return [*unnamed_code(f, kind, number), *out, "}", "", f"impl {kind.type} {{", *body, "}", ""]
@@ -107,9 +111,9 @@ def kind_of_read(f: Format, line: Line) -> tuple[str, str]:
 
 def errors(f: Format, line: Line, kind: m.Choose) -> list[str]:
     """Returns the comment about the errors of a read."""
-    out = [f"    /// `{kind.unknown}` if no case has the number: nothing is read then."] * bool(kind.unknown)
+    out = [f"    /// `{kind.unknown}` if no case has the number, before anything is read."] * bool(kind.unknown)
     parts = {part.error: part.use.name for part in line.parts if part.error and part.use}
-    out += [f"    /// `{error}` if {article(name)} is refused." for error, name in parts.items()]
+    out += [f"    /// `{error}` if {article(name)} is rejected." for error, name in parts.items()]
     last = f"    /// {'Otherwise the' if out else 'The'} reader's errors, after which it has failed."
     return ["    ///", "    /// # Errors", "    ///", *out, last]
 
@@ -157,7 +161,7 @@ def write_code(line: Line, kind: m.Choose) -> list[str]:
         "    ///",
         "    /// # Errors",
         "    ///",
-        "    /// `Checked` for a field that does not fit its bits. The fields before it are written then.",
+        "    /// `Checked` for a field that does not fit its bits. The fields before it have been written.",
         "    /// Otherwise the sink's errors.",
         "    pub fn write<W: BitWrite>(&self, writer: &mut W) -> Result<(), Error>",
         f"        ensures {{ WritesAll W.sink ({snake(kind.type)}_writes W.sink.order self.now) writer.old result writer.new }}",

@@ -33,9 +33,10 @@ def first_of(piece: tuple[Line, ...]) -> str:
     return next((it.name for it in piece if it.is_field), m.label(piece[0].kind))
 
 
-def refusals(f: Format) -> str:
-    """Returns the cases of the error, for a comment."""
-    return "".join(f"`{it}`, " for it in dict.fromkeys(case for it in f.tests for case, _ in m.refusals(it.kind)))
+def rejections(f: Format) -> str:
+    """Returns the cases of the error, for a comment: `A`, `B` or `C`."""
+    cases = [f"`{it}`" for it in dict.fromkeys(case for it in f.tests for case, _ in m.refusals(it.kind))]
+    return " or ".join([", ".join(cases[:-1]), *cases[-1:]]) if len(cases) > 1 else "".join(cases)
 
 
 def memory(f: Format) -> str:

@@ -12,8 +12,8 @@ def enum_code(f: Format, line: Line, enum: m.EnumType) -> list[str]:
     out = [f"/// {line.kind.doc or f'A {enum.name}.'}", "#[derive(Clone, Copy, Debug, PartialEq)]"]
     out += [f"pub enum {enum.name} {{"]
     for value, case in enum.cases:
-        out += [f"    /// {value}.", f"    {case},"]
-    out += ["    /// Another number.", f"    {enum.other}({number}),"] if enum.other else []
+        out += [f"    /// Encoded as {value}.", f"    {case},"]
+    out += ["    /// Any other number.", f"    {enum.other}({number}),"] if enum.other else []
     out += ["}", "", f"impl {enum.name} {{", *of_code(f, line, enum), *number_code(enum)]
     if isinstance(line.kind, m.Array):
         return [*out, *array_code(f, line, enum, line.kind), "}", ""]
@@ -101,7 +101,7 @@ def read_each_code(f: Format, line: Line, enum: m.EnumType, kind: m.Array, numbe
     """Returns the function that reads an array of cases."""
     reads = f"ReadsOwn R.source becomes_{f.m}" if line.error else "Reads R.source"
     each, error = f"{enum.name}::each(numbers)", f.error if line.error else "Error"
-    own = f"    /// `{line.error}` if one of them has no case: all of them are read then."
+    own = f"    /// `{line.error}` if one of them has no case, after all of them have been read."
     return [
         f"    /// Reads {kind.count} numbers of {enum.width} bits each, and then decodes them.",
         "    ///",

@@ -14,7 +14,7 @@ def list_code(f: Format, line: Line, kind: m.List) -> list[str]:
 
 def refused_memory(f: Format, line: Line) -> list[str]:
     """Returns the conversion of a failed allocation, with the first list whose function has the errors of the format."""
-    lists = [it for it in f.lines if isinstance(it.kind, m.List | m.Fill) and it.error]
+    lists = [it for it in f.lines if isinstance(it.kind, m.List) and it.error or isinstance(it.kind, m.Fill)]
     if lists[:1] != [line]:
         return []
     return [
@@ -35,9 +35,9 @@ def read_code(f: Format, line: Line, kind: m.List) -> list[str]:
     error = f.error if line.error else "Error"
     reads = f"GrowsOwn R.source {f.becomes_name}" if line.error else "GrowingOutcome R.source"
     result = f"Result<{m.rust_type(kind)}, {error}>"
+    stopping = "that is rejected, or whose allocation fails" if line.error else "whose allocation fails"
     return [
-        f"/// Reads `count` items of `{kind.name}`. It stops after an item whose allocation fails.",
-        *["/// It stops after a refused item, too."] * bool(line.error),
+        f"/// Reads `count` items of `{kind.name}`. Stops after an item {stopping}.",
         f"fn read_{kind.name}<R: BitRead>(reader: &mut R, alloc: Global, count: u64) -> {result}",
         f"    ensures {{ {reads} {entry}",
         "        reader.old (result_map (λ found. found.items) result) reader.new }",

@@ -11,6 +11,7 @@ from describing.layout import Format, Line
 from describing.model import snake
 from describing.names import SPECS, uses
 from describing.rust.calls import error_cases, field_comment, imports, number_type, value_type
+from describing.rust.checks import check_code
 from describing.rust.choices import choice_code
 from describing.rust.clauses import clauses
 from describing.rust.enums import enum_code
@@ -26,6 +27,9 @@ from describing.text import article
 # What a format calls of the crate `bitstream_format`, by its module there.
 CALLED = {
     "stated": "size_in_units stated_size stored_size write_stored_size",
+    "checks": "crc16_low_more crc16_more crc32_more crc32_mpeg_more octets_of_u16 octets_of_u32 octets_of_u8 sum16_more",
+    "rest": "rest_of",
+    "until": "read_until write_until",
     "varint": "read_varint write_varint",
     "within": "is_end write_size",
 }
@@ -49,12 +53,14 @@ def declares(f: Format, line: Line) -> list[str]:
         out += choice_code(f, line, kind, number_type(f, kind))
         out += to_impl(kind.type, f"{snake(kind.type)}_writes") if kind.sized else []
     if isinstance(kind, m.Fill):
-        out += [*refused_memory(f, line), *write_items(kind), *count_code(kind)]
+        out += [*refused_memory(f, line), *write_items(kind), *(count_code(kind) if line.size else [])]
     if line.measured:
         number = number_type(f, line.measured) if isinstance(line.measured, m.Choose) else ""
         out += sized_code(f, line, line.measured, number)
     elif isinstance(kind, m.Sized) and kind.error:
         out += stated_code(f, line, kind, "")
+    if isinstance(kind, m.Check):
+        out += check_code(kind, line.covers)
     if line.use and isinstance(kind, m.Optional | m.If):
         out += optional_code(f, line, line.use)
     if isinstance(kind, m.Array) and line.enum:
@@ -106,7 +112,7 @@ def struct_code(f: Format) -> list[str]:
 
 def places_code(f: Format) -> list[str]:
     """Returns the constant with the place of each line, if all of them are constant."""
-    places = [it.at for it in f.lines]
+    places = [it.at for it in f.written]
     if None in places:
         return []
     head = f"    pub const PLACES: [u64; {len(places)}] = ["

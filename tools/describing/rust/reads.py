@@ -3,7 +3,7 @@ from __future__ import annotations
 
 from describing.layout import Format, reader_errors
 from describing.rust.calls import reads, value_type
-from describing.rust.clauses import clause, first_of, in_order, memory, of_reader, or_refused, refusals
+from describing.rust.clauses import clause, first_of, in_order, memory, of_reader, or_refused, rejections
 from describing.specs.terms import at_bits, fails, holds, known_of, only_constants, seen
 
 
@@ -12,23 +12,34 @@ def read_code(f: Format) -> list[str]:
     outcome = f"ReadsOwn R.source {f.becomes_name}" if f.own else "Reads R.source"
     if f.grows:
         outcome = f"GrowsOwn R.source {f.becomes_name}"
-    own = [f"    /// {refusals(f).removesuffix(', ')}.", "    /// The refused bits are read then."] * bool(f.error)
+    own = [f"    /// {rejections(f)}, after the rejected bits have been read."] * bool(f.error)
     own += [
-        f"    /// `{of_reader(f, 'OutOfMemory')}` if the allocation for a list fails, after the items before."
+        f"    /// `{of_reader(f, 'OutOfMemory')}` if an allocation for a list fails. The items before the failure",
+        "    /// have been read.",
     ] * f.grows
     return [
-        "    /// Reads the fields in order.",
+        f"    /// Reads the fields in order{f', and `{given_name(f)}` bytes of `{f.rest.name}`' if f.rest else ''}.",
         "    ///",
         "    /// # Errors",
         "    ///",
         *own,
         f"    /// {'Otherwise the' if f.own else 'The'} reader's errors, after which it has failed.",
-        f"    pub fn read<R: BitRead>(reader: &mut R{memory(f)}) -> Result<{f.type}, {f.e}>",
+        f"    pub fn read<R: BitRead>(reader: &mut R{memory(f)}{given(f)}) -> Result<{f.type}, {f.e}>",
         *in_order(f),
-        f"        ensures {{ {outcome} ({f.m}_decoder R.source.order) reader.old result reader.new }}",
+        f"        ensures {{ {outcome} ({f.decoder('R.source.order', given_name(f))}) reader.old result reader.new }}",
         *read_body(f, 0),
         *later_reads(f, outcome),
     ]
+
+
+def given_name(f: Format) -> str:
+    """Returns the name of the number of bytes of the rest."""
+    return f.given[0].name if f.given else ""
+
+
+def given(f: Format) -> str:
+    """Returns the parameter for the number of bytes of the rest."""
+    return f", {given_name(f)}: u64" * bool(f.given)
 
 
 def read_body(f: Format, k: int) -> list[str]:
@@ -63,8 +74,9 @@ def later_reads(f: Format, outcome: str) -> list[str]:
 def parse_code(f: Format) -> list[str]:
     """Returns the function that reads a slice."""
     m, t, o = f.m, f.type, f.o
-    answer = f"(sure_answer (({m}_decoder {o}).reads 0 (bits {o} packet.now)))"
-    reached = f"MayAllocate ({m}_decoder {o}) 0 (bits {o} packet.now)"
+    decoder = f.decoder(o, f"(length packet.now - {f.head})")
+    answer = f"(sure_answer (({decoder}).reads 0 (bits {o} packet.now)))"
+    reached = f"MayAllocate ({decoder}) 0 (bits {o} packet.now)"
     told = or_refused(f, f"OwnAnswer {f.becomes_name} (λ answer. answer)\n            {answer} result", reached)
     bits, few = f"write_sequence ({m}_writes {o} value) 0", "if the bytes end before the fields do"
     errors = dict.fromkeys(reader_errors(f.description.kinds))
@@ -73,21 +85,26 @@ def parse_code(f: Format) -> list[str]:
     if f.sized:
         bits, few = f"{m}_bits value", f"for fewer than {f.bytes} bytes"
     end, behind = f"`{of_reader(f, 'EndOfInput')}`", "\n            " if f.grows else " "
+    more_bits = "" if f.rest else " ++ more"
+    sizes = f"rest_of(packet, {f.head})"
     return [
-        "    /// Parses the value at the start of `packet`.",
+        f"    /// Parses {f'`packet`, whose last bytes are `{f.rest.name}`' if f.rest else 'the value at the start of `packet`'}.",
         "    ///",
         "    /// # Errors",
         "    ///",
-        f"    /// {refusals(f)}{end} {few}.",
+        *[f"    /// {rejections(f)} if bits are rejected."] * bool(rejections(f)),
+        f"    /// {end} {few}.",
         *more,
         f"    pub fn parse(packet: &[u8]{memory(f)}) -> Result<{t}, {f.e}>",
         f"        ensures answer {{ {told if f.own else f'result ≡ {answer[1:-1]}'} }}",
         *(places_code(f) if f.sized else []),
-        f"        ensures back {{ (value : {t}) (more : List Bool) → Fits value",
-        f"            → bits {o} packet.now ≡ {bits} ++ more{behind}→ {or_refused(f, 'result ≡ Ok value')} }}",
+        f"        ensures back {{ (value : {t}){' (more : List Bool)' * (not f.rest)} → Fits value",
+        f"            → bits {o} packet.now ≡ {bits}{more_bits}{behind}→ {or_refused(f, 'result ≡ Ok value')} }}",
         "    {",
         f"        {m}_round_trip();",
-        f"        {t}::read(&mut BitReader::<_, {f.order}>::over(packet){', alloc' * f.grows})",
+        *[f"        let {it.name} = {sizes};" for it in f.given],
+        f"        {t}::read(&mut BitReader::<_, {f.order}>::over(packet){', alloc' * f.grows}"
+        f"{f', {given_name(f)}' * bool(f.given)})",
         "    }",
         "",
     ]

@@ -16,13 +16,13 @@ def sized_code(f: Format, line: Line, kind: m.Measured, number: str) -> list[str
 
 def ended_code(f: Format, kind: m.Measured) -> list[str]:
     """Returns the function that maps the errors inside the bytes of the size."""
-    wrong, e = overrun(kind), f.error
+    wrong, e = overrun_code(kind), f.error
     arms = []
     for case, held in error_cases(f):
         said = f"{e}::{case}{'(error)' * bool(held)}"
         arms.append(f"        {said} => {said},")
     return [
-        f"/// Maps an error inside the bytes of `{kind.name}`: an error at their end is `{wrong}`.",
+        f"/// Maps an error inside the bytes of `{kind.name}`: the end of these bytes becomes `{wrong.replace('Error::', '')}`.",
         f"fn {kind.name}_ended(error: {e}) -> {e}",
         f"    ensures {{ result ≡ {kind.name}_ended error }}",
         "{",
@@ -38,6 +38,11 @@ def ended_code(f: Format, kind: m.Measured) -> list[str]:
         "}",
         "",
     ]
+
+
+def overrun_code(kind: m.Measured) -> str:
+    """Returns the case of the error for a part that does not fill its size, in code."""
+    return "Reader(Error::EndOfInput)" if overrun(kind).startswith("(") else overrun(kind)
 
 
 def given(kind: m.Measured, number: str) -> str:
@@ -63,11 +68,11 @@ def in_code(f: Format, line: Line, kind: m.Measured, number: str) -> list[str]:
     call, alloc = f"{m.rust_type(kind)}::read(&mut inside", ", alloc" * inner_allocates(kind)
     error = "error" if isinstance(kind, m.Choose) else f"{f.error}::from(error)"
     return [
-        f"/// Returns the `{kind.name}` that fills these bytes.",
+        f"/// Parses these bytes as `{kind.name}`.",
         "///",
         "/// # Errors",
         "///",
-        f"/// `{overrun(kind)}` if it does not fill them. Otherwise its errors.",
+        f"/// `{overrun(kind)}` if `{kind.name}` does not fill the bytes. Otherwise the errors of `{kind.name}`.",
         f"fn {kind.name}_in(bytes: &[u8]{', alloc: Global' * inner_allocates(kind)}{given(kind, number)})"
         f" -> Result<{m.rust_type(kind)}, {f.error}>",
         "    ensures { UnlessMemory (λ error. Reader error)",
@@ -90,13 +95,13 @@ def in_code(f: Format, line: Line, kind: m.Measured, number: str) -> list[str]:
 
 def items_code(f: Format, line: Line, kind: m.Fill) -> list[str]:
     """Returns the function that reads items over their bytes."""
-    shape = f"{kind.error} (λ error. Reader error) {kind.name}_ended"
+    shape, wrong = f"{overrun(kind)} (λ error. Reader error) {kind.name}_ended", overrun_code(kind)
     return [
-        f"/// Returns the items of `{kind.name}` that fill these bytes, at most `size`.",
+        f"/// Parses these bytes as the items of `{kind.name}`, of which there are at most `size`.",
         "///",
         "/// # Errors",
         "///",
-        f"/// `{kind.error}` if they do not fill them. Otherwise the error of an item.",
+        f"/// `{wrong.replace('Error::', '')}` if the items do not fill the bytes. Otherwise the error of an item.",
         f"fn {kind.name}_in(bytes: &[u8], alloc: Global, size: u64) -> Result<{m.rust_type(kind)}, {f.error}>",
         "    ensures { UnlessMemory (λ error. Reader error)",
         f"        (items_from ({inside(f, line, f.o)}) {shape} 0 (bits {f.o} bytes.now) size)",
@@ -116,7 +121,7 @@ def items_code(f: Format, line: Line, kind: m.Fill) -> list[str]:
         "    if inside.is_at_end() {",
         "        return Ok(found);",
         "    }",
-        f"    Err({f.error}::{kind.error})",
+        f"    Err({f.error}::{wrong})",
         "}",
         "",
     ]
@@ -186,7 +191,7 @@ def stated_code(f: Format, line: Line, kind: m.Measured, number: str) -> list[st
         read = "Ok(reader.read_to_vec(alloc, size as usize)?)"
     ordered = [] if is_octets(kind) else [f"    requires {{ R.source.order ≡ {f.o} }}"]
     return [
-        f"/// Reads `{kind.name}`, whose size a number states.",
+        f"/// Reads `{kind.name}`. The number `stored` states its size.",
         f"fn read_stated_{kind.name}<R: BitRead>(reader: &mut R, alloc: Global{selecting(kind, number)}, stored: u64)"
         f" -> Result<{m.rust_type(kind)}, {f.error}>",
         *ordered,

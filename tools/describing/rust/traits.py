@@ -3,11 +3,12 @@ from __future__ import annotations
 
 from describing.layout import Format
 from describing.rust.clauses import memory
+from describing.specs.terms import rest_count
 
 
 def from_code(f: Format) -> list[str]:
     """Returns the impl of `FromBitStream`, which a format has that is read in either order of bits."""
-    if f.ordered:
+    if f.ordered or f.rest:
         return []
     m, t, e = f.m, f.type, f.e
     reads = f"{m}_decoder" if f.own else f"λ o. plain_reads ({m}_decoder o)"
@@ -61,13 +62,14 @@ def law_code(f: Format) -> list[str]:
     m, ok = f.m, "Ok (Ok value)" if f.own else "Ok value"
     how_many = f"{f.total} bits" if f.sized else f"`{f.m}_size` is their number"
     size = f.total if f.sized else f"{m}_size o value"
+    decoder = f.decoder("o", rest_count(f))
     return [
         "/// A value that fits its bits is read back as it was written, in either order of bits, at any place.",
         f"/// The read takes only the bits that were written: {how_many}.",
         f"pub fn {m}_round_trip()",
         f"    ensures back {{ (o : Order) (value : {f.type}) (at from : ℕ) (more : List Bool) → Fits value",
         f"        → let written = write_sequence ({m}_writes o value) at in",
-        f"        ({m}_decoder o).reads from (written ++ more) ≡ Done (length written) ({ok}) }}",
+        f"        ({decoder}).reads from (written ++ more) ≡ Done (length written) ({ok}) }}",
         f"    ensures size {{ (o : Order) (value : {f.type}) (at : ℕ) → Fits value",
         f"        → length (write_sequence ({m}_writes o value) at) ≡ {size} }}",
         "{}",

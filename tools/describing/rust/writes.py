@@ -14,7 +14,7 @@ def write_code(f: Format) -> list[str]:
         "    ///",
         "    /// # Errors",
         "    ///",
-        "    /// `Checked` for a field that does not fit its bits. The fields before it are written then.",
+        "    /// `Checked` for a field that does not fit its bits. The fields before it have been written.",
         "    /// Otherwise the sink's errors.",
         "    pub fn write<W: BitWrite>(&self, writer: &mut W) -> Result<(), Error>",
         f"        ensures {{ WritesAll W.sink ({writes}) writer.old result writer.new }}",
@@ -27,7 +27,7 @@ def write_body(f: Format, k: int) -> list[str]:
     """Returns the body that writes the lines of a piece, and calls the function of the next one."""
     pieces = f.pieces()
     end = f"self.write_{k + 2}(writer)" if k + 1 < len(pieces) else "Ok(())"
-    return ["    {", *[f"        {write(it)}?;" for it in pieces[k]], f"        {end}", "    }", ""]
+    return ["    {", *[f"        {write(it)}?;" for it in pieces[k] if it in f.written], f"        {end}", "    }", ""]
 
 
 def later_writes(f: Format) -> list[str]:
@@ -66,7 +66,7 @@ def pack_code(f: Format) -> list[str]:
         "    ///",
         "    /// `Checked` for the first field that does not fit its bits, however long the buffer is.",
         f"    /// `Stream(WriteZero)` if all fields fit, and the buffer {few}.",
-        "    /// The first bytes of the buffer may be changed then.",
+        "    /// After an error, the first bytes of the buffer may have changed.",
         "    pub fn pack_into<'a>(&self, buffer: &'a mut [u8]) -> Result<SliceMut<'a>, Error>",
         f"        ensures packed {{ IfOk result (λ packed. bits {o} (written_bytes packed) ≡ {m}_bits self.now) }}",
         "        ensures first { IfOk result (HoldsFirst buffer.entry.ghost_name buffer.old) }",

@@ -6,7 +6,8 @@ import re
 from describing import model as m
 from describing.imports import parts_specs, types
 from describing.layout import Format, Line
-from describing.names import SPECS, uses
+from describing.names import SPECS, VALUES, uses
+from describing.specs import values
 from describing.specs.definitions import definitions
 from describing.specs.terms import binds, fits, place, size, spec_type, word
 from describing.text import article, wrapped
@@ -38,11 +39,14 @@ def specs(f: Format) -> str:
     """Returns the text of the definitions."""
     out = becomes(f) + (BITS_AT if f.sized else [])
     out += [line for it in f.lines for line in definitions(f, it)]
-    out += [*entries(f), *writes(f), *fits_record(f), *sizes(f), *all_bits(f)]
+    out += [*values.lines(f), *values.reads(f), *values.writes(f)] if f.valued else [*entries(f), *writes(f)]
+    out += [*fits_record(f), *sizes(f), *(values.value(f) if f.valued else []), *all_bits(f)]
     out += at_places(f) if f.sized else []
     text = "\n".join(out)
     # here `bits` is bound in each definition that names it
-    imports = uses(re.sub(r"\bbits\b", "", text), types(f), parts_specs(f), SPECS)
+    own = VALUES if f.valued else {}
+    imports = uses(re.sub(r"\bbits\b", "", text), types(f), parts_specs(f), own, SPECS)
+    imports += [values.ATOMS] * (" atom." in text or "(atom." in text)
     return wrapped("\n".join([f"-- {f.doc}", *imports, "", f"-- {f.made}", "", text.rstrip()])) + "\n"
 
 
@@ -68,7 +72,7 @@ def becomes(f: Format) -> list[str]:
 
 def entries(f: Format) -> list[str]:
     """Returns the definitions of the reads, the last one first."""
-    parts, seen, out, refused = f.entry_parts(), list[Line](), list[str](), 0
+    parts, seen, out, refused = f.entry_parts(), list(f.given), list[str](), 0
     for k, part in enumerate(parts):
         more = ""
         if k:
@@ -90,7 +94,7 @@ def entry_definition(f: Format, k: int, part: list[Line], seen: list[Line], more
     elif not part[-1].stops:
         block.append(f"  {behind}")
     says = f"{name} o{args} = do"
-    if len(block) == 1 and block[0].startswith(("  and_then", "  pure")):
+    if len(block) == 1 and block[0].startswith(("  and_then", "  pure", "  if")):
         says, block = f"{name} o{args} ={block[0][1:]}", []
     head = [f"-- the reads, in order{more}", f"abbrev pub {name} : Order →{kinds} Decoder {f.result}"]
     return [*head, says, *block]
@@ -130,6 +134,7 @@ def writes_behind(f: Format) -> list[str]:
 
 def written_list(lines: tuple[Line, ...], behind: str) -> list[str]:
     """Returns the writes of some lines, and of what follows them."""
+    lines = tuple(it for it in lines if not isinstance(it.kind, m.Verify))
     # `++` associates to the left: the text after a list of writes that others follow is in brackets
     opened = [k for k, it in enumerate(lines) if it.many][:-1]
     out, join = list[str](), ""
@@ -158,6 +163,7 @@ def sizes(f: Format) -> list[str]:
     """Returns the definition of the number of bits: those of constant widths first."""
     known = sum(it.wide for it in f.lines)
     total = " + ".join([str(known)] * (known > 0 or f.sized) + [size(it) for it in f.lines if it.bits is None])
+    total = values.size(f) if f.valued else total
     head = f"abbrev pub {f.m}_size : Order → {f.type} → ℕ"
     return ["-- the number of bits", head, f"{f.m}_size o value = {total}", ""]
 

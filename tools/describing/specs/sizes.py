@@ -34,7 +34,8 @@ def sized_type(kind: m.Measured) -> str:
 
 def overrun(kind: m.Measured) -> str:
     """Returns the case of the error for a part that does not fill its size."""
-    return kind.overrun if isinstance(kind, m.Choose) else kind.error
+    error = kind.overrun if isinstance(kind, m.Choose) else kind.error
+    return error or "(Reader EndOfInput)"
 
 
 def error_cases(f: Format) -> list[tuple[str, str]]:
@@ -46,10 +47,10 @@ def ended_specs(f: Format, kind: m.Measured) -> list[str]:
     """Returns the definition of an error inside the bytes of a size."""
     name, wrong = f"{kind.name}_ended", overrun(kind)
     out = [
-        f"-- an error inside the bytes of `{kind.name}`: their end is `{wrong}`",
+        f"-- an error inside the bytes of `{kind.name}`: their end is `{wrong.strip('()')}`",
         f"abbrev pub {name} : {f.error} → {f.error}",
     ]
-    out += [f"{name} (Reader error) = if is_end error then {wrong} else Reader error"]
+    out += [f"{name} (Reader error) = if is_end error then {wrong.strip('()')} else Reader error"]
     for case, held in error_cases(f):
         said = f"({case} error)" if held else case
         out.append(f"{name} {said} = {said.strip('()')}")

@@ -10,6 +10,7 @@ from typing import assert_never
 from describing import model as m
 from describing.layout import Format, Line, enum_bits, is_octets
 from describing.model import snake
+from describing.specs import checks
 
 
 def value(line: Line) -> str:
@@ -40,13 +41,15 @@ def spec_type(kind: m.Printed) -> str:
             return f"Option {kind.use.name}"
         case m.Choose():
             return kind.type
-        case m.Sized(item=m.Octet()):
+        case m.Until() | m.Rest() | m.Sized(item=m.Octet()):
             return "List ℕ"
+        case m.Blocks():
+            return "List (List ℕ)"
         case m.Sized():
             return item_type(kind.item)
         case m.Fill():
             return f"List {kind.use.name}"
-        case m.Unary() | m.Varint() | m.Count() | m.Tag() | m.Size() | m.Const() | m.Skip():
+        case m.Unary() | m.Varint() | m.Count() | m.Tag() | m.Size() | m.Check() | m.Const() | m.Skip() | m.Verify():
             return "ℕ"
     assert_never(kind)
 
@@ -70,7 +73,7 @@ def item_type(item: m.Item) -> str:
 
 def seen(kind: m.Printed) -> str:
     """Returns the suffix after a value of code for what contracts see of it."""
-    return ".items" if isinstance(kind, m.List | m.Fill) or is_octets(kind) else ""
+    return ".items" if isinstance(kind, m.List | m.Fill | m.Until | m.Rest | m.Blocks) or is_octets(kind) else ""
 
 
 def placed(text: str, order: str) -> str:
@@ -205,6 +208,14 @@ def inside(f: Format, line: Line, order: str) -> str:
     return read if f.mapped(line.kind) else f"plain_reads ({read})"
 
 
+def rest_count(f: Format) -> str:
+    """Returns the number of bytes of the rest of a record, or an empty text if there is none."""
+    line = f.rest_line
+    if not line:
+        return ""
+    return f"({measured_size(line.measured, 'High')} / 8)" if line.measured else f"(length {value(line)})"
+
+
 # ---- choices
 
 
@@ -279,10 +290,18 @@ def entry(f: Format, line: Line) -> str:
             return f"{short(kind)}_decoder o"
         case m.Varint() | m.Size(varint=True):
             return "varint_decoder o"
+        case m.Until():
+            return f"until_decoder o {kind.stop}"
+        case m.Blocks():
+            return "blocks_decoder o"
+        case m.Rest():
+            return f"vec_decoder o {kind.name}_bytes"
         case m.Count():
             return f"unsigned_decoder o 64 {kind.width}"
         case m.Tag():
             return f"unsigned_decoder {tag_shape(kind)}"
+        case m.Check():
+            return f"unsigned_decoder {checks.shape(kind)}"
         case m.Size():
             return f"unsigned_decoder o 64 {kind.width}"
         case m.Sized() | m.Fill():
@@ -302,6 +321,8 @@ def entry(f: Format, line: Line) -> str:
             return f"const_decoder o {kind.width} {kind.value}"
         case m.Skip():
             return f"skip_decoder {kind.width}"
+        case m.Verify():
+            raise AssertionError(kind)
     assert_never(kind)
 
 
@@ -406,6 +427,9 @@ def binds(f: Format, line: Line, behind: str) -> str:
         return f"  is_{line.index} ← {entry(f, line)}\n  {test_}"
     if isinstance(kind, m.Skip):
         return f"  skipped_{line.index} ← {entry(f, line)}"
+    if isinstance(kind, m.Verify):
+        test_ = f"{m.label(kind.check)} == {checks.read_sum(kind.check, line.covers)}"
+        return f"  if {test_} then {behind} else pure (Err {line.error})"
     if line.stops:
         return f"  and_then ({entry(f, line)}) (part_then (λ {line.name}. {behind}))"
     return f"  {line.name} ← {entry(f, line)}"
@@ -436,6 +460,10 @@ def word(line: Line) -> str:
             return f"{short(kind)}_writes o {term}"
         case m.Varint():
             return f"varint_writes o {term}"
+        case m.Until():
+            return f"until_writes o {kind.stop} {term}"
+        case m.Blocks():
+            return f"blocks_writes o {term}"
         case m.Const():
             return f"plain (word o {kind.width} {kind.value})"
         case m.Skip():
@@ -446,6 +474,10 @@ def word(line: Line) -> str:
             return f"unsigned o 64 {kind.width} (length value.{kind.target})"
         case m.Tag():
             return f"unsigned {tag_shape(kind)} ({tag_number(line)})"
+        case m.Check():
+            return f"unsigned {checks.shape(kind)} ({checks.written_sum(kind, line.covers)})"
+        case m.Verify():
+            raise AssertionError(kind)
         case m.Size():
             assert line.measures
             if kind.varint:
@@ -454,7 +486,7 @@ def word(line: Line) -> str:
                 return f"unsigned o 64 {kind.width} ({number_stored(line, kind)})"
             encoder = f"stored_encoder o {kind.width} {kind.units}" if kind.units else f"size_encoder o {kind.width}"
             return f"{encoder} ({measured_writes(line.measures, 'High')})"
-        case m.Sized(item=m.Octet()):
+        case m.Rest() | m.Sized(item=m.Octet()):
             return f"buffer o {term}"
         case m.Choose() | m.Sized() | m.Fill():
             return measured_writes(kind, "o")
@@ -497,11 +529,15 @@ def size(line: Line) -> str:
             return f"{short(kind)}_size {term}"
         case m.Varint():
             return f"varint_size {term}"
+        case m.Until():
+            return f"until_size {term}"
+        case m.Blocks():
+            return f"blocks_size {term}"
         case m.Size():
             return f"varint_size ({number_stored(line, kind)})"
         case m.Part():
             return f"{kind.use.module}_size o {term}"
-        case m.Sized(item=m.Octet()):
+        case m.Rest() | m.Sized(item=m.Octet()):
             return f"8 * length {term}"
         case m.Choose() | m.Sized() | m.Fill():
             return measured_size(kind, "o")
@@ -532,11 +568,11 @@ def fits(f: Format, line: Line) -> list[tuple[str, str]]:
     """Returns the fields of `Fits` for a line."""
     kind, term = line.kind, value(line)
     match kind:
-        case m.Bool() | m.Const() | m.Skip() | m.Flag() | m.Tag():
+        case m.Bool() | m.Const() | m.Skip() | m.Flag() | m.Tag() | m.Check() | m.Verify():
             return []
         case m.Size():
             return [(line.name, f"{number_stored(line, kind)} < 2 ^ {kind.width}")]
-        case m.Sized(item=m.Octet() as item):
+        case m.Rest(item=item) | m.Sized(item=m.Octet() as item):
             return items_fit(kind.name, item, term)
         case m.Sized():
             return [(kind.name, f"{measured_name(kind)}Fits {term}"), whole_fits(kind)]
@@ -558,6 +594,10 @@ def fits(f: Format, line: Line) -> list[tuple[str, str]]:
             return [(kind.name, number_fits(kind.integer, term))]
         case m.Varint():
             return [(kind.name, f"{term} < 2 ^ 62")]
+        case m.Blocks():
+            return [(kind.name, f"All IsBlock {term}"), (f"{kind.name}_most", f"length {term} < 2 ^ 32")]
+        case m.Until():
+            return [(kind.name, f"IsUnended {kind.stop} {term}"), (f"{kind.name}_most", f"length {term} < 2 ^ 32")]
         case m.Golomb():
             return [(kind.name, f"unsigned_abs {term} < 2 ^ 31" if kind.signed else f"{term} < 2 ^ 32 - 1")]
         case m.Count():

@@ -1,0 +1,272 @@
+"""The proofs of the functions for C of a format with lists."""
+from __future__ import annotations
+
+import re
+
+from describing import model as m
+from describing.c import cross, varying
+from describing.c.cross import base, lists
+from describing.c.imports import answer_uses
+from describing.c.lists import decoder, given, parse_answers
+from describing.c.target import Target
+from describing.layout import Format, Line
+from describing.proofs import calls
+from describing.proofs.chains import Answers, Call
+from describing.proofs.loops import write_answers, write_invariants
+from describing.specs.terms import asked_enum
+
+RESIDUAL = re.compile(r"c\.from_residual(?:-in_err-[\w-]+)?\.ensures\.1")
+
+
+class Reads(Answers):
+    """The answers of the function that reads the fields, whose relation says of its result what lemmas do."""
+
+    def __init__(self, f: Format) -> None:
+        super().__init__("ReadsOwn", "", "", True)
+        self.f = f
+
+    def laid_out(self, head: str, text: str) -> str:
+        """Returns a term after its head, as what a lemma takes."""
+        found = RESIDUAL.search(text)
+        if found and "returns-" in head:
+            text = f"stopped _ {found[0]} (λ s residual. {text.replace(found[0], 'residual')})"
+        else:
+            kept = " ".join(f"c.in_ok-read_{it.name}.ensures.keeps" for it in lists(self.f.description))
+            text = f"read_done ({text}) (search rules) {kept}"
+        return super().laid_out(head, text)
+
+
+def read_answers(f: Format) -> str:
+    """Returns the answers of the function that reads the fields."""
+    labels, steps, made = calls.Labels(), calls.Labels(), list[Call]()
+    for it in f.lines:
+        form, fact, wide = calls.read_call(f, it)
+        asks = isinstance(it.kind, m.If) and asked_enum(f, it.kind) is not None
+        known = (f"c.{steps.next('number')}.ensures",) if asks else ()
+        label = calls.read_label(it)
+        if isinstance(it.kind, m.List):
+            form, fact, label = "read", "reads", f"read_{it.name}"
+        made.append(Call(form, fact, labels.next(label), "", wide=wide, known=known))
+    answers = Reads(f)
+    parts = answers.all(made)
+    return "\n\n".join([answers.uses("GOALS"), *parts])
+
+
+class Writes(calls.Writes):
+    """The calls that write the fields: their lists are slices."""
+
+    def known_length(self, target: str) -> str:
+        """Returns the equation of the length of a slice."""
+        return f"c.{self.steps.next('len')}.ensures"
+
+    def known(self, line: Line) -> tuple[str, ...]:
+        """Returns the equations of the arguments of a call."""
+        return () if isinstance(line.kind, m.List | m.Count) else super().known(line)
+
+
+def write_fields(f: Format) -> str:
+    """Returns the answers of the function that writes the fields."""
+    writes = Writes(f)
+    writes.fields = "c.args.self.now"
+    answers = Answers("WritesAll", "", "", True)
+    parts = answers.all([writes.call(it) for it in f.lines])
+    return "\n\n".join([answers.uses("GOALS"), *parts])
+
+
+def items_read(f: Format, kind: m.List, order: str, count: str) -> str:
+    """Returns the read of items, before it is one of a list."""
+    if isinstance(kind.item, m.Octet):
+        return f"(bytes_decoder {order} {count})"
+    return decoder(f, kind, order, count)
+
+
+def invariant(t: Target, kind: m.List) -> str:
+    """Returns the invariant of the loop that reads a list."""
+    f = t.f
+    reads = items_read(f, kind, "K.order", "l.place")
+    names = "bytes_decoder" if isinstance(kind.item, m.Octet) else "items_decoder, list_item, unsigned_decoder"
+    return f"""-- {t.made}
+use Rattle.std.proofs.Common.{{Ok}}
+use Rattle.bitstream_io.specs.Callers.{{Reads, {names}}}
+use Rattle.{t.crate}.specs.Lists.{{ItemsKept}}
+use Rattle.{t.crate}.proofs.{f.m}.read_{kind.name}.Given as goal
+
+-- the items so far were read and kept
+abbrev pub invariant-loop-place : goal.invariant-loop-place
+invariant-loop-place g l =
+    let K = g.R.BitRead.source in
+    ItemsKept (λ all. Reads K {reads} l.fn.reader (Ok all) l.reader) l.place l.initial.items l.items
+"""
+
+
+def list_answers(t: Target, kind: m.List) -> str:
+    """Returns the answers of the function that reads a list."""
+    return octets_answers(t, kind) if isinstance(kind.item, m.Octet) else numbers_answers(t, kind)
+
+
+ALL = "let all : c.loop-place.place ≡ c.args.count = omega (arith, c.loop-place-test.false, c.loop-place.auto.place-end) in"
+
+
+def octets_answers(t: Target, kind: m.List) -> str:
+    """Returns the answers for a list of bytes."""
+    return f"""-- {t.made}
+use Rattle.std.proofs.Common.{{◌≡◌, ◌∙◌, ◌+◌, ◌++◌, ◌∷◌, [], refl, sym, arith, length-append}}
+use Rattle.bitstream_stream.proofs.Reading.BytesLemmas.{{map_stops, reads-byte, reads-more, reads-none, stops-byte, stops-more, stops-none, stops-prefix}}
+use Rattle.{t.crate}.proofs.ListLemmas.{{bytes_into, failed_ok, kept_begin}}
+use Rattle.{t.crate}.proofs.{t.f.m}.read_{kind.name}.Goals as goal
+
+pub returns-in_err-read_unsigned_var : goal.returns-in_err-read_unsigned_var
+returns-in_err-read_unsigned_var g c = record {{
+  all = [];
+  reads = bytes_into _ _ (map_stops _ c.from_residual.result c.from_residual.ensures.1
+      (stops-prefix _ 0 _ _ _ _ (omega arith) (stops-none _ 8 _ _ _ c.in_err-read_unsigned_var.ensures.reads)));
+  size = failed_ok _ c.from_residual.result c.from_residual.ensures.1;
+  keeps = kept_begin _;
+}}
+
+pub loop-place-init : goal.loop-place-init
+loop-place-init g c = record {{
+  all = [];
+  reads = reads-none _ 8 _ _ _ c.in_ok-read_unsigned_var.ensures.reads;
+  size = refl;
+  keeps = kept_begin _;
+}}
+
+pub returns-in_err-item : goal.returns-in_err-item
+returns-in_err-item g c =
+    let o = g.R.BitRead.source.order in
+    let was = c.loop-place.invariant in
+    record {{
+      all = was.all;
+      reads = bytes_into _ _ (map_stops _ c.from_residual-in_err-item.result c.from_residual-in_err-item.ensures.1
+          (stops-more o c.loop-place.place 1 c.args.count _ _ _ _ _ (omega (arith, c.loop-place-test.true)) was.reads
+          (stops-byte o _ _ _ c.in_err-item.ensures.reads)));
+      size = failed_ok _ c.from_residual-in_err-item.result c.from_residual-in_err-item.ensures.1;
+      keeps = was.keeps;
+    }}
+
+pub loop-place-preserved : goal.loop-place-preserved
+loop-place-preserved g c =
+    let o = g.R.BitRead.source.order in
+    let was = c.loop-place.invariant in
+    record {{
+      all = was.all ++ c.in_ok-item.item ∷ [];
+      reads = reads-more o c.loop-place.place 1 (c.loop-place.place + 1) was.all (c.in_ok-item.item ∷ []) _ _ _ _ refl refl
+          was.reads (reads-byte o c.in_ok-item.item _ _ c.in_ok-item.ensures.reads);
+      size = omega (arith, length-append was.all (c.in_ok-item.item ∷ []), was.size);
+      keeps = c.keep_u8.ensures was.all _ was.size was.keeps;
+    }}
+
+pub returns : goal.returns
+returns g c =
+    {ALL}
+    let was = c.loop-place.invariant in
+    record {{ all = was.all; reads = bytes_into _ _ (rw (← all) was.reads); size = λ _. was.size ∙ all; keeps = was.keeps }}
+"""
+
+
+def numbers_answers(t: Target, kind: m.List) -> str:
+    """Returns the answers for a list of numbers."""
+    return f"""-- {t.made}
+use Rattle.std.proofs.Common.{{◌≡◌, ◌∙◌, ◌+◌, ◌++◌, ◌∷◌, [], refl, sym, arith, length-append}}
+use Rattle.bitstream_io.proofs.CallerLemmas.{{item-read, items-begin, items-push, items-stop}}
+use Rattle.{t.crate}.proofs.ListLemmas.{{failed_ok, kept_begin}}
+use Rattle.{t.crate}.proofs.{t.f.m}.read_{kind.name}.Goals as goal
+
+pub loop-place-init : goal.loop-place-init
+loop-place-init g c = record {{ all = []; reads = items-begin _ refl; size = refl; keeps = kept_begin _ }}
+
+pub returns-in_err-item : goal.returns-in_err-item
+returns-in_err-item g c =
+    let was = c.loop-place.invariant in
+    record {{
+      all = was.all;
+      reads = items-stop _ _ _ (λ _. was.all) c.from_residual.result c.loop-place-test.true was.reads
+          (item-read c.in_err-item.ensures.reads) c.from_residual.ensures.1;
+      size = failed_ok _ c.from_residual.result c.from_residual.ensures.1;
+      keeps = was.keeps;
+    }}
+
+pub loop-place-preserved : goal.loop-place-preserved
+loop-place-preserved g c =
+    let was = c.loop-place.invariant in
+    record {{
+      all = was.all ++ c.in_ok-item.item ∷ [];
+      reads = items-push _ _ refl was.reads (item-read c.in_ok-item.ensures.reads);
+      size = omega (arith, length-append was.all (c.in_ok-item.item ∷ []), was.size);
+      keeps = c.keep_{base(kind)}.ensures was.all _ was.size was.keeps;
+    }}
+
+pub returns : goal.returns
+returns g c =
+    {ALL}
+    let was = c.loop-place.invariant in
+    record {{ all = was.all; reads = rw (← all) was.reads; size = λ _. was.size ∙ all; keeps = was.keeps }}
+"""
+
+
+def keep_answers(t: Target, number: str) -> str:
+    """Returns the answers of the function that keeps an item."""
+    return f"""-- {t.made}
+use Rattle.std.proofs.Common.{{◌≡◌, ◌∙◌, ◌<◌, ◌≤◌, length, set, sym, ap, subst, arith}}
+use Rattle.{t.crate}.proofs.ListLemmas.{{kept_more, kept_none}}
+use Rattle.{t.crate}.proofs.{t.f.m}.keep_{number}.Goals as goal
+
+pub returns : goal.returns
+returns c = λ all was size is.
+    let more = kept_more all was c.args.items.now c.args.item (omega (arith, size, c.if-place-items.false)) is in
+    ap (λ k. set c.args.items.now k c.args.item) (sym size) ∙ more
+"""
+
+
+def files(t: Target) -> dict[str, str]:
+    """Returns the proofs of the functions by their places in the crate."""
+    f, home = t.f, f"proofs/{t.f.m}"
+    found = dict[str, str]()
+    texts = {f"proved_{f.m}_parse": parse_answers(f), "size": varying.size_answers(f), "put": varying.put_answers(f)}
+    for function, text in texts.items():
+        found[f"{home}/{function}/Answers.antt"] = "\n".join(
+            [f"-- {t.made}", *answer_uses(t, function, text), "", text]
+        )
+    crate = f"Rattle.{t.crate}.proofs"
+    lemmas = f"use {crate}.{f.spec}Lemmas.{{read_done, stopped}}\nuse Rattle.std.proofs.Common.{{rules}}\n"
+    goals = f"{crate}.{f.m}.read.Goals"
+    found[f"{home}/read/Answers.antt"] = f"-- {t.made}\n{lemmas}{read_answers(f).replace('GOALS', goals)}\n"
+    goals = f"{crate}.{f.m}.{given(f)}.write.Goals"
+    found[f"{home}/{given(f)}/write/Answers.antt"] = f"-- {t.made}\n{write_fields(f).replace('GOALS', goals)}\n"
+    found[f"{home}/{given(f)}ToBitStream/to_writer/Answers.antt"] = to_writer(t)
+    for it in lists(f.description):
+        found[f"{home}/read_{it.name}/Invariants.antt"] = invariant(t, it)
+        found[f"{home}/read_{it.name}/Answers.antt"] = list_answers(t, it)
+        if isinstance(it.item, m.Integer):
+            found |= loops(t, it)
+    for number in dict.fromkeys(base(it) for it in lists(f.description)):
+        found[f"{home}/keep_{number}/Answers.antt"] = keep_answers(t, number)
+    return found
+
+
+def loops(t: Target, kind: m.List) -> dict[str, str]:
+    """Returns the proofs of the function that writes a list of numbers."""
+    f, out = t.f, dict[str, str]()
+    names = "use Rattle.std.proofs.Common.{◌∷◌, [], refl}\nuse Rattle.bitstream_io.specs.Callers.{unsigned}\n"
+    names += "use Rattle.bitstream_io.proofs.CallerLemmas.{written-begin, written-more, written-stop}\n"
+    loop = names + "use Rattle.bitstream_io.specs.Loop.{ItemsWritten}\n"
+    for file, texts, head in (
+        ("Invariants", write_invariants(f, kind), loop),
+        ("Answers", write_answers(f, kind), names),
+    ):
+        for function, lines in texts.items():
+            text = "\n".join(lines).replace(f.goals, f"Rattle.{t.crate}.proofs.{f.m}")
+            out[f"proofs/{f.m}/{function}/{file}.antt"] = f"-- {t.made}\n{head}{text}\n"
+    return out
+
+
+def to_writer(t: Target) -> str:
+    """Returns the proof of the write of the trait."""
+    return f"""-- {t.made}
+use Rattle.bitstream_io.proofs.CallerLemmas.{{plainly_written}}
+use Rattle.{t.crate}.proofs.{t.f.m}.{given(t.f)}ToBitStream.to_writer.Goals as goal
+
+pub returns : goal.returns
+returns g c = record {{ writes = plainly_written _ _ _ _ _ c.write.ensures }}
+"""

@@ -1,0 +1,407 @@
+"""The two functions for C of a format whose number of bits is not constant: their code, their specs and their proofs."""
+from __future__ import annotations
+
+from describing import model as m
+from describing.c.cross import lists, most
+from describing.c.status import DOES_NOT_FIT, END_OF_INPUT, NO_ROOM, has_numbers, held, own
+from describing.layout import Format, Line
+
+INLINE = "#[inline(always)]"
+# The words of the definitions, after the name of the module.
+WORDS = ("bytes", "room", "failed")
+
+
+def uses(f: Format) -> list[str]:
+    """Returns the names of the library in the code."""
+    return [f.order, counter(f).split(":")[0], "BitReader", *["Error"] * (not f.error)]
+
+
+def counter(f: Format) -> str:
+    """Returns the type of a counter of bits."""
+    return "BitsWritten::<u64>" if f.order == "BE" else f"BitCounter::<u64, {f.order}>"
+
+
+# ---- code
+
+
+def code(f: Format) -> list[str]:
+    """Returns the functions of the module, up to the pack of the struct of C."""
+    return [*answer_code(f), *parse_code(f), *size_code(f), *put_code(f)]
+
+
+def cases(f: Format) -> list[tuple[str, str, str]]:
+    """Returns the errors of a read: their patterns in code and in specs, and their statuses."""
+    numbers = has_numbers(f.description.kinds)
+    status = "reader_status" if numbers else str(END_OF_INPUT)
+    said = (
+        (f"{f.error}::Reader(error)" if f.error else "error")
+        if numbers
+        else (f"{f.error}::Reader(_)" if f.error else "_")
+    )
+    found = [(said, "(Reader e)" if f.error else "e", status)]
+    for it in own(f):
+        holds = it.case in held(f)
+        found.append((f"{f.error}::{it.case}{'(_)' * holds}", f"({it.case} e)" if holds else it.case, str(it.number)))
+    return found
+
+
+def arms(f: Format) -> list[tuple[str, str]]:
+    """Returns the errors of a read in code, each with its status."""
+    return [(it, "reader_status(&error)" if status == "reader_status" else status) for it, _, status in cases(f)]
+
+
+def answer_code(f: Format) -> list[str]:
+    """Returns the functions that make the result of a parse."""
+    t = f.type
+    return [
+        "/// Returns the result of a parse for C, after a read that took `taken` bytes.",
+        INLINE,
+        f"fn parsed(answer: Result<{t}, {f.e}>, taken: usize) -> {t}Parsed",
+        f"    ensures {{ result ≡ {f.m}_parsed taken answer }}",
+        "{",
+        "    match answer {",
+        f"        Ok(value) => {t}Parsed {{",
+        "            status: 0,",
+        "            taken,",
+        f"            value: {t}C::new(&value),",
+        "        },",
+        *[f"        Err({case}) => failed({status})," for case, status in arms(f)],
+        "    }",
+        "}",
+        "",
+        "/// Returns the result of a parse that failed.",
+        INLINE,
+        f"fn failed(status: i32) -> {t}Parsed",
+        f"    ensures {{ result ≡ {f.m}_failed status }}",
+        "{",
+        f"    {t}Parsed {{",
+        "        status,",
+        "        taken: 0,",
+        "        value: zero(),",
+        "    }",
+        "}",
+        "",
+    ]
+
+
+def parse_code(f: Format) -> list[str]:
+    """Returns the function that parses bytes."""
+    b = f"bits {f.o} (take ({f.m}_bytes value) bytes.now)"
+    return [
+        "/// Parses the fields at the start of `bytes`.",
+        "#[unsafe(no_mangle)]",
+        f'pub extern "C" fn proved_{f.m}_parse(bytes: &[u8]) -> {f.type}Parsed',
+        f"    ensures answer {{ result ≡ {f.m}_answer (({f.m}_decoder {f.o}).reads 0 (bits {f.o} bytes.now)) }}",
+        "    ensures within { result.taken ≤ length bytes.now }",
+        f"    ensures round_trip {{ (value : {f.type}) → Fits value → {b} ≡ {f.m}_bits value",
+        f"        → result ≡ {f.m}_parsed ({f.m}_bytes value) (Ok value) }}",
+        "{",
+        f"    let mut reader = BitReader::<_, {f.order}>::over(bytes);",
+        f"    let answer = {f.type}::read(&mut reader);",
+        "    let taken = bytes.len().saturating_sub(reader.rest().len());",
+        "    parsed(answer, taken)",
+        "}",
+        "",
+    ]
+
+
+def value_of(f: Format, term: str) -> str:
+    """Returns the fields that contracts see of a term."""
+    return f"({f.m}_of {term})" if lists(f.description) else term
+
+
+def given(f: Format) -> str:
+    """Returns the type of the fields that are packed."""
+    return f"{f.type}Given" if lists(f.description) else f.type
+
+
+def size_code(f: Format) -> list[str]:
+    """Returns the function that counts the bits of fields."""
+    value = value_of(f, "fields.now")
+    return [
+        "/// Returns the number of bits of fields that fit.",
+        f"fn size(fields: &{given(f)}) -> u64",
+        f"    requires {{ Fits {value} }}",
+        f"    ensures {{ result ≡ {f.m}_size {f.o} {value} }}",
+        "{",
+        f"    let mut counter = {counter(f)}::new();",
+        "    match fields.write(&mut counter) {",
+        "        Ok(()) => counter.into_written(),",
+        "        Err(_) => unreachable!(),",
+        "    }",
+        "}",
+        "",
+    ]
+
+
+def put_code(f: Format) -> list[str]:
+    """Returns the function that packs fields."""
+    value, room = value_of(f, "fields.now"), -(-most(f.description) // 8)
+    size, held_ = f"({f.m}_bytes {value})", f"({f.m}_bits {value})"
+    call = f"pack_into::<{f.order}, {given(f)}>(fields, &mut whole)"
+    return [
+        "/// Writes the fields to the first bytes of a buffer.",
+        f"fn put(fields: &{given(f)}, buffer: &mut [u8]) -> Packed",
+        f"    ensures {{ PacksInto (Fits {value}) {f.o} {size} {held_} buffer.old result buffer.new }}",
+        "{",
+        "    if !is_fit(fields) {",
+        f"        return refused({DOES_NOT_FIT});",
+        "    }",
+        "    let written = size(fields).div_ceil(8);",
+        "    if written > buffer.len() as u64 {",
+        f"        return refused({NO_ROOM});",
+        "    }",
+        f"    let mut whole = [0u8; {room}];",
+        f"    match {call if lists(f.description) else 'fields.pack_into(&mut whole)'} {{",
+        "        Ok(packed) => buffer[..written as usize].copy_from_slice(packed.as_slice()),",
+        "        Err(_) => unreachable!(),",
+        "    }",
+        "    Packed {",
+        "        status: 0,",
+        "        written: written as usize,",
+        "    }",
+        "}",
+        "",
+    ]
+
+
+# ---- specs
+
+
+def spec_errors(f: Format) -> list[tuple[str, str]]:
+    """Returns the errors of a read in specs, each with its status; the reader's is the first."""
+    status = {"reader_status": "(reader_status e)"}
+    return [(case, status.get(number, f"(pos {number})")) for _, case, number in cases(f)]
+
+
+def reader_error(f: Format) -> str:
+    """Returns the error of a format for the reader's error `e`."""
+    return "(Reader e)" if f.error else "e"
+
+
+def bytes_specs(f: Format) -> list[str]:
+    """Returns the definitions of the number of bytes."""
+    return [
+        "-- the number of bytes of fields",
+        f"abbrev pub {f.m}_bytes : {f.type} → ℕ",
+        f"{f.m}_bytes value = ({f.m}_size {f.o} value + 7) / 8",
+        "",
+        "-- the number of bytes of the fields of a struct of C, if it has fields",
+        f"abbrev pub {f.m}_room : Option {f.type} → ℕ",
+        f"{f.m}_room (Some value) = {f.m}_bytes value",
+        f"{f.m}_room None = 0",
+        "",
+    ]
+
+
+def specs(f: Format) -> list[str]:
+    """Returns the definitions of the number of bytes, and of what C gets for the result of a parse."""
+    t, parsed, failed, errors = f.type, f"{f.m}_parsed", f"{f.m}_failed", spec_errors(f)
+    value, done = (f.result, f"{parsed} ((n + 7) / 8) value") if f.own else (t, f"{parsed} ((n + 7) / 8) (Ok value)")
+    return [
+        *bytes_specs(f),
+        "-- the result of a parse that failed",
+        f"abbrev pub {failed} : ℤ → {t}Parsed",
+        f"{failed} status = record {{ status = status; taken = 0; value = {f.m}_zero }}",
+        "",
+        "-- the result of a parse for C: 0, the number of bytes that were taken and the fields, or which error",
+        f"abbrev pub {parsed} : ℕ → Result {t} {f.e} → {t}Parsed",
+        f"{parsed} taken (Ok value) = record {{ status = pos 0; taken = taken; value = {f.m}_to_c value }}",
+        *[f"{parsed} taken (Err {case}) = {failed} {number}" for case, number in errors],
+        "",
+        "-- the same for what the decoder says of all bits: too few, or its result after the first n",
+        f"abbrev pub {f.m}_answer : Prefix {value} → {t}Parsed",
+        f"{f.m}_answer Incomplete = {failed} (pos {END_OF_INPUT})",
+        f"{f.m}_answer (Done n (Ok value)) = {done}",
+        f"{f.m}_answer (Done n (Err e)) = {failed} {errors[0][1]}",
+        "",
+    ]
+
+
+# ---- proofs
+
+
+def lemmas(f: Format) -> str:
+    """Returns the lemmas of a format: its result for what the decoder says, and its bits before others."""
+    name, t, parsed = f.m, f.type, f"{f.m}_parsed"
+    text = f"""-- what C gets is decided by what the decoder says
+"""
+    if f.own:
+        text += f"""answered : (plain : Result {f.result} Error) (r : Result {t} {f.e}) (taken n : ℕ)
+    → OwnAnswer {f.becomes_name} (λ y. y) plain r → taken ≡ (n + 7) / 8
+    → {parsed} taken r ≡ {name}_answer (Done n plain)
+answered (Ok x) r taken n is count = ap₂ {parsed} count is
+answered (Err e) r taken n is count = ap ({parsed} taken) (is_error r (Reader e) is)
+
+pub decided : (prefix : Prefix {f.result}) (plain : Result {f.result} Error) (r : Result {t} {f.e}) (taken : ℕ)
+    → IsDecided prefix taken plain → OwnAnswer {f.becomes_name} (λ y. y) plain r
+    → {parsed} taken r ≡ {name}_answer prefix
+decided Incomplete plain r taken is own =
+    ap ({parsed} taken) (is_error r (Reader EndOfInput)
+    (subst (λ x. OwnAnswer {f.becomes_name} (λ y. y) x r) is own))
+decided (Done n x) plain r taken is own =
+    answered x r taken n (subst (λ y. OwnAnswer {f.becomes_name} (λ z. z) y r) is.0 own) is.1
+"""
+    else:
+        text += f"""answered : (r : Result {t} Error) (taken n : ℕ) → taken ≡ (n + 7) / 8
+    → {parsed} taken r ≡ {name}_answer (Done n r)
+answered (Ok x) taken n count = ap (λ k. {parsed} k (Ok x)) count
+answered (Err e) taken n count = refl
+
+pub decided : (prefix : Prefix {t}) (r : Result {t} Error) (taken : ℕ) → IsDecided prefix taken r
+    → {parsed} taken r ≡ {name}_answer prefix
+decided Incomplete r taken is = ap ({parsed} taken) is
+decided (Done n x) r taken is = ap ({parsed} taken) is.0 ∙ answered x taken n is.1
+"""
+    back = "Ok (Ok value)" if f.own else "Ok value"
+    return (
+        text
+        + f"""
+-- the bytes taken are some of the bytes
+pub within : (r : Result {t} {f.e}) (taken : ℕ) → ({parsed} taken r).taken ≤ taken
+within (Ok value) taken = omega arith
+{chr(10).join(f"within (Err {case}) taken = omega arith" for _, case, _ in cases(f))}
+
+-- packed bytes are parsed again
+pub packed : (value : {t}) (bytes : List ℕ) → Fits value → bits {f.o} (take ({name}_bytes value) bytes) ≡ {name}_bits value
+    → {name}_answer (({name}_decoder {f.o}).reads 0 (bits {f.o} bytes)) ≡ {parsed} ({name}_bytes value) (Ok value)
+packed value bytes fits is =
+    let all = {name}_packs {f.o} value fits in
+    let parts = padded {f.o} ({name}_writes {f.o} value) ({name}_bytes value) bytes _ (told value) is in
+    ap (λ b. {name}_answer (({name}_decoder {f.o}).reads 0 b)) parts
+    ∙ ap {name}_answer (({name}_goes {f.o} value fits).back 0 0 _)
+    ∙ ap (λ k. {name}_answer (Done k ({back}))) (all.size 0)
+"""
+        + most_lemma(f)
+    )
+
+
+COUNT = """    let count : c.saturating_sub-taken.result ≡ length c.args.bytes.now - length c.rest.result.now =
+    omega (arith, c.saturating_sub-taken.ensures) in
+"""
+DECIDED = "(read_decided slice_ends c.over-reader.ensures.state c.rest.ensures count c.read-answer.ensures{})"
+
+
+def parse_answers(f: Format) -> str:
+    """Returns the proof of the function that parses bytes."""
+    found = f"c.parsed.ensures ∙ decided _ _ _ {DECIDED.format('')}"
+    if f.own:
+        plain = "c.read-answer.ensures.plain"
+        found = f"c.parsed.ensures ∙ decided _ {plain} _ _ {DECIDED.format('.called')} c.read-answer.ensures.answer"
+    return f"""pub returns-clause-answer : goal.returns-clause-answer
+returns-clause-answer c =
+{COUNT}    {found}
+
+pub returns-clause-within : goal.returns-clause-within
+returns-clause-within c =
+    let few = within c.read-answer.result c.saturating_sub-taken.result in
+    let same : c.parsed.result.taken ≡ ({f.m}_parsed c.saturating_sub-taken.result c.read-answer.result).taken =
+    ap (λ (it : {f.type}Parsed). it.taken) c.parsed.ensures in
+    omega (arith, few, same, c.saturating_sub-taken.ensures)
+
+pub returns-clause-round_trip : goal.returns-clause-round_trip
+returns-clause-round_trip c = λ value fits is.
+{COUNT}    {found}
+    ∙ packed value c.args.bytes.now fits is
+"""
+
+
+def size_answers(f: Format) -> str:
+    """Returns the proof of the function that counts the bits of fields."""
+    name, o, value = f.m, f.o, value_of(f, "c.args.fields.now")
+    writes = f"({name}_writes {o} {value})"
+    return f"""pub returns : goal.returns
+returns c =
+    let all = {name}_packs {o} {value} c.requires in
+    c.into_written.ensures ∙ counted _ {writes} _ _ refl c.new-counter.ensures c.in-Ok.ensures ∙ all.size 0
+
+pub unreachable-requires : goal.unreachable-requires
+unreachable-requires c =
+    let all = {name}_packs {o} {value} c.requires in
+    let size = all.size 0 in
+    let most = {name}_most {value} c.requires in
+    let more = counted_past _ {2**64 - 1} refl (λ x may. may) {writes} _ _ _ c.new-counter.ensures
+    refl (all.accepted 0) c.in-Err.ensures in
+    omega (arith, more, size, most)
+"""
+
+
+def answers(f: Format) -> dict[str, str]:
+    """Returns the proofs of the functions by their names."""
+    return {
+        f"proved_{f.m}_parse": parse_answers(f),
+        "size": size_answers(f),
+        "put": put_answers(f),
+    }
+
+
+def put_answers(f: Format) -> str:
+    """Returns the proof of the function that packs fields."""
+    name, o, value = f.m, f.o, value_of(f, "c.args.fields.now")
+    packs, kinds = f"({name}_packs {o} {value} fits)", lists(f.description)
+    enough = f"packed-room c.in-Err.ensures {packs}" if kinds else "c.in-Err.ensures.room fits"
+    packed = f"packed-bits c.in-Ok.ensures (told {value})" if kinds else "c.in-Ok.ensures.packed"
+    fits = f"""    let fits : Fits {value} = search rules in
+"""
+    counts = f"""{fits}    let size = c.size.ensures in
+    let whole = c.div_ceil-written.ensures in
+    let packed = ap (bits {o}) c.as_slice.ensures ∙ {packed} in
+    let count = aligned_bytes {packs} {o} c.as_slice.result.now (packed ∙ sym (told {value})) in
+    let same : c.div_ceil-written.result ≡ {name}_bytes {value} = omega arith in
+"""
+    return f"""pub unreachable-requires : goal.unreachable-requires
+unreachable-requires c =
+{fits}    let most = {name}_most {value} fits in
+    let no = {enough} (omega (arith, most)) in cc
+
+pub copy_from_slice-requires : goal.copy_from_slice-requires
+copy_from_slice-requires c =
+{counts}    omega (arith, count, same, length-take-le c.div_ceil-written.result c.args.buffer.now)
+
+pub returns : goal.returns
+returns c =
+{counts}    let copied : c.copy_from_slice.new.self ≡ c.as_slice.result.now = cc in
+    let long : length c.copy_from_slice.new.self ≡ {name}_bytes {value} = ap length copied ∙ count in
+    rw same (packs-done fits (omega arith)
+    (ap (bits {o}) (take_at _ _ ({name}_bytes {value}) long ∙ copied) ∙ packed) (drop_at _ _ ({name}_bytes {value}) long))
+"""
+
+
+# ---- the greatest number of bits
+
+
+def bound(f: Format, line: Line) -> tuple[str, str]:
+    """Returns the statement of a fact about the number of bits of a line, and its name; empty if none is needed."""
+    kind, v, fact = line.kind, f"value.{line.name}", f"{line.name}_most"
+    match kind:
+        case m.Unary():
+            return f"let {fact} = length-unary {('false', 'true')[kind.stop]} {v} in", fact
+        case m.Groups() if not kind.integer.signed:
+            term = (
+                f"groups_most {f.o} {kind.group} {kind.integer.width} {v} (omega arith) (omega arith) fits.{line.name}"
+            )
+            return f"let {fact} = {term} in", f"{fact}.1, {fact}.2"
+        case m.Part() if m.bits(kind) is None:
+            return f"let {fact} = {kind.use.module}_most {v} fits.{line.name} in", fact
+        case m.Optional() | m.If():
+            use = kind.use
+            one = f"{use.module}_most" if use.description.bits is None else "(λ it fit. omega arith)"
+            says = f"optional_most ({use.module}_size {f.o}) {most(use.description)} {use.name}Fits {v}"
+            return f"let {fact} = {says} fits.{line.name} {one} in", fact
+    return "", ""
+
+
+def most_lemma(f: Format) -> str:
+    """Returns the lemma about the greatest number of bits."""
+    bounds = [it for it in (bound(f, line) for line in f.lines if line.is_field) if it[0]]
+    lets = "".join(f"\n    {it}" for it, _ in bounds)
+    facts = "".join(f", {it}" for _, it in bounds)
+    widths = ""
+    if any(isinstance(it.kind, m.Varint) for it in f.lines):
+        widths = "\nwidth_most : (k : ℕ) → varint_width k ≤ 62\nwidth_most k = grind (arith, nat_tests)\n"
+    return f"""{widths}
+-- the fields have no more bits
+pub {f.m}_most : (value : {f.type}) → Fits value → {f.m}_size {f.o} value ≤ {most(f.description)}
+{f.m}_most value fits ={lets}
+    omega (arith, fits{facts})
+"""

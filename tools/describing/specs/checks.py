@@ -1,0 +1,37 @@
+"""The terms of specs for a checksum: its number, of the values that were read or of the fields of the record."""
+from __future__ import annotations
+
+from typing import Sequence
+
+from describing import model as m
+from describing.model import snake
+
+
+def octets(kind: m.Kind, term: str) -> str:
+    """Returns the bytes of a field: of a number or a case the highest first."""
+    match kind:
+        case m.Number(integer=whole):
+            return f"bytes{whole.width // 8} {term}"
+        case m.Enum(enum=enum):
+            return f"bytes{enum.width // 8} ({snake(enum.name)}_number {term})"
+    return term
+
+
+def octets_of(covers: Sequence[m.Kind], before: str = "", behind: str = "") -> str:
+    """Returns the bytes of all fields, whose names stand between two texts."""
+    return " ++ ".join(octets(it, f"{before}{m.label(it)}{behind}") for it in covers)
+
+
+def read_sum(kind: m.Check, covers: Sequence[m.Kind]) -> str:
+    """Returns the checksum of the values that were read."""
+    return f"{kind.word} ({octets_of(covers)})"
+
+
+def written_sum(kind: m.Check, covers: Sequence[m.Kind]) -> str:
+    """Returns the checksum of the fields of the record."""
+    return f"{kind.word} ({octets_of(covers, 'value.')})"
+
+
+def shape(kind: m.Check) -> str:
+    """Returns the order, the bits of the type and the bits of a checksum."""
+    return f"o {kind.width} {kind.width}"
