@@ -1,7 +1,10 @@
 -- The header of a block of a FLAC file.
 use Rattle.bitstream_callers.specs.declared.block_header.BlockHeader.{BlockHeader}
+use Rattle.std.proofs.Common.{refl}
+use Rattle.bitstream_format.specs.Format.{◌>>=◌, Plain as PlainFormat, Parts as FormatParts, format, renamed, field, ◌&◌, done}
 use Rattle.std.specs.Prelude.{◌^◌, ◌<◌, ◌++◌, ◌∷◌, [], ℕ, Bool, List, take, drop}
-use Rattle.bitstream_io.specs.Callers.{◌>>=◌, Decoder, Encoder, pure, Order, High, number, first_bit, bit_decoder, unsigned_decoder, bit, unsigned, align, write_sequence}
+use Rattle.bitstream_io.specs.Callers.{Decoder, Encoder, Order, High, number, first_bit, align, write_sequence}
+use Rattle.bitstream_format.specs.Atoms as atom
 
 -- Made by `./format` from formats/block_header.fields: edit that file and make this one anew.
 
@@ -9,21 +12,21 @@ use Rattle.bitstream_io.specs.Callers.{◌>>=◌, Decoder, Encoder, pure, Order,
 abbrev pub bits_at : ℕ → ℕ → List Bool → List Bool
 bits_at k n bits = take n (drop k bits)
 
+-- the lines, in order
+abbrev pub block_header_lines : FormatParts BlockHeader BlockHeader (λ s. s)
+block_header_lines = do
+  last ← field atom.bool (λ s. s.last)
+  kind ← field (atom.unsigned 8 7 refl) (λ s. s.kind)
+  size ← field (atom.unsigned 32 24 refl) (λ s. s.size)
+  done (record { last = last; kind = kind; size = size })
+
 -- the reads, in order
 abbrev pub block_header_decoder : Order → Decoder BlockHeader
-block_header_decoder o = do
-  last ← bit_decoder
-  kind ← unsigned_decoder o 8 7
-  size ← unsigned_decoder o 32 24
-  pure (record { last = last; kind = kind; size = size })
+block_header_decoder o = block_header_lines.read o
 
 -- the writes, in order
 abbrev pub block_header_writes : Order → BlockHeader → List Encoder
-block_header_writes o value =
-    bit value.last
-    ∷ unsigned o 8 7 value.kind
-    ∷ unsigned o 32 24 value.size
-    ∷ []
+block_header_writes o value = block_header_lines.write o value
 
 -- each field fits its bits
 pub record Fits (value : BlockHeader) : Type 0 where
@@ -33,6 +36,12 @@ pub record Fits (value : BlockHeader) : Type 0 where
 -- the number of bits
 abbrev pub block_header_size : Order → BlockHeader → ℕ
 block_header_size o value = 32
+
+-- the format, with the facts that must fit by name
+abbrev pub block_header_format : PlainFormat BlockHeader
+block_header_format = renamed Fits (format block_header_lines (λ s. refl {a = s}))
+    (λ s fits. fits.kind & fits.size)
+    (λ s facts. record { kind = facts.0; size = facts.1 })
 
 -- the bits of all fields, up to a whole byte
 unfoldable pub block_header_bits : BlockHeader → List Bool

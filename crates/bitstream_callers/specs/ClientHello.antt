@@ -4,9 +4,14 @@ use Rattle.bitstream_callers.specs.declared.client_hello.ClientHelloError.{Clien
 use Rattle.bitstream_callers.specs.declared.client_hello.ClientHelloError.TheVariants.{Reader, OtherMessage, NoCompression}
 use Rattle.bitstream_callers.specs.declared.client_hello.Compression.{Compression}
 use Rattle.bitstream_callers.specs.declared.client_hello.Compression.TheVariants.{Null, Deflate}
-use Rattle.std.specs.Prelude.{◌≡◌, ◌^◌, ◌<◌, ◌+◌, ◌*◌, ◌++◌, ◌∷◌, [], ◌==◌, if◌then◌else◌, ℕ, Bool, List, Result, Ok, Err, length}
-use Rattle.std.specs.List.{All, flat_map}
-use Rattle.bitstream_io.specs.Callers.{◌>>=◌, Decoder, Encoder, pure, Error, Order, High, and_then, word, unsigned_decoder, const_decoder, bytes_decoder, vec_decoder, plain, unsigned, buffer, align, write_sequence, part_then, parts_decoder}
+use Rattle.std.proofs.Common.{refl, true}
+use Rattle.bitstream_format.specs.Format.{◌>>=◌, Own as OwnFormat, Parts as FormatParts, format, named, field, const, sure, ◌&◌, own_done}
+use Rattle.bitstream_format.specs.Lists.{own_even_list, byte_list}
+use Rattle.bitstream_format.specs.Cases.{cases}
+use Rattle.std.specs.Prelude.{◌≡◌, ◌^◌, ◌<◌, ◌++◌, ◌∷◌, [], ◌==◌, if◌then◌else◌, ℕ, Bool, List, Result, Ok, Err, length, nat_lt}
+use Rattle.std.specs.List.{All}
+use Rattle.bitstream_io.specs.Callers.{Decoder, Encoder, pure, Error, Order, High, and_then, unsigned_decoder, align, write_sequence}
+use Rattle.bitstream_format.specs.Atoms as atom
 
 -- Made by `./format` from formats/client_hello.fields: edit that file and make this one anew.
 
@@ -27,60 +32,53 @@ compression_number Deflate = 1
 abbrev pub compression_read : Order → Decoder (Result Compression ClientHelloError)
 compression_read o = and_then (unsigned_decoder o 8 8) (λ v. pure (compression_of v))
 
--- the reads, in order, after 2 that may be refused
-abbrev pub client_hello_decoder_2 : Order → ℕ → ℕ → List ℕ → ℕ → List ℕ → ℕ → List ℕ → ℕ → List Compression → Decoder
-    (Result ClientHello ClientHelloError)
-client_hello_decoder_2 o size version random session_count session suites_count suites compressions_count compressions =
-    do
-      extensions_count ← unsigned_decoder o 64 16
-      extensions ← vec_decoder o extensions_count
-      pure (Ok (record {
-        size = size;
-        version = version;
-        random = random;
-        session = session;
-        suites = suites;
-        compressions =
-            compressions;
-        extensions = extensions;
-      }))
+-- the number of each case fits its bits, and decodes to that case
+pub compression_small : (it : Compression) → nat_lt (compression_number it) (2 ^ 8) ≡ true
+compression_small Null = refl
+compression_small Deflate = refl
 
--- the reads, in order, after 1 that may be refused
-abbrev pub client_hello_decoder_1 : Order → Decoder (Result ClientHello ClientHelloError)
-client_hello_decoder_1 o = do
-  size ← unsigned_decoder o 32 24
-  version ← unsigned_decoder o 16 16
-  random ← bytes_decoder o 32
-  session_count ← unsigned_decoder o 64 8
-  session ← vec_decoder o session_count
-  suites_count ← unsigned_decoder o 64 16
-  suites ← vec_decoder o suites_count
-  compressions_count ← unsigned_decoder o 64 8
-  and_then (parts_decoder (compression_read o) compressions_count) (part_then (λ compressions. client_hello_decoder_2 o
-      size version random session_count session suites_count suites compressions_count compressions))
+pub compression_again : (it : Compression) → compression_of (compression_number it) ≡ Ok it
+compression_again Null = refl
+compression_again Deflate = refl
+
+-- the cases, by their numbers
+abbrev pub compression_cases : OwnFormat ClientHelloError Compression
+compression_cases = cases 8 8 refl compression_of compression_number compression_small compression_again
+
+-- the lines, in order
+abbrev pub client_hello_lines : FormatParts ClientHello (Result ClientHello ClientHelloError) (λ s. Ok s)
+client_hello_lines = do
+  constant_0 ← const 8 1 refl OtherMessage
+  size ← field (atom.unsigned 32 24 refl) (λ s. s.size)
+  version ← field (atom.unsigned 16 16 refl) (λ s. s.version)
+  random ← field (atom.bytes 32) (λ s. s.random)
+  session_count ← field (atom.unsigned 64 8 refl) (λ s. length s.session)
+  session ← byte_list session_count (λ s. s.session)
+  suites_count ← field (atom.unsigned 64 16 refl) (λ s. length s.suites)
+  suites ← byte_list suites_count (λ s. s.suites)
+  compressions_count ← field (atom.unsigned 64 8 refl) (λ s. length s.compressions)
+  compressions ← sure (own_even_list compressions_count 8 compression_cases (λ x. refl) (λ s. s.compressions)) (λ s. λ k
+      d below. tt)
+  extensions_count ← field (atom.unsigned 64 16 refl) (λ s. length s.extensions)
+  extensions ← byte_list extensions_count (λ s. s.extensions)
+  own_done (record {
+    size = size;
+    version = version;
+    random = random;
+    session = session;
+    suites = suites;
+    compressions =
+        compressions;
+    extensions = extensions;
+  })
 
 -- the reads, in order
 abbrev pub client_hello_decoder : Order → Decoder (Result ClientHello ClientHelloError)
-client_hello_decoder o = do
-  is_0 ← const_decoder o 8 1
-  if is_0 then client_hello_decoder_1 o else pure (Err OtherMessage)
+client_hello_decoder o = client_hello_lines.read o
 
 -- the writes, in order
 abbrev pub client_hello_writes : Order → ClientHello → List Encoder
-client_hello_writes o value =
-    plain (word o 8 1)
-    ∷ unsigned o 32 24 value.size
-    ∷ unsigned o 16 16 value.version
-    ∷ buffer o value.random
-    ∷ unsigned o 64 8 (length value.session)
-    ∷ buffer o value.session
-    ∷ unsigned o 64 16 (length value.suites)
-    ∷ buffer o value.suites
-    ∷ unsigned o 64 8 (length value.compressions)
-    ∷ flat_map (λ x. unsigned o 8 8 (compression_number x) ∷ []) value.compressions
-    ++ unsigned o 64 16 (length value.extensions)
-    ∷ buffer o value.extensions
-    ∷ []
+client_hello_writes o value = client_hello_lines.write o value
 
 -- each field fits its bits
 pub record Fits (value : ClientHello) : Type 0 where
@@ -98,8 +96,13 @@ pub record Fits (value : ClientHello) : Type 0 where
 
 -- the number of bits
 abbrev pub client_hello_size : Order → ClientHello → ℕ
-client_hello_size o value = 352 + 8 * length value.session + 8 * length value.suites + length value.compressions * 8 + 8
-    * length value.extensions
+client_hello_size o value = client_hello_lines.size value
+
+-- the format, with the facts that must fit by name
+abbrev pub client_hello_format : OwnFormat ClientHelloError ClientHello
+client_hello_format = named Fits (format client_hello_lines (λ s. (refl, (refl, (refl, (refl, refl {a = s}))))))
+    (λ s fits. fits.size & fits.version & fits.random_count & fits.random & fits.session_count & fits.session &
+    fits.suites_count & fits.suites & fits.compressions_count & fits.extensions_count & fits.extensions)
 
 -- the bits of all fields, up to a whole byte
 unfoldable pub client_hello_bits : ClientHello → List Bool

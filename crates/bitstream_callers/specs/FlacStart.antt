@@ -2,9 +2,11 @@
 use Rattle.bitstream_callers.specs.declared.flac_start.FlacStart.{FlacStart}
 use Rattle.bitstream_callers.specs.declared.flac_start.FlacStartError.{FlacStartError}
 use Rattle.bitstream_callers.specs.declared.flac_start.FlacStartError.TheVariants.{Reader, NoFlac}
-use Rattle.bitstream_callers.specs.BlockHeader.{block_header_decoder, block_header_writes, Fits as BlockHeaderFits}
-use Rattle.std.specs.Prelude.{◌≡◌, ◌++◌, ◌∷◌, [], if◌then◌else◌, ℕ, Bool, List, Result, Ok, Err, take, drop}
-use Rattle.bitstream_io.specs.Callers.{◌>>=◌, Decoder, Encoder, pure, Error, Order, High, number, word, first_bit, const_decoder, plain, align, write_sequence}
+use Rattle.bitstream_callers.specs.BlockHeader.{block_header_format, Fits as BlockHeaderFits}
+use Rattle.std.proofs.Common.{refl}
+use Rattle.bitstream_format.specs.Format.{◌>>=◌, Own as OwnFormat, Parts as FormatParts, format, renamed, field, const, own_done}
+use Rattle.std.specs.Prelude.{◌≡◌, ◌++◌, ◌∷◌, [], ℕ, Bool, List, Result, Ok, take, drop}
+use Rattle.bitstream_io.specs.Callers.{Decoder, Encoder, Error, Order, High, number, first_bit, align, write_sequence}
 
 -- Made by `./format` from formats/flac_start.fields: edit that file and make this one anew.
 
@@ -20,24 +22,20 @@ bits_at k n bits = take n (drop k bits)
 abbrev pub const_at_0 : List Bool → ℕ
 const_at_0 bits = number High (bits_at 0 32 bits)
 
--- the reads, in order, after 1 that may be refused
-abbrev pub flac_start_decoder_1 : Order → Decoder (Result FlacStart FlacStartError)
-flac_start_decoder_1 o = do
-  block ← block_header_decoder o
-  pure (Ok (record { block = block }))
+-- the lines, in order
+abbrev pub flac_start_lines : FormatParts FlacStart (Result FlacStart FlacStartError) (λ s. Ok s)
+flac_start_lines = do
+  constant_0 ← const 32 1716281667 refl NoFlac
+  block ← field block_header_format (λ s. s.block)
+  own_done (record { block = block })
 
 -- the reads, in order
 abbrev pub flac_start_decoder : Order → Decoder (Result FlacStart FlacStartError)
-flac_start_decoder o = do
-  is_0 ← const_decoder o 32 1716281667
-  if is_0 then flac_start_decoder_1 o else pure (Err NoFlac)
+flac_start_decoder o = flac_start_lines.read o
 
 -- the writes, in order
 abbrev pub flac_start_writes : Order → FlacStart → List Encoder
-flac_start_writes o value =
-    plain (word o 32 1716281667)
-    ∷ block_header_writes o value.block
-    ++ []
+flac_start_writes o value = flac_start_lines.write o value
 
 -- each field fits its bits
 pub record Fits (value : FlacStart) : Type 0 where
@@ -46,6 +44,12 @@ pub record Fits (value : FlacStart) : Type 0 where
 -- the number of bits
 abbrev pub flac_start_size : Order → FlacStart → ℕ
 flac_start_size o value = 64
+
+-- the format, with the facts that must fit by name
+abbrev pub flac_start_format : OwnFormat FlacStartError FlacStart
+flac_start_format = renamed Fits (format flac_start_lines (λ s. refl {a = s}))
+    (λ s fits. fits.block)
+    (λ s facts. record { block = facts })
 
 -- the bits of all fields, up to a whole byte
 unfoldable pub flac_start_bits : FlacStart → List Bool

@@ -2,8 +2,11 @@
 use Rattle.bitstream_callers.specs.declared.primary_header.PrimaryHeader.{PrimaryHeader}
 use Rattle.bitstream_callers.specs.declared.primary_header.PrimaryHeaderError.{PrimaryHeaderError}
 use Rattle.bitstream_callers.specs.declared.primary_header.PrimaryHeaderError.TheVariants.{Reader, WrongVersion}
-use Rattle.std.specs.Prelude.{◌≡◌, ◌^◌, ◌<◌, ◌++◌, ◌∷◌, [], if◌then◌else◌, ℕ, Bool, List, Result, Ok, Err, length, take, drop}
-use Rattle.bitstream_io.specs.Callers.{◌>>=◌, Decoder, Encoder, pure, Error, Order, High, number, word, first_bit, bit_decoder, unsigned_decoder, const_decoder, plain, bit, unsigned, align, write_sequence}
+use Rattle.std.proofs.Common.{refl}
+use Rattle.bitstream_format.specs.Format.{◌>>=◌, Own as OwnFormat, Parts as FormatParts, format, renamed, field, const, ◌&◌, own_done}
+use Rattle.std.specs.Prelude.{◌≡◌, ◌^◌, ◌<◌, ◌++◌, ◌∷◌, [], ℕ, Bool, List, Result, Ok, length, take, drop}
+use Rattle.bitstream_io.specs.Callers.{Decoder, Encoder, Error, Order, High, number, first_bit, align, write_sequence}
+use Rattle.bitstream_format.specs.Atoms as atom
 
 -- Made by `./format` from formats/primary_header.fields: edit that file and make this one anew.
 
@@ -19,41 +22,32 @@ bits_at k n bits = take n (drop k bits)
 abbrev pub const_at_0 : List Bool → ℕ
 const_at_0 bits = number High (bits_at 0 3 bits)
 
--- the reads, in order, after 1 that may be refused
-abbrev pub primary_header_decoder_1 : Order → Decoder (Result PrimaryHeader PrimaryHeaderError)
-primary_header_decoder_1 o = do
-  telecommand ← bit_decoder
-  secondary ← bit_decoder
-  apid ← unsigned_decoder o 16 11
-  sequence ← unsigned_decoder o 8 2
-  count ← unsigned_decoder o 16 14
-  length ← unsigned_decoder o 16 16
-  pure (Ok (record {
+-- the lines, in order
+abbrev pub primary_header_lines : FormatParts PrimaryHeader (Result PrimaryHeader PrimaryHeaderError) (λ s. Ok s)
+primary_header_lines = do
+  constant_0 ← const 3 0 refl WrongVersion
+  telecommand ← field atom.bool (λ s. s.telecommand)
+  secondary ← field atom.bool (λ s. s.secondary)
+  apid ← field (atom.unsigned 16 11 refl) (λ s. s.apid)
+  sequence ← field (atom.unsigned 8 2 refl) (λ s. s.sequence)
+  count ← field (atom.unsigned 16 14 refl) (λ s. s.count)
+  length ← field (atom.unsigned 16 16 refl) (λ s. s.length)
+  own_done (record {
     telecommand = telecommand;
     secondary = secondary;
     apid = apid;
     sequence = sequence;
     count = count;
     length = length;
-  }))
+  })
 
 -- the reads, in order
 abbrev pub primary_header_decoder : Order → Decoder (Result PrimaryHeader PrimaryHeaderError)
-primary_header_decoder o = do
-  is_0 ← const_decoder o 3 0
-  if is_0 then primary_header_decoder_1 o else pure (Err WrongVersion)
+primary_header_decoder o = primary_header_lines.read o
 
 -- the writes, in order
 abbrev pub primary_header_writes : Order → PrimaryHeader → List Encoder
-primary_header_writes o value =
-    plain (word o 3 0)
-    ∷ bit value.telecommand
-    ∷ bit value.secondary
-    ∷ unsigned o 16 11 value.apid
-    ∷ unsigned o 8 2 value.sequence
-    ∷ unsigned o 16 14 value.count
-    ∷ unsigned o 16 16 value.length
-    ∷ []
+primary_header_writes o value = primary_header_lines.write o value
 
 -- each field fits its bits
 pub record Fits (value : PrimaryHeader) : Type 0 where
@@ -65,6 +59,12 @@ pub record Fits (value : PrimaryHeader) : Type 0 where
 -- the number of bits
 abbrev pub primary_header_size : Order → PrimaryHeader → ℕ
 primary_header_size o value = 48
+
+-- the format, with the facts that must fit by name
+abbrev pub primary_header_format : OwnFormat PrimaryHeaderError PrimaryHeader
+primary_header_format = renamed Fits (format primary_header_lines (λ s. refl {a = s}))
+    (λ s fits. fits.apid & fits.sequence & fits.count & fits.length)
+    (λ s facts. record { apid = facts.0; sequence = facts.1.0; count = facts.1.1.0; length = facts.1.1.1 })
 
 -- the bits of all fields, up to a whole byte
 unfoldable pub primary_header_bits : PrimaryHeader → List Bool

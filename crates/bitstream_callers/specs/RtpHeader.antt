@@ -2,9 +2,13 @@
 use Rattle.bitstream_callers.specs.declared.rtp_header.RtpHeader.{RtpHeader}
 use Rattle.bitstream_callers.specs.declared.rtp_header.RtpError.{RtpError}
 use Rattle.bitstream_callers.specs.declared.rtp_header.RtpError.TheVariants.{Reader, WrongVersion}
-use Rattle.std.specs.Prelude.{◌≡◌, ◌^◌, ◌<◌, ◌+◌, ◌*◌, ◌++◌, ◌∷◌, [], if◌then◌else◌, ℕ, Bool, List, Result, Ok, Err, length}
-use Rattle.std.specs.List.{All, flat_map}
-use Rattle.bitstream_io.specs.Callers.{◌>>=◌, Decoder, Encoder, pure, list_item, Error, Order, High, word, bit_decoder, unsigned_decoder, const_decoder, items_decoder, plain, bit, unsigned, align, write_sequence}
+use Rattle.std.proofs.Common.{refl}
+use Rattle.bitstream_format.specs.Format.{◌>>=◌, Own as OwnFormat, Parts as FormatParts, format, renamed, field, const, ◌&◌, own_done}
+use Rattle.bitstream_format.specs.Lists.{even_list}
+use Rattle.std.specs.Prelude.{◌≡◌, ◌^◌, ◌<◌, ◌++◌, ◌∷◌, [], ℕ, Bool, List, Result, Ok, length}
+use Rattle.std.specs.List.{All}
+use Rattle.bitstream_io.specs.Callers.{Decoder, Encoder, Error, Order, High, align, write_sequence}
+use Rattle.bitstream_format.specs.Atoms as atom
 
 -- Made by `./format` from formats/rtp_header.fields: edit that file and make this one anew.
 
@@ -12,19 +16,20 @@ use Rattle.bitstream_io.specs.Callers.{◌>>=◌, Decoder, Encoder, pure, list_i
 abbrev pub becomes_rtp_header : Error → RtpError → Type 0
 becomes_rtp_header error own = own ≡ Reader error
 
--- the reads, in order, after 1 that may be refused
-abbrev pub rtp_header_decoder_1 : Order → Decoder (Result RtpHeader RtpError)
-rtp_header_decoder_1 o = do
-  padding ← bit_decoder
-  extension ← bit_decoder
-  csrc_count ← unsigned_decoder o 64 4
-  marker ← bit_decoder
-  payload_type ← unsigned_decoder o 8 7
-  sequence ← unsigned_decoder o 16 16
-  timestamp ← unsigned_decoder o 32 32
-  ssrc ← unsigned_decoder o 32 32
-  csrc ← items_decoder (list_item (unsigned_decoder o 32 32)) csrc_count
-  pure (Ok (record {
+-- the lines, in order
+abbrev pub rtp_header_lines : FormatParts RtpHeader (Result RtpHeader RtpError) (λ s. Ok s)
+rtp_header_lines = do
+  constant_0 ← const 2 2 refl WrongVersion
+  padding ← field atom.bool (λ s. s.padding)
+  extension ← field atom.bool (λ s. s.extension)
+  csrc_count ← field (atom.unsigned 64 4 refl) (λ s. length s.csrc)
+  marker ← field atom.bool (λ s. s.marker)
+  payload_type ← field (atom.unsigned 8 7 refl) (λ s. s.payload_type)
+  sequence ← field (atom.unsigned 16 16 refl) (λ s. s.sequence)
+  timestamp ← field (atom.unsigned 32 32 refl) (λ s. s.timestamp)
+  ssrc ← field (atom.unsigned 32 32 refl) (λ s. s.ssrc)
+  csrc ← even_list csrc_count 32 (atom.unsigned 32 32 refl) (λ x. refl) (λ s. s.csrc)
+  own_done (record {
     padding = padding;
     extension = extension;
     marker = marker;
@@ -34,28 +39,15 @@ rtp_header_decoder_1 o = do
     timestamp = timestamp;
     ssrc = ssrc;
     csrc = csrc;
-  }))
+  })
 
 -- the reads, in order
 abbrev pub rtp_header_decoder : Order → Decoder (Result RtpHeader RtpError)
-rtp_header_decoder o = do
-  is_0 ← const_decoder o 2 2
-  if is_0 then rtp_header_decoder_1 o else pure (Err WrongVersion)
+rtp_header_decoder o = rtp_header_lines.read o
 
 -- the writes, in order
 abbrev pub rtp_header_writes : Order → RtpHeader → List Encoder
-rtp_header_writes o value =
-    plain (word o 2 2)
-    ∷ bit value.padding
-    ∷ bit value.extension
-    ∷ unsigned o 64 4 (length value.csrc)
-    ∷ bit value.marker
-    ∷ unsigned o 8 7 value.payload_type
-    ∷ unsigned o 16 16 value.sequence
-    ∷ unsigned o 32 32 value.timestamp
-    ∷ unsigned o 32 32 value.ssrc
-    ∷ flat_map (λ x. unsigned o 32 32 x ∷ []) value.csrc
-    ++ []
+rtp_header_writes o value = rtp_header_lines.write o value
 
 -- each field fits its bits
 pub record Fits (value : RtpHeader) : Type 0 where
@@ -68,7 +60,21 @@ pub record Fits (value : RtpHeader) : Type 0 where
 
 -- the number of bits
 abbrev pub rtp_header_size : Order → RtpHeader → ℕ
-rtp_header_size o value = 96 + length value.csrc * 32
+rtp_header_size o value = rtp_header_lines.size value
+
+-- the format, with the facts that must fit by name
+abbrev pub rtp_header_format : OwnFormat RtpError RtpHeader
+rtp_header_format = renamed Fits (format rtp_header_lines (λ s. (refl, refl {a = s})))
+    (λ s fits. fits.csrc_count & fits.payload_type & fits.sequence & fits.timestamp & fits.ssrc & fits.csrc)
+    (λ s facts. record {
+      csrc_count = facts.0;
+      payload_type = facts.1.0;
+      sequence = facts.1.1.0;
+      timestamp =
+          facts.1.1.1.0;
+      ssrc = facts.1.1.1.1.0;
+      csrc = facts.1.1.1.1.1;
+    })
 
 -- the bits of all fields, up to a whole byte
 unfoldable pub rtp_header_bits : RtpHeader → List Bool

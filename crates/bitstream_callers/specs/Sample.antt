@@ -1,7 +1,10 @@
 -- A measurement of a vehicle's telemetry at one time.
 use Rattle.bitstream_callers.specs.declared.sample.Sample.{Sample}
+use Rattle.std.proofs.Common.{refl}
+use Rattle.bitstream_format.specs.Format.{◌>>=◌, Plain as PlainFormat, Parts as FormatParts, format, renamed, field, ◌&◌, done}
 use Rattle.std.specs.Prelude.{◌^◌, ◌<◌, ◌++◌, ◌∷◌, [], ℕ, Bool, List, take, drop}
-use Rattle.bitstream_io.specs.Callers.{◌>>=◌, Decoder, Encoder, pure, Order, High, number, signed_number, FitsSignedBits, first_bit, bit_decoder, unsigned_decoder, signed_decoder, bit, unsigned, signed, align, write_sequence}
+use Rattle.bitstream_io.specs.Callers.{Decoder, Encoder, Order, High, number, signed_number, FitsSignedBits, first_bit, align, write_sequence}
+use Rattle.bitstream_format.specs.Atoms as atom
 
 -- Made by `./format` from formats/sample.fields: edit that file and make this one anew.
 
@@ -9,23 +12,22 @@ use Rattle.bitstream_io.specs.Callers.{◌>>=◌, Decoder, Encoder, pure, Order,
 abbrev pub bits_at : ℕ → ℕ → List Bool → List Bool
 bits_at k n bits = take n (drop k bits)
 
+-- the lines, in order
+abbrev pub sample_lines : FormatParts Sample Sample (λ s. s)
+sample_lines = do
+  seconds ← field (atom.unsigned 32 20 refl) (λ s. s.seconds)
+  running ← field atom.bool (λ s. s.running)
+  temperature ← field (atom.signed 16 9 refl refl) (λ s. s.temperature)
+  pressure ← field (atom.unsigned 32 18 refl) (λ s. s.pressure)
+  done (record { seconds = seconds; running = running; temperature = temperature; pressure = pressure })
+
 -- the reads, in order
 abbrev pub sample_decoder : Order → Decoder Sample
-sample_decoder o = do
-  seconds ← unsigned_decoder o 32 20
-  running ← bit_decoder
-  temperature ← signed_decoder o 16 9
-  pressure ← unsigned_decoder o 32 18
-  pure (record { seconds = seconds; running = running; temperature = temperature; pressure = pressure })
+sample_decoder o = sample_lines.read o
 
 -- the writes, in order
 abbrev pub sample_writes : Order → Sample → List Encoder
-sample_writes o value =
-    unsigned o 32 20 value.seconds
-    ∷ bit value.running
-    ∷ signed o 16 9 value.temperature
-    ∷ unsigned o 32 18 value.pressure
-    ∷ []
+sample_writes o value = sample_lines.write o value
 
 -- each field fits its bits
 pub record Fits (value : Sample) : Type 0 where
@@ -36,6 +38,12 @@ pub record Fits (value : Sample) : Type 0 where
 -- the number of bits
 abbrev pub sample_size : Order → Sample → ℕ
 sample_size o value = 48
+
+-- the format, with the facts that must fit by name
+abbrev pub sample_format : PlainFormat Sample
+sample_format = renamed Fits (format sample_lines (λ s. refl {a = s}))
+    (λ s fits. fits.seconds & fits.temperature & fits.pressure)
+    (λ s facts. record { seconds = facts.0; temperature = facts.1.0; pressure = facts.1.1 })
 
 -- the bits of all fields, up to a whole byte
 unfoldable pub sample_bits : Sample → List Bool

@@ -11,7 +11,7 @@ use bitstream_io::{BitWrite, BitWriteExt, Error, ToBitStream};
 ///
 /// # Errors
 ///
-/// `Checked` for a field that does not fit its bits. Nothing is written then. Otherwise the errors of
+/// `Checked` for a field that does not fit its bits, before anything is written. Otherwise the errors of
 /// the sink: the fields before the error stay written.
 pub fn append<W: BitWrite>(writer: &mut W, header: &BlockHeader) -> Result<u32, Error>
     // If it succeeds, only the header's encodings were written.

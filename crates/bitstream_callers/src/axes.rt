@@ -1,4 +1,4 @@
-//! Numbers of a known length: one check of the bits left shows that they are there.
+//! Reads numbers of a known length: one check of the bits left shows that all of them are there.
 ghost use Rattle.std.specs.Prelude.{◌≡◌, ◌≤◌, false, length, IfSome, IsOk};
 ghost use Rattle.bitstream_io.specs.Callers.{Reads, High, bits_left, memory_source};
 ghost use Rattle.bitstream_callers.specs.Axes.{axes_decoder};

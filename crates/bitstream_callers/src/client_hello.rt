@@ -106,9 +106,9 @@ impl From<Error> for ClientHelloError {
 /// The compression methods that are offered.
 #[derive(Clone, Copy, Debug, PartialEq)]
 pub enum Compression {
-    /// 0.
+    /// Encoded as 0.
     Null,
-    /// 1.
+    /// Encoded as 1.
     Deflate,
 }
 
@@ -153,8 +153,7 @@ impl<T: Drop> From<AllocFailed<T>> for ClientHelloError {
     }
 }
 
-/// Reads `count` items of `compressions`. It stops after an item whose allocation fails.
-/// It stops after a refused item, too.
+/// Reads `count` items of `compressions`. Stops after an item that is rejected, or whose allocation fails.
 fn read_compressions<R: BitRead>(
     reader: &mut R,
     alloc: Global,
@@ -186,9 +185,9 @@ impl ClientHello {
     ///
     /// # Errors
     ///
-    /// `OtherMessage`, `NoCompression`.
-    /// The refused bits are read then.
-    /// `Reader(OutOfMemory)` if the allocation for a list fails, after the items before.
+    /// `OtherMessage` or `NoCompression`, after the rejected bits have been read.
+    /// `Reader(OutOfMemory)` if an allocation for a list fails. The items before the failure
+    /// have been read.
     /// Otherwise the reader's errors, after which it has failed.
     pub fn read<R: BitRead>(reader: &mut R, alloc: Global) -> Result<ClientHello, ClientHelloError>
         ensures { GrowsOwn R.source becomes_client_hello (client_hello_decoder R.source.order) reader.old result reader.new }
@@ -220,7 +219,8 @@ impl ClientHello {
     ///
     /// # Errors
     ///
-    /// `OtherMessage`, `NoCompression`, `Reader(EndOfInput)` if the bytes end before the fields do.
+    /// `OtherMessage` or `NoCompression` if bits are rejected.
+    /// `Reader(EndOfInput)` if the bytes end before the fields do.
     /// `Reader(OutOfMemory)` if the allocation for an item of a list fails.
     pub fn parse(packet: &[u8], alloc: Global) -> Result<ClientHello, ClientHelloError>
         ensures answer { (OwnAnswer becomes_client_hello (λ answer. answer)
@@ -240,7 +240,7 @@ impl ClientHello {
     ///
     /// # Errors
     ///
-    /// `Checked` for a field that does not fit its bits. The fields before it are written then.
+    /// `Checked` for a field that does not fit its bits. The fields before it have been written.
     /// Otherwise the sink's errors.
     pub fn write<W: BitWrite>(&self, writer: &mut W) -> Result<(), Error>
         ensures { WritesAll W.sink (client_hello_writes W.sink.order self.now) writer.old result writer.new }
@@ -267,7 +267,7 @@ impl ClientHello {
     ///
     /// `Checked` for the first field that does not fit its bits, however long the buffer is.
     /// `Stream(WriteZero)` if all fields fit, and the buffer is too short for the bits.
-    /// The first bytes of the buffer may be changed then.
+    /// After an error, the first bytes of the buffer may have changed.
     pub fn pack_into<'a>(&self, buffer: &'a mut [u8]) -> Result<SliceMut<'a>, Error>
         ensures packed { IfOk result (λ packed. bits High (written_bytes packed) ≡ client_hello_bits self.now) }
         ensures first { IfOk result (HoldsFirst buffer.entry.ghost_name buffer.old) }

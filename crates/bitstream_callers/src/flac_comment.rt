@@ -34,7 +34,7 @@ impl Model for VorbisComment {
 ///
 /// # Errors
 ///
-/// The errors of the reader, or an error for bytes that are not UTF-8. These bytes have been read then.
+/// The errors of the reader, or an error for bytes that are not UTF-8. These bytes have been read.
 fn read_entry<R: BitRead>(reader: &mut R, alloc: Global) -> Result<String, CommentError>
     ensures reads { GrowsOwn R.source becomes_reader (text_reads R.source.order)
         reader.old (result_map string_bytes result) reader.new }

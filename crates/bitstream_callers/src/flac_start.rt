@@ -60,8 +60,7 @@ impl FlacStart {
     ///
     /// # Errors
     ///
-    /// `NoFlac`.
-    /// The refused bits are read then.
+    /// `NoFlac`, after the rejected bits have been read.
     /// Otherwise the reader's errors, after which it has failed.
     pub fn read<R: BitRead>(reader: &mut R) -> Result<FlacStart, FlacStartError>
         ensures { ReadsOwn R.source becomes_flac_start (flac_start_decoder R.source.order) reader.old result reader.new }
@@ -75,7 +74,8 @@ impl FlacStart {
     ///
     /// # Errors
     ///
-    /// `NoFlac`, `Reader(EndOfInput)` for fewer than 8 bytes.
+    /// `NoFlac` if bits are rejected.
+    /// `Reader(EndOfInput)` for fewer than 8 bytes.
     pub fn parse(packet: &[u8]) -> Result<FlacStart, FlacStartError>
         ensures answer { OwnAnswer becomes_flac_start (λ answer. answer)
             (sure_answer ((flac_start_decoder High).reads 0 (bits High packet.now))) result }
@@ -97,7 +97,7 @@ impl FlacStart {
     ///
     /// # Errors
     ///
-    /// `Checked` for a field that does not fit its bits. The fields before it are written then.
+    /// `Checked` for a field that does not fit its bits. The fields before it have been written.
     /// Otherwise the sink's errors.
     pub fn write<W: BitWrite>(&self, writer: &mut W) -> Result<(), Error>
         ensures { WritesAll W.sink (flac_start_writes W.sink.order self.now) writer.old result writer.new }
@@ -114,7 +114,7 @@ impl FlacStart {
     ///
     /// `Checked` for the first field that does not fit its bits, however long the buffer is.
     /// `Stream(WriteZero)` if all fields fit, and the buffer has fewer than 8 bytes.
-    /// The first bytes of the buffer may be changed then.
+    /// After an error, the first bytes of the buffer may have changed.
     pub fn pack_into<'a>(&self, buffer: &'a mut [u8]) -> Result<SliceMut<'a>, Error>
         ensures packed { IfOk result (λ packed. bits High (written_bytes packed) ≡ flac_start_bits self.now) }
         ensures first { IfOk result (HoldsFirst buffer.entry.ghost_name buffer.old) }

@@ -49,7 +49,7 @@ impl FromBitStreamUsing for CountedBytes {
 ///
 /// # Errors
 ///
-/// `Checked` for 2^32 bytes or more. Nothing is written then. Otherwise the errors of the sink.
+/// `Checked` for 2^32 bytes or more, before anything is written. Otherwise the errors of the sink.
 pub fn write_counted_bytes<W: BitWrite>(writer: &mut W, bytes: &[u8]) -> Result<(), Error>
     ensures { WritesAll W.sink (counted_writes W.sink.order bytes.now) writer.old result writer.new }
 {

@@ -69,8 +69,7 @@ impl PrimaryHeader {
     ///
     /// # Errors
     ///
-    /// `WrongVersion`.
-    /// The refused bits are read then.
+    /// `WrongVersion`, after the rejected bits have been read.
     /// Otherwise the reader's errors, after which it has failed.
     pub fn read<R: BitRead>(reader: &mut R) -> Result<PrimaryHeader, PrimaryHeaderError>
         ensures { ReadsOwn R.source becomes_primary_header (primary_header_decoder R.source.order) reader.old result reader.new }
@@ -98,7 +97,8 @@ impl PrimaryHeader {
     ///
     /// # Errors
     ///
-    /// `WrongVersion`, `Reader(EndOfInput)` for fewer than 6 bytes.
+    /// `WrongVersion` if bits are rejected.
+    /// `Reader(EndOfInput)` for fewer than 6 bytes.
     pub fn parse(packet: &[u8]) -> Result<PrimaryHeader, PrimaryHeaderError>
         ensures answer { OwnAnswer becomes_primary_header (λ answer. answer)
             (sure_answer ((primary_header_decoder High).reads 0 (bits High packet.now))) result }
@@ -120,7 +120,7 @@ impl PrimaryHeader {
     ///
     /// # Errors
     ///
-    /// `Checked` for a field that does not fit its bits. The fields before it are written then.
+    /// `Checked` for a field that does not fit its bits. The fields before it have been written.
     /// Otherwise the sink's errors.
     pub fn write<W: BitWrite>(&self, writer: &mut W) -> Result<(), Error>
         ensures { WritesAll W.sink (primary_header_writes W.sink.order self.now) writer.old result writer.new }
@@ -142,7 +142,7 @@ impl PrimaryHeader {
     ///
     /// `Checked` for the first field that does not fit its bits, however long the buffer is.
     /// `Stream(WriteZero)` if all fields fit, and the buffer has fewer than 6 bytes.
-    /// The first bytes of the buffer may be changed then.
+    /// After an error, the first bytes of the buffer may have changed.
     pub fn pack_into<'a>(&self, buffer: &'a mut [u8]) -> Result<SliceMut<'a>, Error>
         ensures packed { IfOk result (λ packed. bits High (written_bytes packed) ≡ primary_header_bits self.now) }
         ensures first { IfOk result (HoldsFirst buffer.entry.ghost_name buffer.old) }

@@ -90,7 +90,7 @@ impl From<Error> for RtpError {
     }
 }
 
-/// Reads `count` items of `csrc`. It stops after an item whose allocation fails.
+/// Reads `count` items of `csrc`. Stops after an item whose allocation fails.
 fn read_csrc<R: BitRead>(reader: &mut R, alloc: Global, count: u64) -> Result<Vec<u32>, Error>
     ensures { GrowingOutcome R.source (items_decoder (list_item (unsigned_decoder R.source.order 32 32)) count)
         reader.old (result_map (λ found. found.items) result) reader.new }
@@ -121,9 +121,9 @@ impl RtpHeader {
     ///
     /// # Errors
     ///
-    /// `WrongVersion`.
-    /// The refused bits are read then.
-    /// `Reader(OutOfMemory)` if the allocation for a list fails, after the items before.
+    /// `WrongVersion`, after the rejected bits have been read.
+    /// `Reader(OutOfMemory)` if an allocation for a list fails. The items before the failure
+    /// have been read.
     /// Otherwise the reader's errors, after which it has failed.
     pub fn read<R: BitRead>(reader: &mut R, alloc: Global) -> Result<RtpHeader, RtpError>
         ensures { GrowsOwn R.source becomes_rtp_header (rtp_header_decoder R.source.order) reader.old result reader.new }
@@ -154,7 +154,8 @@ impl RtpHeader {
     ///
     /// # Errors
     ///
-    /// `WrongVersion`, `Reader(EndOfInput)` if the bytes end before the fields do.
+    /// `WrongVersion` if bits are rejected.
+    /// `Reader(EndOfInput)` if the bytes end before the fields do.
     /// `Reader(OutOfMemory)` if the allocation for an item of a list fails.
     pub fn parse(packet: &[u8], alloc: Global) -> Result<RtpHeader, RtpError>
         ensures answer { (OwnAnswer becomes_rtp_header (λ answer. answer)
@@ -174,7 +175,7 @@ impl RtpHeader {
     ///
     /// # Errors
     ///
-    /// `Checked` for a field that does not fit its bits. The fields before it are written then.
+    /// `Checked` for a field that does not fit its bits. The fields before it have been written.
     /// Otherwise the sink's errors.
     pub fn write<W: BitWrite>(&self, writer: &mut W) -> Result<(), Error>
         ensures { WritesAll W.sink (rtp_header_writes W.sink.order self.now) writer.old result writer.new }
@@ -199,7 +200,7 @@ impl RtpHeader {
     ///
     /// `Checked` for the first field that does not fit its bits, however long the buffer is.
     /// `Stream(WriteZero)` if all fields fit, and the buffer is too short for the bits.
-    /// The first bytes of the buffer may be changed then.
+    /// After an error, the first bytes of the buffer may have changed.
     pub fn pack_into<'a>(&self, buffer: &'a mut [u8]) -> Result<SliceMut<'a>, Error>
         ensures packed { IfOk result (λ packed. bits High (written_bytes packed) ≡ rtp_header_bits self.now) }
         ensures first { IfOk result (HoldsFirst buffer.entry.ghost_name buffer.old) }

@@ -11,8 +11,8 @@ use std::alloc::Global;
 ///
 /// # Errors
 ///
-/// The errors of the reader, and `OutOfMemory` if an allocation for the vector fails. Some of the
-/// samples have been read then, and the reader can continue.
+/// The errors of the reader, and `OutOfMemory` if an allocation for the vector fails. If so, some of
+/// the samples have been read, and the reader can continue.
 pub fn read_samples<R: BitRead>(
     alloc: Global,
     reader: &mut R,
@@ -48,7 +48,7 @@ pub fn parse_samples(alloc: Global, bytes: &[u8], count: usize) -> Result<Vec<u1
 ///
 /// # Errors
 ///
-/// `Checked` for a sample of 2^12 or more. The samples before it are written then. Otherwise the errors of the sink.
+/// `Checked` for a sample of 2^12 or more, after the samples before it have been written. Otherwise the errors of the sink.
 pub fn write_samples<W: BitWrite>(writer: &mut W, samples: &[u16]) -> Result<(), Error>
     ensures { WritesAll W.sink (samples_writes W.sink.order samples.now)
         writer.old result writer.new }
