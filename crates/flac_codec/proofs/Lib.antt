@@ -1,4 +1,5 @@
 mod ChecksumRows
+mod FileRows
 mod FrameRows
 mod HeaderRows
 mod Rows
@@ -6,10 +7,12 @@ mod StreamInfoRows
 pub mod ChannelLemmas
 pub mod ChecksumLemmas
 pub mod CodedLemmas
+pub mod FileLemmas
 pub mod FoundLemmas
 pub mod HeaderLemmas
 pub mod LosslessLemmas
 pub mod PredictLemmas
+pub mod ResidualLemmas
 pub mod ResultLemmas
 pub mod RiceLemmas
 pub mod StereoLemmas

@@ -27,7 +27,7 @@ use Rattle.flac_codec.proofs.SubframeLemmas.{fits_wide, stored-back}
 
 -- ---- calls
 
-accepted_append : (es fs : List Encoder) (from : ℕ) → AllAccepted es from → ((at : ℕ) → AllAccepted fs at)
+pub accepted_append : (es fs : List Encoder) (from : ℕ) → AllAccepted es from → ((at : ℕ) → AllAccepted fs at)
     → AllAccepted (es ++ fs) from
 accepted_append [] fs from first second = second from
 accepted_append (e ∷ es) fs from first second =
@@ -66,11 +66,11 @@ module _ {A E : Type 0} (e : Decoder (Result A E)) where
   unfolding parts_decoder
   parts-suc n = refl
 
-  none-read : IsReadAs [] (parts_decoder e 0) (Ok [])
+  pub none-read : IsReadAs [] (parts_decoder e 0) (Ok [])
   unfolding parts_decoder
   none-read len p more = refl
 
-  more-read : (n : ℕ) (ws vs : List Encoder) (xs : List A) (x : A) → IsReadAs ws (parts_decoder e n) (Ok xs)
+  pub more-read : (n : ℕ) (ws vs : List Encoder) (xs : List A) (x : A) → IsReadAs ws (parts_decoder e n) (Ok xs)
       → IsReadAs vs e (Ok x) → IsReadAs (ws ++ vs) (parts_decoder e (suc n)) (Ok (xs ++ x ∷ []))
   more-read n ws vs xs x first second =
       let last : RoundTrip (and_then e (part_then (λ y. stores {A = Result (List A) E} (Ok (xs ++ y ∷ []))))) vs (Ok (xs ++ x ∷ [])) =

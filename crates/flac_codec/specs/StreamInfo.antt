@@ -1,9 +1,12 @@
 -- The properties of all frames of a FLAC file (RFC 9639, section 8.2).
 use Rattle.flac_codec.specs.declared.stream_info.StreamInfo.{StreamInfo}
+use Rattle.std.proofs.Common.{refl}
+use Rattle.bitstream_format.specs.Format.{◌>>=◌, Plain as PlainFormat, Parts as FormatParts, format, named, field, ◌&◌, done}
 use Rattle.std.specs.Prelude.{◌≡◌, ◌^◌, ◌<◌, ◌-◌, ◌++◌, ◌∷◌, [], ℕ, Bool, List, length, take, drop}
 use Rattle.std.specs.List.{All}
 use Rattle.std.specs.Int.NonZero.{non_zero_u8_get}
-use Rattle.bitstream_io.specs.Callers.{◌>>=◌, Decoder, Encoder, pure, Order, High, number, unsigned_decoder, bytes_decoder, bytes_of, unsigned, buffer, align, non_zero, write_sequence, non_zero_u8, non_zero_u8_decoder}
+use Rattle.bitstream_io.specs.Callers.{Decoder, Encoder, Order, High, number, bytes_of, align, write_sequence, non_zero_u8}
+use Rattle.bitstream_format.specs.Atoms as atom
 
 -- Made by `./format` from formats/stream_info.fields: edit that file and make this one anew.
 
@@ -11,19 +14,19 @@ use Rattle.bitstream_io.specs.Callers.{◌>>=◌, Decoder, Encoder, pure, Order,
 abbrev pub bits_at : ℕ → ℕ → List Bool → List Bool
 bits_at k n bits = take n (drop k bits)
 
--- the reads, in order
-abbrev pub stream_info_decoder : Order → Decoder StreamInfo
-stream_info_decoder o = do
-  minimum_block_size ← unsigned_decoder o 16 16
-  maximum_block_size ← unsigned_decoder o 16 16
-  minimum_frame_size ← unsigned_decoder o 32 24
-  maximum_frame_size ← unsigned_decoder o 32 24
-  sample_rate ← unsigned_decoder o 32 20
-  channels ← non_zero_u8_decoder o 3
-  bits_per_sample ← non_zero_u8_decoder o 5
-  total_samples ← unsigned_decoder o 64 36
-  checksum ← bytes_decoder o 16
-  pure (record {
+-- the lines, in order
+abbrev pub stream_info_lines : FormatParts StreamInfo StreamInfo (λ s. s)
+stream_info_lines = do
+  minimum_block_size ← field (atom.unsigned 16 16 refl) (λ s. s.minimum_block_size)
+  maximum_block_size ← field (atom.unsigned 16 16 refl) (λ s. s.maximum_block_size)
+  minimum_frame_size ← field (atom.unsigned 32 24 refl) (λ s. s.minimum_frame_size)
+  maximum_frame_size ← field (atom.unsigned 32 24 refl) (λ s. s.maximum_frame_size)
+  sample_rate ← field (atom.unsigned 32 20 refl) (λ s. s.sample_rate)
+  channels ← field (atom.non_zero_u8 3 refl refl) (λ s. s.channels)
+  bits_per_sample ← field (atom.non_zero_u8 5 refl refl) (λ s. s.bits_per_sample)
+  total_samples ← field (atom.unsigned 64 36 refl) (λ s. s.total_samples)
+  checksum ← field (atom.bytes 16) (λ s. s.checksum)
+  done (record {
     minimum_block_size = minimum_block_size;
     maximum_block_size = maximum_block_size;
     minimum_frame_size =
@@ -36,19 +39,13 @@ stream_info_decoder o = do
     checksum = checksum;
   })
 
+-- the reads, in order
+abbrev pub stream_info_decoder : Order → Decoder StreamInfo
+stream_info_decoder o = stream_info_lines.read o
+
 -- the writes, in order
 abbrev pub stream_info_writes : Order → StreamInfo → List Encoder
-stream_info_writes o value =
-    unsigned o 16 16 value.minimum_block_size
-    ∷ unsigned o 16 16 value.maximum_block_size
-    ∷ unsigned o 32 24 value.minimum_frame_size
-    ∷ unsigned o 32 24 value.maximum_frame_size
-    ∷ unsigned o 32 20 value.sample_rate
-    ∷ non_zero o 8 3 (non_zero_u8_get value.channels)
-    ∷ non_zero o 8 5 (non_zero_u8_get value.bits_per_sample)
-    ∷ unsigned o 64 36 value.total_samples
-    ∷ buffer o value.checksum
-    ∷ []
+stream_info_writes o value = stream_info_lines.write o value
 
 -- each field fits its bits
 pub record Fits (value : StreamInfo) : Type 0 where
@@ -66,6 +63,13 @@ pub record Fits (value : StreamInfo) : Type 0 where
 -- the number of bits
 abbrev pub stream_info_size : Order → StreamInfo → ℕ
 stream_info_size o value = 272
+
+-- the format, with the facts that must fit by name
+abbrev pub stream_info_format : PlainFormat StreamInfo
+stream_info_format = named Fits (format stream_info_lines (λ s. refl {a = s}))
+    (λ s fits. fits.minimum_block_size & fits.maximum_block_size & fits.minimum_frame_size & fits.maximum_frame_size &
+    fits.sample_rate & fits.channels & fits.bits_per_sample & fits.total_samples & fits.checksum_count &
+    fits.checksum)
 
 -- the bits of all fields, up to a whole byte
 unfoldable pub stream_info_bits : StreamInfo → List Bool

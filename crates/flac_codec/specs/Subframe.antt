@@ -1,8 +1,8 @@
 -- Subframes of FLAC (RFC 9639, section 9.2): their decoder, the calls that write them, and what an encoder owes.
-use Rattle.std.specs.Prelude.{◌≡◌, ◌⊎◌, ℕ, ℤ, ◌+◌, ◌-◌, ◌==◌, nat_lt, if◌then◌else◌, true, false, List, [], ◌∷◌, ◌++◌, map, replicate, Result, Ok, Err}
+use Rattle.std.specs.Prelude.{◌≡◌, ◌⊎◌, ℕ, zero, suc, ℤ, ◌+◌, ◌-◌, ◌==◌, nat_lt, if◌then◌else◌, true, false, List, [], ◌∷◌, ◌++◌, length, map, replicate, Result, Ok, Err}
 use Rattle.std.specs.Int.{int_shl, w64}
 use Rattle.std.specs.List.{flat_map}
-use Rattle.bitstream_io.specs.Callers.{Decoder, Encoder, ◌>>=◌, pure, stores, bit_decoder, unary_decoder, unsigned_decoder, signed_decoder, part_then, Error, Order, High, OutOfMemory, bits, Done, Sink, WritesAll, AllAccepted, bit, unsigned, signed}
+use Rattle.bitstream_io.specs.Callers.{Decoder, Encoder, ◌>>=◌, pure, stores, bit_decoder, unary_decoder, unsigned_decoder, signed_decoder, part_then, Error, Order, High, OutOfMemory, bits, Done, Sink, WritesAll, AllAccepted, bit, unary_word, unsigned, signed}
 use Rattle.bitstream_io.specs.ReadBack.{IsReadAs}
 use Rattle.flac_codec.specs.Predict.{fixed_weights, predicted, restored}
 use Rattle.flac_codec.specs.Residual.{residual_decoder, samples_decoder}
@@ -98,30 +98,48 @@ samples_writes o width samples = flat_map (sample_writes o width) samples
 abbrev pub numbers_writes : Order → ℕ → List ℤ → List Encoder
 numbers_writes o parameter numbers = flat_map (rice_writes o parameter) numbers
 
--- the header of a subframe of a type with no wasted bits, and then its body
-abbrev pub headed : Order → ℕ → List Encoder → List Encoder
-headed o kind body = bit false ∷ unsigned o 32 6 kind ∷ bit false ∷ body
+-- the number of wasted bits
+abbrev pub wasted_writes : ℕ → List Encoder
+wasted_writes zero = bit false ∷ []
+wasted_writes (suc more) = bit true ∷ unary_word true more ∷ []
+
+-- the header of a subframe: its type, and the number of its wasted bits
+abbrev pub head_writes : Order → ℕ → ℕ → List Encoder
+head_writes o kind wasted = bit false ∷ unsigned o 32 6 kind ∷ wasted_writes wasted
+
+-- the header of a subframe, and then its body
+abbrev pub headed : Order → ℕ → ℕ → List Encoder → List Encoder
+headed o kind wasted body = head_writes o kind wasted ++ body
 
 -- a constant subframe
 abbrev pub constant_writes : Order → ℕ → ℤ → List Encoder
-constant_writes o width sample = headed o 0 (signed o 64 width sample ∷ [])
+constant_writes o width sample = headed o 0 0 (signed o 64 width sample ∷ [])
 
 -- a verbatim subframe
-abbrev pub verbatim_writes : Order → ℕ → List ℤ → List Encoder
-verbatim_writes o width samples = headed o 1 (samples_writes o width samples)
+abbrev pub verbatim_writes : Order → ℕ → ℕ → List ℤ → List Encoder
+verbatim_writes o width wasted samples = headed o 1 wasted (samples_writes o width samples)
 
--- the header of a residual with one partition: its coding, its partition order and its parameter
-abbrev pub residual_head : Order → ℕ → List Encoder
-residual_head o parameter = unsigned o 8 2 0 ∷ unsigned o 32 4 0 ∷ unsigned o 32 4 parameter ∷ []
+-- a partition: its parameter of `bits` bits, and Rice numbers
+abbrev pub partition_writes : Order → ℕ → ℕ → List ℤ → List Encoder
+partition_writes o bits parameter numbers = unsigned o 32 bits parameter ∷ numbers_writes o parameter numbers
 
--- a residual with one partition
-abbrev pub residual_writes : Order → ℕ → List ℤ → List Encoder
-residual_writes o parameter numbers = residual_head o parameter ++ numbers_writes o parameter numbers
+-- the header of a residual: its coding, and the order of its partitions
+abbrev pub residual_head : Order → ℕ → ℕ → List Encoder
+residual_head o coding n = unsigned o 8 2 coding ∷ unsigned o 32 4 n ∷ []
 
--- a subframe with a fixed prediction: its first samples, and the residual of the others
-abbrev pub fixed_writes : Order → ℕ → ℕ → ℕ → List ℤ → List ℤ → List Encoder
-fixed_writes o width order parameter first rest =
-    headed o (8 + order) (samples_writes o width first ++ residual_writes o parameter rest)
+-- a subframe with a fixed prediction, up to its residual: its first samples
+abbrev pub fixed_head : Order → ℕ → ℕ → ℕ → List ℤ → List Encoder
+fixed_head o width wasted order first = headed o (8 + order) wasted (samples_writes o width first)
+
+-- the precision of weights and the shift of their sum
+abbrev pub shift_writes : Order → ℕ → ℕ → List Encoder
+shift_writes o precision shift = unsigned o 32 4 (precision - 1) ∷ bit false ∷ unsigned o 32 4 shift ∷ []
+
+-- a subframe with a linear prediction, up to its residual: its first samples and its weights
+abbrev pub linear_head : Order → ℕ → ℕ → List ℤ → ℕ → ℕ → List ℤ → List Encoder
+linear_head o width wasted first precision shift weights =
+    headed o (31 + length weights) wasted
+    (samples_writes o width first ++ (shift_writes o precision shift ++ samples_writes o precision weights))
 
 -- ---- what an encoder owes
 

@@ -1,7 +1,11 @@
--- What a part of an encoder owes that writes several values.
-use Rattle.std.specs.Prelude.{◌≡◌, ◌⊎◌, ℕ, List, MatchResult, Result, Ok, Err}
+-- What a part of an encoder owes that writes several values, or a part of a file.
+use Rattle.std.specs.Prelude.{◌≡◌, ◌⊎◌, ◌≤◌, ℕ, ℤ, true, List, ◌++◌, length, MatchResult, Result, Ok, Err}
 use Rattle.bitstream_io.specs.Callers.{Decoder, Encoder, Error, OutOfMemory, Sink, WritesAll, AllAccepted}
+use Rattle.flac_codec.specs.Encodable.{IsFormat}
+use Rattle.flac_codec.specs.File.{block_at, info_at}
+use Rattle.flac_codec.specs.Frame.{IsFoundIn}
 use Rattle.flac_codec.specs.Subframe.{WritesValue}
+use Rattle.flac_codec.specs.declared.stream_info.StreamInfo.{StreamInfo}
 
 -- write calls were made in order, up to the first that failed; none of them has an error of its own
 pub record MakesCalls {S : Type 0} (K : Sink S) (old : S) (result : Result (Unit {0}) Error) (new : S) : Type 0 where
@@ -14,3 +18,13 @@ abbrev pub WritesPart : {S A E : Type 0} → Sink S → Decoder (Result A E) →
 WritesPart K decoder value old result new =
     MatchResult result (λ _. WritesValue K decoder value old (Ok tt) new)
     (λ error. MakesCalls K old (Err error) new ⊎ (error ≡ OutOfMemory))
+
+-- bytes of a file up to its frames: STREAMINFO is the only block of metadata
+abbrev pub IsMetadata : StreamInfo → List ℕ → Type 0
+IsMetadata info bytes = (length bytes ≡ 42) × ((more : List ℕ) → info_at (bytes ++ more) ≡ Ok (info, true))
+
+-- bytes of a frame with these channels, in each file whose samples have `sample_size` bits in `count` channels
+abbrev pub IsBlock : ℕ → ℕ → List ℕ → List (List ℤ) → Type 0
+IsBlock sample_size count bytes channels =
+    (1 ≤ length bytes)
+    × ((info : StreamInfo) → IsFormat sample_size count info → IsFoundIn (block_at info) bytes channels)

@@ -1,4 +1,4 @@
-//! The channels of a frame (sections 4.2 and 9.2), written.
+//! Writes the channels of a frame (sections 4.2 and 9.2).
 ghost use Rattle.std.specs.Prelude.{◌≡◌, ◌<◌, ◌≤◌, ◌∷◌, [], length, map};
 ghost use Rattle.std.specs.List.{All};
 ghost use Rattle.bitstream_io.specs.Callers.{parts_decoder, FitsSignedBits};

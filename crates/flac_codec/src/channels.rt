@@ -1,4 +1,4 @@
-//! The channels of a frame (sections 4.2 and 9.2), read.
+//! Reads the channels of a frame (sections 4.2 and 9.2).
 ghost use Rattle.std.specs.Prelude.{◌≡◌, ◌<◌, ◌∷◌, [], map, IfOk, MatchResult};
 ghost use Rattle.bitstream_io.specs.Callers.{parts_decoder, result_map, GrowsOwn, OutOfMemory};
 ghost use Rattle.flac_codec.specs.Channels.{channels_decoder, first_width, joined, less, more, pair_decoder, second_width};
@@ -12,7 +12,7 @@ use crate::reading::read_subframe;
 use bitstream_io::BitRead;
 use std::alloc::{AllocFailed, Global};
 
-/// Reads the channels of a block, of samples of `width` bits. The side of two channels has one bit more.
+/// Reads the channels of a block, of samples of `width` bits. The difference of two channels has one more bit.
 ///
 /// # Errors
 ///
@@ -132,7 +132,7 @@ fn both(alloc: Global, first: Vec<i64>, second: Vec<i64>) -> Result<Vec<Vec<i64>
     Ok(found)
 }
 
-/// Returns samples less those of another channel, each shifted to the right.
+/// Shifts the samples `ys` right, and returns the samples `xs` minus them.
 pub(crate) fn less(
     alloc: Global,
     xs: &[i64],
@@ -152,7 +152,7 @@ pub(crate) fn less(
     Ok(found)
 }
 
-/// Returns samples and those of another channel, each shifted to the right, added.
+/// Shifts the samples `ys` right, and returns the samples `xs` plus them.
 pub(crate) fn more(
     alloc: Global,
     xs: &[i64],

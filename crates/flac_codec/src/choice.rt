@@ -17,7 +17,7 @@ pub(crate) fn all_equal(samples: &[i64]) -> bool
     true
 }
 
-/// Returns true if each number has 32 bits, as a residual must.
+/// Returns true if each number fits in 32 bits, as a number of a residual must.
 pub(crate) fn all_small(numbers: &[i64]) -> bool
     ensures { result ≡ true → All (λ number. zig number < 2 ^ 32) numbers.now }
 {
@@ -29,7 +29,7 @@ pub(crate) fn all_small(numbers: &[i64]) -> bool
     true
 }
 
-/// Returns true if a number has 32 bits.
+/// Returns true if a number fits in 32 bits.
 fn is_small(number: i64) -> bool
     ensures { result ≡ true → zig number < 2 ^ 32 }
 {
@@ -47,25 +47,25 @@ pub(crate) fn best_order(samples: &[i64]) -> u32
     let sums = difference_sums(samples);
     let mut best = 0u32;
     let mut least = sums[0];
-    if sums[1] < least && samples.len() >= 1 {
+    if sums[1] < least && samples.len() > 1 {
         best = 1;
         least = sums[1];
     }
-    if sums[2] < least && samples.len() >= 2 {
+    if sums[2] < least && samples.len() > 2 {
         best = 2;
         least = sums[2];
     }
-    if sums[3] < least && samples.len() >= 3 {
+    if sums[3] < least && samples.len() > 3 {
         best = 3;
         least = sums[3];
     }
-    if sums[4] < least && samples.len() >= 4 {
+    if sums[4] < least && samples.len() > 4 {
         best = 4;
     }
     best
 }
 
-/// Returns the sum of the differences of each order, without their signs. Those of the first four samples are left out.
+/// Returns for each order the sum of the absolute differences, without the differences of the first four samples.
 fn difference_sums(samples: &[i64]) -> [u64; 5] {
     let mut last = [0i64; 4];
     let mut sums = [0u64; 5];
@@ -85,24 +85,76 @@ fn difference_sums(samples: &[i64]) -> [u64; 5] {
     sums
 }
 
-/// Returns a parameter that makes the Rice numbers short: the number of bits of their mean, at most 14.
-pub(crate) fn best_parameter(numbers: &[i64]) -> u32
-    ensures { result < 15 }
+/// Returns the parameter, at most `most`, with which Rice numbers are short: the best one of three.
+pub(crate) fn best_parameter(numbers: &[i64], most: u32) -> u32
+    requires { most < 32 }
+    ensures { result ≤ most }
 {
+    let likely = likely_parameter(sum_of_places(numbers), numbers.len() as u64).min(most);
+    let less = likely.saturating_sub(1);
+    let more = (likely + 1).min(most);
+    let bits = rice_bits(numbers, likely);
+    if rice_bits(numbers, less) < bits {
+        return less;
+    }
+    if rice_bits(numbers, more) < bits {
+        return more;
+    }
+    likely
+}
+
+/// Returns the number of bits of Rice numbers with a parameter, modulo 2^64.
+pub(crate) fn rice_bits(numbers: &[i64], parameter: u32) -> u64
+    requires { parameter < 64 }
+{
+    let mut bits = (numbers.len() as u64).wrapping_mul(parameter as u64 + 1);
+    for number in numbers {
+        bits = bits.wrapping_add(place(*number) >> parameter);
+    }
+    bits
+}
+
+/// Returns the sum of the places of numbers, modulo 2^64.
+pub(crate) fn sum_of_places(numbers: &[i64]) -> u64 {
     let mut sum = 0u64;
     for number in numbers {
-        sum = sum.wrapping_add(number.unsigned_abs());
+        sum = sum.wrapping_add(place(*number));
     }
-    let count = numbers.len() as u64;
+    sum
+}
+
+/// Returns the place of a number in the order 0, -1, 1, -2, 2 and so on, modulo 2^64.
+#[inline(always)]
+fn place(number: i64) -> u64 {
+    let twice = number.unsigned_abs().wrapping_mul(2);
+    if number < 0 {
+        twice.wrapping_sub(1)
+    } else {
+        twice
+    }
+}
+
+/// Returns the parameter for which fewest bits are expected for Rice numbers, if their places have this sum.
+pub(crate) fn likely_parameter(sum: u64, count: u64) -> u32
+    ensures { result ≤ 30 }
+{
     if count == 0 {
         return 0;
     }
     let mean = sum / count;
-    let mut parameter = 0u32;
-    for k in 0..14u32 {
-        if mean >> k > 0 {
-            parameter = k + 1;
-        }
-    }
-    if parameter < 15 { parameter } else { 14 }
+    63u32.saturating_sub((mean | 1).leading_zeros()).min(30)
+}
+
+/// Returns the number of bits that is expected for Rice numbers whose places have this sum. The low bits that the high
+/// parts lack are half of them in the mean.
+pub(crate) fn expected_bits(sum: u64, count: u64, parameter: u32) -> u64
+    requires { parameter < 64 }
+{
+    let high = sum >> parameter;
+    let high = if parameter > 0 {
+        high.saturating_sub(count / 2)
+    } else {
+        high
+    };
+    count.wrapping_mul(parameter as u64 + 1).wrapping_add(high)
 }

@@ -56,7 +56,7 @@ fn shortest(least: u64, number: u64) -> Result<u64, FlacError>
     Ok(number)
 }
 
-/// Reads the bytes after the bits of `number`, which have six bits each.
+/// Reads the bytes that follow the bits of `number`. Each adds six bits.
 fn read_rest<R: BitRead>(
     reader: &mut R,
     least: u64,

@@ -1,12 +1,12 @@
-//! What is wrong with an encoded subframe or frame.
+//! The errors of an encoded subframe, frame or file.
 
 use bitstream_io::Error;
 use std::alloc::{AllocError, AllocFailed};
 
-/// The reasons for which a subframe or a frame is not decoded.
+/// The reasons for which a subframe, a frame or a file is not decoded.
 #[derive(Debug, Drop, thiserror::Error)]
 pub enum FlacError {
-    /// The bits were not read, or memory was refused.
+    /// The bits were not read, or an allocation failed.
     #[error("{0}")]
     Reader(Error),
     /// No frame begins here: the first 15 bits are not its sync code.
@@ -30,7 +30,7 @@ pub enum FlacError {
     /// The code of the bits of a sample is reserved.
     #[error("the sample size is reserved")]
     ReservedSampleSize,
-    /// The coded number is none.
+    /// The bytes of the coded number encode no number.
     #[error("no coded number")]
     NotCoded,
     /// The coded number has more bytes than it needs.
@@ -39,7 +39,7 @@ pub enum FlacError {
     /// The type of the subframe is reserved.
     #[error("the type of the subframe is reserved")]
     ReservedSubframe,
-    /// All bits of the samples are wasted, or more.
+    /// The number of wasted bits is not below the number of bits of a sample.
     #[error("too many wasted bits")]
     TooManyWastedBits,
     /// The precision of the coefficients is reserved.
@@ -51,18 +51,36 @@ pub enum FlacError {
     /// The coding of the residual is reserved.
     #[error("the coding of the residual is reserved")]
     ReservedResidual,
-    /// The block is not of whole partitions.
+    /// The block does not divide into whole partitions.
     #[error("the block is not of whole partitions")]
     Partitions,
     /// The first partition has fewer samples than the prediction needs.
     #[error("the block is too short for its prediction")]
     ShortBlock,
-    /// The checksum of the frame's header is not that of its bits.
+    /// The checksum of the frame's header does not match its bits.
     #[error("the checksum of the frame's header is wrong")]
     HeaderChecksum,
-    /// The checksum of the frame is not that of its bits.
+    /// The checksum of the frame does not match its bits.
     #[error("the checksum of the frame is wrong")]
     FrameChecksum,
+    /// The file does not begin with `fLaC`.
+    #[error("no FLAC file")]
+    NoFlac,
+    /// The first block of metadata is not a STREAMINFO of 34 bytes.
+    #[error("the metadata begins with no STREAMINFO")]
+    NoStreamInfo,
+    /// The frame has another number of channels than STREAMINFO.
+    #[error("the frame has {0} channels, and STREAMINFO has {1}")]
+    OtherChannels(u8, u8),
+    /// The samples of the frame have another number of bits than STREAMINFO.
+    #[error("the samples of the frame have {0} bits, and those of STREAMINFO have {1}")]
+    OtherSampleSize(u8, u8),
+    /// The frame has another sample rate than STREAMINFO.
+    #[error("the frame has {0} samples a second, and STREAMINFO has {1}")]
+    OtherSampleRate(u32, u32),
+    /// The channels have another number of samples than STREAMINFO.
+    #[error("the file has {0} samples in a channel, and STREAMINFO has {1}")]
+    OtherSampleCount(u64, u64),
 }
 
 impl From<Error> for FlacError {

@@ -1,4 +1,4 @@
-//! Frames in memory (section 9), decoded.
+//! Decodes frames in memory (section 9).
 ghost use Rattle.std.specs.Prelude.{◌≡◌, ◌≤◌, map, length, IfOk};
 ghost use Rattle.bitstream_io.specs.Callers.{result_map, High};
 ghost use Rattle.flac_codec.specs.Channels.{channels_decoder};
@@ -37,8 +37,8 @@ struct ChannelsAt {
     size: usize,
 }
 
-/// Decodes the frame at the start of bytes. `sample_size` has the bits of a sample of the file, for a header that leaves them
-/// to STREAMINFO.
+/// Decodes the frame at the start of bytes. `sample_size` is the number of bits of a sample in the file, for a header that
+/// leaves it to STREAMINFO.
 ///
 /// # Errors
 ///
@@ -150,28 +150,4 @@ fn check_crc16(bytes: &[u8], size: usize) -> Result<(), FlacError>
         return Err(FlacError::FrameChecksum);
     }
     Ok(())
-}
-
-#[cfg(test)]
-mod tests {
-    use super::*;
-    use std::test::Fail;
-
-    // The second frame of the second example of RFC 9639 (appendix D.2): three samples in two verbatim channels.
-    #[test]
-    fn decodes_a_frame_of_the_rfc(rt: HostRuntime) -> Result<(), Fail> {
-        let bytes = [
-            0xff, 0xf8, 0x69, 0x18, 0x01, 0x02, 0xa4, 0x02, 0xc3, 0x82, 0xc4, 0x0b, 0xc1, 0x4a,
-            0x03, 0xee, 0x48, 0xdd, 0x03, 0xb6, 0x7c, 0x13, 0x30,
-        ];
-        let frame = decode_frame(rt.alloc(), 16, &bytes)?;
-        assert_eq!(rt; frame.size, 23);
-        assert_eq!(rt; frame.header.number, 1);
-        assert_eq!(rt; frame.channels.len(), 2);
-        assert_eq!(rt;
-            frame.channels[0].as_slice(),
-            [-15486, -15349, -16054].as_slice()
-        );
-        Ok(())
-    }
 }

@@ -1,4 +1,4 @@
-//! Frames in memory (section 9), encoded.
+//! Encodes frames in memory (section 9).
 ghost use Rattle.std.specs.Prelude.{◌≡◌, ◌≤◌, length, map, MatchResult};
 ghost use Rattle.std.specs.List.{All};
 ghost use Rattle.bitstream_io.specs.Callers.{FitsSignedBits, High, OutOfMemory};
@@ -16,12 +16,12 @@ use crate::heading::write_header;
 use bitstream_io::{BE, BitWrite, BitWriter, Error, Growing};
 use std::alloc::Global;
 
-/// Returns a frame of these channels, left before right. `sample_size` has the bits of a sample of the file, for a header
-/// that leaves them to STREAMINFO.
+/// Returns a frame of these channels, left before right. `sample_size` is the number of bits of a sample in the file, for
+/// a header that leaves it to STREAMINFO.
 ///
 /// # Errors
 ///
-/// Memory was refused.
+/// An allocation failed.
 pub fn encode_frame(
     alloc: Global,
     sample_size: u8,
@@ -52,7 +52,7 @@ pub fn encode_frame(
 ///
 /// # Errors
 ///
-/// Memory was refused.
+/// An allocation failed.
 pub fn frame_round_trip(
     alloc: Global,
     sample_size: u8,

@@ -1,4 +1,4 @@
-//! The header of a frame (section 9.1), read.
+//! Reads the header of a frame (section 9.1).
 ghost use Rattle.std.specs.Prelude.{◌≡◌, ◌<◌, IfOk};
 ghost use Rattle.bitstream_io.specs.Callers.{ReadsOwn};
 ghost use Rattle.flac_codec.specs.Errors.{becomes_flac};
@@ -11,28 +11,28 @@ use bitstream_io::{BitRead, BitReadExt, Bits};
 /// The coding of the channels of a frame.
 #[derive(Clone, Copy, Debug, PartialEq, Eq)]
 pub enum Channels {
-    /// Each by itself: one to eight of them.
+    /// One to eight independent channels.
     Independent(u8),
-    /// Two: the left one, and the difference of both, which has a bit more.
+    /// Two channels: the left one, and the difference of left and right, which has one more bit.
     LeftSide,
-    /// Two: the difference of both, which has a bit more, and the right one.
+    /// Two channels: the difference of left and right, which has one more bit, and the right one.
     SideRight,
-    /// Two: the mean of both, and the difference, which has a bit more.
+    /// Two channels: the mean of left and right, and their difference, which has one more bit.
     MidSide,
 }
 
 /// The header of a frame.
 #[derive(Clone, Copy, Debug, PartialEq, Eq)]
 pub struct FrameHeader {
-    /// True if the number is that of the first sample, and not of the frame.
+    /// True if `number` is the number of the frame's first sample, and not of the frame.
     pub variable: bool,
-    /// The samples of each channel, 1 to 65535.
+    /// The number of samples of each channel, 1 to 65535.
     pub block_size: u32,
-    /// Samples a second, or 0 if only STREAMINFO has the number.
+    /// The number of samples a second, or 0 if only STREAMINFO states it.
     pub sample_rate: u32,
     /// The coding of the channels.
     pub channels: Channels,
-    /// The bits of a sample, 8 to 32, or 0 if only STREAMINFO has the number.
+    /// The number of bits of a sample, 8 to 32, or 0 if only STREAMINFO states it.
     pub sample_size: u8,
     /// The number of the frame, or of its first sample.
     pub number: u64,

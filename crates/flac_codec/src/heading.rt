@@ -1,4 +1,4 @@
-//! The header of a frame (section 9.1), written.
+//! Writes the header of a frame (section 9.1).
 ghost use Rattle.std.specs.Prelude.{◌≡◌, ◌<◌, ◌≤◌, Ok};
 ghost use Rattle.bitstream_io.specs.Callers.{WritesAll};
 ghost use Rattle.flac_codec.specs.Header.{block_size_writes, channels_of, codes_writes, header_decoder, header_writes, sample_rate_writes, sample_size_of, AreCodes, IsBlockSizeCode, IsChannels, IsHeader, IsSampleRate, IsSampleRateCode, IsSampleSize};
@@ -21,7 +21,7 @@ pub fn write_header<W: BitWrite>(writer: &mut W, header: &FrameHeader) -> Result
     write_coded_header(writer, codes, header)
 }
 
-/// Returns codes of a header: those that are followed by no number, where there are such.
+/// Returns the codes for a header: where possible, codes that no number follows.
 fn codes_of(header: &FrameHeader) -> Codes
     requires { IsHeader header.now }
     ensures { AreCodes header.now result }

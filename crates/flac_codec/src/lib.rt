@@ -1,10 +1,14 @@
-//! Subframes and frames of FLAC (RFC 9639, section 9), proved lossless: [`decode`] returns the samples that [`encode`] was
-//! given, and [`decode_frame`] the header and the channels that [`encode_frame`] was given.
+//! Subframes, frames and files of FLAC (RFC 9639), proved lossless: [`decode`] returns the samples that [`encode`]
+//! encoded, [`decode_frame`] the header and the channels that [`encode_frame`] encoded, and [`decode_file`] those that
+//! [`encode_file`] encoded.
+//!
+//! [`is_frame`] tests what [`encode_frame`] requires, and [`is_file`] what [`encode_file`] requires. [`stream_info`] is
+//! STREAMINFO, printed by `./format`.
 //!
 //! The definitions of `specs/` are the format: `subframe_decoder` (`Subframe.antt`), `header_decoder` (`Header.antt`),
-//! `crc8` and `crc16` (`Checksum.antt`), `channels_decoder` (`Channels.antt`) and `frame_at` (`Frame.antt`). What is read is
-//! what they say, for every stream. What is written are bits from which they read the value; which codes and which kind of
-//! subframe are chosen is left open, so a better choice needs no new contract.
+//! `crc8` and `crc16` (`Checksum.antt`), `channels_decoder` (`Channels.antt`), `frame_at` (`Frame.antt`) and `file_at`
+//! (`File.antt`). A read returns what they state, for every stream. A write produces bits from which they read the value.
+//! The choice of codes and of the kind of subframe is left open, so a better choice needs no new contract.
 #![tactic(auto)]
 
 mod channel_writing;
@@ -13,25 +17,36 @@ mod checksum;
 mod choice;
 mod coded;
 mod error;
+mod file;
+mod filing;
 mod fits;
 mod frame;
 mod framing;
 mod header;
 mod heading;
+mod linear;
 mod lossless;
+mod metadata;
 mod numbers;
+mod partitions;
 mod predict;
 mod reading;
 mod residual;
+mod residual_writing;
 mod rice;
+mod samples;
+mod stereo;
 pub mod stream_info;
+mod wasted;
 mod writing;
 
 pub use channels::read_channels;
 pub use checksum::{crc8, crc16};
 pub use coded::read_coded;
 pub use error::FlacError;
-pub use fits::is_frame;
+pub use file::{File, FileHeader, decode_file};
+pub use filing::{encode_file, file_round_trip};
+pub use fits::{is_file, is_frame};
 pub use frame::{Frame, decode_frame};
 pub use framing::{encode_frame, frame_round_trip};
 pub use header::{Channels, FrameHeader, read_header};
@@ -39,4 +54,6 @@ pub use heading::write_header;
 pub use lossless::{decode, encode, round_trip};
 pub use reading::read_subframe;
 pub use rice::{read_rice, rice_round_trip, write_rice};
+pub use samples::sample_bytes;
+pub use stereo::best_channels;
 pub use writing::write_subframe;

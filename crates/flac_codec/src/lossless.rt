@@ -17,7 +17,7 @@ use std::alloc::Global;
 ///
 /// # Errors
 ///
-/// Memory was refused.
+/// An allocation failed.
 pub fn encode(alloc: Global, width: u32, samples: &[i64]) -> Result<Vec<u8>, Error>
     requires some { 1 ≤ width }
     requires within { width ≤ 64 }
@@ -52,7 +52,7 @@ pub fn decode(alloc: Global, width: u32, count: u32, bytes: &[u8]) -> Result<Vec
 ///
 /// # Errors
 ///
-/// Memory was refused.
+/// An allocation failed.
 pub fn round_trip(alloc: Global, width: u32, samples: &[i64]) -> Result<Vec<i64>, FlacError>
     requires some { 1 ≤ width }
     requires within { width ≤ 64 }

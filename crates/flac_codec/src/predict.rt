@@ -4,8 +4,8 @@ ghost use Rattle.flac_codec.specs.Predict.{fixed_weights, predicted, residual, r
 
 use std::alloc::{AllocFailed, Global};
 
-/// Returns the weighted sum of the last samples modulo 2^64, without its `shift` lowest bits. The first weight is that of
-/// the last sample.
+/// Returns the weighted sum of the last samples modulo 2^64, without its `shift` lowest bits. The first weight belongs
+/// to the last sample.
 fn predicted(samples: &[i64], weights: &[i64], shift: u32) -> i64
     requires enough { length weights.now ≤ length samples.now }
     requires within { shift < 64 }
@@ -18,7 +18,7 @@ fn predicted(samples: &[i64], weights: &[i64], shift: u32) -> i64
     sum >> shift
 }
 
-/// Appends the samples of a residual: each is the prediction from the samples before it, and the difference.
+/// Appends the samples of a residual: each is the prediction from the samples before it, plus the difference.
 pub(crate) fn restore(
     samples: &mut Vec<i64>,
     residual: &[i64],
@@ -57,20 +57,22 @@ pub(crate) fn restore_fixed(
     }
 }
 
-/// Returns the differences of samples from their predictions. There is none for the first samples, which predict the
-/// others.
-fn residual_of(
+/// Returns the differences of samples from their predictions. The first samples, which predict the others, have no
+/// difference.
+pub(crate) fn residual_of(
     alloc: Global,
     samples: &[i64],
     weights: &[i64],
+    shift: u32,
 ) -> Result<Vec<i64>, AllocFailed<i64>>
-    requires { length weights.now ≤ length samples.now }
-    ensures { IfOk result (λ found. found.items ≡ residual (predicted weights.now 0)
+    requires enough { length weights.now ≤ length samples.now }
+    requires within { shift < 64 }
+    ensures { IfOk result (λ found. found.items ≡ residual (predicted weights.now shift)
         (take (length weights.now) samples.now) (drop (length weights.now) samples.now)) }
 {
     let mut residual = Vec::new(alloc);
     for at in weights.len()..samples.len() {
-        let prediction = predicted(&samples[..at], weights, 0);
+        let prediction = predicted(&samples[..at], weights, shift);
         residual.push(samples[at].wrapping_sub(prediction))?;
     }
     Ok(residual)
@@ -88,10 +90,10 @@ pub(crate) fn fixed_residual(
         (take order samples.now) (drop order samples.now)) }
 {
     match order {
-        0 => residual_of(alloc, samples, [].as_slice()),
-        1 => residual_of(alloc, samples, [1i64].as_slice()),
-        2 => residual_of(alloc, samples, [2i64, -1].as_slice()),
-        3 => residual_of(alloc, samples, [3i64, -3, 1].as_slice()),
-        _ => residual_of(alloc, samples, [4i64, -6, 4, -1].as_slice()),
+        0 => residual_of(alloc, samples, [].as_slice(), 0),
+        1 => residual_of(alloc, samples, [1i64].as_slice(), 0),
+        2 => residual_of(alloc, samples, [2i64, -1].as_slice(), 0),
+        3 => residual_of(alloc, samples, [3i64, -3, 1].as_slice(), 0),
+        _ => residual_of(alloc, samples, [4i64, -6, 4, -1].as_slice(), 0),
     }
 }

@@ -1,4 +1,4 @@
-//! Subframes, read (section 9.2).
+//! Reads subframes (section 9.2).
 ghost use Rattle.std.specs.Prelude.{◌≡◌, ◌<◌, ◌≤◌, map, IfOk};
 ghost use Rattle.bitstream_io.specs.Callers.{result_map, GrowsOwn};
 ghost use Rattle.flac_codec.specs.Errors.{becomes_flac};
@@ -17,9 +17,9 @@ use std::alloc::{AllocFailed, Global};
 /// # Errors
 ///
 /// `ReservedBit` for a first bit 1, `TooManyWastedBits`, `ReservedSubframe` for another type, `ReservedPrecision`
-/// and `NegativeShift` for the coefficients, `ReservedResidual` for a
-/// reserved coding, `Partitions` for a block that is not of whole partitions, and `ShortBlock` for a first partition that
-/// is shorter than the order of the prediction. Those of the reader; memory was refused.
+/// and `NegativeShift` for the coefficients, `ReservedResidual` for a reserved coding, `Partitions` for a block that does not
+/// divide into whole partitions, and `ShortBlock` for a first partition that is shorter than the order of the prediction. The
+/// errors of the reader, and an error for a failed allocation.
 pub fn read_subframe<R: BitRead>(
     reader: &mut R,
     alloc: Global,

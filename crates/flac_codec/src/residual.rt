@@ -1,4 +1,4 @@
-//! Residuals, read (section 9.2.7): partitions of Rice numbers, or of numbers that are not coded.
+//! Reads residuals (section 9.2.7): partitions of Rice numbers, or of numbers that are not coded.
 ghost use Rattle.std.specs.Prelude.{◌≡◌, ◌≤◌};
 ghost use Rattle.bitstream_io.specs.Callers.{result_map, GrowsOwn};
 ghost use Rattle.flac_codec.specs.Errors.{becomes_flac};

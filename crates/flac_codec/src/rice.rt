@@ -6,8 +6,8 @@ ghost use Rattle.flac_codec.specs.Rice.{rice_decoder, rice_writes};
 
 use bitstream_io::{BitRead, BitReadExt, BitWrite, BitWriteExt, Bits, Error};
 
-/// Reads a Rice number. The high part of its place in the order 0, -1, 1, -2, 2 and so on is in unary, and `parameter`
-/// low bits of the place follow.
+/// Reads a Rice number: its place in the order 0, -1, 1, -2, 2 and so on, with the high part in unary and then `parameter`
+/// low bits.
 ///
 /// # Errors
 ///

@@ -5,5 +5,5 @@ use Rattle.flac_codec.proofs.predict.residual_of.Given as goal
 -- what is left so far, and then what is still to come
 abbrev pub invariant-loop-at : goal.invariant-loop-at
 invariant-loop-at l =
-    l.residual.items ++ residual (predicted l.weights 0) (take l.at l.samples) (drop l.at l.samples)
-    ≡ residual (predicted l.weights 0) (take (length l.weights) l.samples) (drop (length l.weights) l.samples)
+    l.residual.items ++ residual (predicted l.weights l.shift) (take l.at l.samples) (drop l.at l.samples)
+    ≡ residual (predicted l.weights l.shift) (take (length l.weights) l.samples) (drop (length l.weights) l.samples)

@@ -6,18 +6,13 @@ use Rattle.bitstream_io.specs.Callers.{Failed, Order, OutOfMemory}
 use Rattle.bitstream_io.proofs.CallerLemmas.{part_go, part_stop, parts-begin, parts-push, parts-refused, parts-stop, grown_is}
 use Rattle.flac_codec.specs.Residual.{partition_decoder}
 use Rattle.flac_codec.specs.declared.error.FlacError.TheVariants.{Reader}
+use Rattle.flac_codec.proofs.ResidualLemmas.{joined-more}
 use Rattle.flac_codec.proofs.ResultLemmas.{map_is}
 use Rattle.flac_codec.proofs.residual.read_partitions.Goals as goal
 
 partition-on_failed : (o : Order) (bits count : ℕ) → (partition_decoder o bits count).on_failed ≡ Err Failed
 unfolding and_then unsigned_decoder
 partition-on_failed o bits count = refl
-
-joined-more : (parts : List (List ℤ)) (part : List ℤ)
-    → flat_map (λ xs. xs) (parts ++ part ∷ []) ≡ flat_map (λ xs. xs) parts ++ part
-joined-more [] part = append-nil part
-joined-more (first ∷ parts) part =
-    ap (λ xs. first ++ xs) (joined-more parts part) ∙ sym (append_assoc first (flat_map (λ xs. xs) parts) part)
 
 pushed : (numbers found first part : List ℤ) (parts : List (List ℤ)) → found ≡ numbers ++ part
     → numbers ≡ first ++ flat_map (λ xs. xs) parts → found ≡ first ++ flat_map (λ xs. xs) (parts ++ part ∷ [])

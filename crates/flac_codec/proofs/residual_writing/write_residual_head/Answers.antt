@@ -1,7 +1,7 @@
 use Rattle.bitstream_io.proofs.CallerLemmas.{few_writes}
 use Rattle.bitstream_io.proofs.WriteParts.{all_none}
 use Rattle.bitstream_io.proofs.WriteSteps.{next_write}
-use Rattle.flac_codec.proofs.writing.write_residual_head.Goals as goal
+use Rattle.flac_codec.proofs.residual_writing.write_residual_head.Goals as goal
 
 pub returns-in_err-write : goal.returns-in_err-write
 returns-in_err-write g c = search few_writes depth 12
@@ -9,10 +9,7 @@ returns-in_err-write g c = search few_writes depth 12
 pub returns-in_err-write-2 : goal.returns-in_err-write-2
 returns-in_err-write-2 g c = search few_writes depth 12
 
-pub returns-in_err-write-3 : goal.returns-in_err-write-3
-returns-in_err-write-3 g c = search few_writes depth 12
-
 pub returns : goal.returns
 returns g c =
     next_write _ _ _ _ _ _ _ c.in_ok-write.ensures.writes (next_write _ _ _ _ _ _ _ c.in_ok-write-2.ensures.writes
-    (next_write _ _ _ _ _ _ _ c.in_ok-write-3.ensures.writes (all_none _ _)))
+    (all_none _ _))
