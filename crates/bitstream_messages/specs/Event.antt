@@ -9,10 +9,15 @@ use Rattle.bitstream_messages.specs.declared.event.What.TheVariants.{Marked as W
 use Rattle.bitstream_messages.specs.declared.mark.Mark.{Mark}
 use Rattle.bitstream_messages.specs.declared.mark.MarkError.{MarkError}
 use Rattle.bitstream_messages.specs.declared.mark.MarkError.TheVariants.{Reader as MarkReader, NoMark as MarkNoMark}
-use Rattle.bitstream_messages.specs.Mark.{mark_decoder, mark_writes, mark_size, Fits as MarkFits}
-use Rattle.bitstream_messages.specs.Ack.{ack_decoder, ack_writes, ack_size, Fits as AckFits}
-use Rattle.std.specs.Prelude.{◌≡◌, ◌+◌, ◌++◌, ◌∷◌, [], ◌==◌, if◌then◌else◌, ℕ, Bool, List, Result, Ok, Err, ⊤}
-use Rattle.bitstream_io.specs.Callers.{Decoder, Encoder, pure, Error, Order, High, and_then, unsigned_decoder, unsigned, align, write_sequence, part_then}
+use Rattle.bitstream_messages.specs.Mark.{mark_decoder, mark_writes, mark_size, mark_format, Fits as MarkFits}
+use Rattle.bitstream_messages.specs.Ack.{ack_decoder, ack_writes, ack_size, ack_format, Fits as AckFits}
+use Rattle.std.proofs.Common.{refl, true, arith}
+use Rattle.bitstream_format.specs.Format.{◌>>=◌, Own as OwnFormat, Parts as FormatParts, format, named, own_field, ◌&◌, own_done}
+use Rattle.bitstream_format.specs.Lists.{with_error, error_of}
+use Rattle.bitstream_format.specs.Cases.{cases}
+use Rattle.bitstream_format.specs.Chosen.{Choice as FormatChoice, chosen, Goes as CaseGoes, held-goes, plain_held-goes, alone-goes}
+use Rattle.std.specs.Prelude.{◌≡◌, ◌^◌, ◌<◌, ◌++◌, ◌∷◌, [], ◌==◌, if◌then◌else◌, ℕ, Bool, List, Result, Ok, Err, ⊤, nat_lt}
+use Rattle.bitstream_io.specs.Callers.{Decoder, Encoder, pure, Error, Order, High, and_then, unsigned_decoder, align, write_sequence, part_then}
 
 -- Made by `./format` from formats/event.fields: edit that file and make this one anew.
 
@@ -34,6 +39,21 @@ kind_number Plain = 2
 abbrev pub kind_read : Order → Decoder (Result Kind EventError)
 kind_read o = and_then (unsigned_decoder o 8 8) (λ v. pure (kind_of v))
 
+-- the number of each case fits its bits, and decodes to that case
+pub kind_small : (it : Kind) → nat_lt (kind_number it) (2 ^ 8) ≡ true
+kind_small Marked = refl
+kind_small Acked = refl
+kind_small Plain = refl
+
+pub kind_again : (it : Kind) → kind_of (kind_number it) ≡ Ok it
+kind_again Marked = refl
+kind_again Acked = refl
+kind_again Plain = refl
+
+-- the cases, by their numbers
+abbrev pub kind_cases : OwnFormat EventError Kind
+kind_cases = cases 8 8 refl kind_of kind_number kind_small kind_again
+
 -- an error of a `Mark`, as an error of the type
 abbrev pub mark_error : MarkError → EventError
 mark_error (MarkReader error) = Reader error
@@ -41,8 +61,7 @@ mark_error MarkNoMark = InMark MarkNoMark
 
 -- a result with these errors
 abbrev pub mark_answer : Result Mark MarkError → Result Mark EventError
-mark_answer (Ok value) = Ok value
-mark_answer (Err error) = Err (mark_error error)
+mark_answer = error_of mark_error
 
 -- the reads of a `Mark`, with the errors of the type
 abbrev pub mark_here : Order → Decoder (Result Mark EventError)
@@ -78,24 +97,45 @@ what_fits (WhatMarked it) = MarkFits it
 what_fits (WhatAcked it) = AckFits it
 what_fits WhatPlain = ⊤
 
--- the reads, in order, after 2 that may be refused
-abbrev pub event_decoder_2 : Order → Kind → What → Decoder (Result Event EventError)
-event_decoder_2 o kind what = pure (Ok (record { kind = kind; what = what }))
+-- the number of each case fits its bits
+pub what_small : (it : What) → what_fits it → what_number it < 2 ^ 8
+what_small (WhatMarked it) fits = omega arith
+what_small (WhatAcked it) fits = omega arith
+what_small WhatPlain fits = omega arith
 
--- the reads, in order, after 1 that may be refused
-abbrev pub event_decoder_1 : Order → Kind → Decoder (Result Event EventError)
-event_decoder_1 o kind = and_then (what_read o (kind_number kind)) (part_then (λ what. event_decoder_2 o kind what))
+-- each case is read back behind its number, and its writes are accepted
+pub what_goes : (o : Order) (it : What) → what_fits it
+    → CaseGoes (what_read o (what_number it)) (what_writes o it) (Ok it) (what_size High it)
+what_goes o (WhatMarked it) fits = held-goes (with_error mark_error mark_format) (λ v. WhatMarked v) o it fits
+what_goes o (WhatAcked it) fits = plain_held-goes ack_format (λ v. Ok (WhatAcked v)) o it fits
+what_goes o WhatPlain fits = alone-goes (Ok WhatPlain)
+
+-- the choice
+abbrev pub what_choice : FormatChoice What (Result What EventError) (λ it. Ok it)
+what_choice = record {
+  number = what_number;
+  read = what_read;
+  write = what_writes;
+  size = what_size High;
+  fits =
+      what_fits;
+  goes = what_goes;
+}
+
+-- the lines, in order
+abbrev pub event_lines : FormatParts Event (Result Event EventError) (λ s. Ok s)
+event_lines = do
+  kind ← own_field kind_cases (λ s. s.kind)
+  what ← own_field (chosen what_choice (kind_number kind)) (λ s. s.what)
+  own_done (record { kind = kind; what = what })
 
 -- the reads, in order
 abbrev pub event_decoder : Order → Decoder (Result Event EventError)
-event_decoder o = and_then (kind_read o) (part_then (λ kind. event_decoder_1 o kind))
+event_decoder o = event_lines.read o
 
 -- the writes, in order
 abbrev pub event_writes : Order → Event → List Encoder
-event_writes o value =
-    unsigned o 8 8 (kind_number value.kind)
-    ∷ what_writes o value.what
-    ++ []
+event_writes o value = event_lines.write o value
 
 -- each field fits its bits
 pub record Fits (value : Event) : Type 0 where
@@ -104,7 +144,12 @@ pub record Fits (value : Event) : Type 0 where
 
 -- the number of bits
 abbrev pub event_size : Order → Event → ℕ
-event_size o value = 8 + what_size o value.what
+event_size o value = event_lines.size value
+
+-- the format, with the facts that must fit by name
+abbrev pub event_format : OwnFormat EventError Event
+event_format = named Fits (format event_lines (λ s. refl {a = s}))
+    (λ s fits. fits.what & fits.what_tag)
 
 -- the bits of all fields, up to a whole byte
 unfoldable pub event_bits : Event → List Bool

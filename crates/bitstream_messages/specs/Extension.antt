@@ -6,11 +6,18 @@ use Rattle.bitstream_messages.specs.declared.extension.Body.{Body}
 use Rattle.bitstream_messages.specs.declared.extension.Body.TheVariants.{ExtendedSecret as BodyExtendedSecret, Renegotiation as BodyRenegotiation, Other as BodyOther}
 use Rattle.bitstream_messages.specs.declared.extension.OtherBody.{OtherBody}
 use Rattle.bitstream_messages.specs.declared.renegotiation.Renegotiation.{Renegotiation}
-use Rattle.bitstream_format.specs.Within.{is_end, sized_decoder, size_encoder}
-use Rattle.bitstream_messages.specs.Renegotiation.{renegotiation_decoder, renegotiation_writes, renegotiation_size, Fits as RenegotiationFits}
-use Rattle.std.specs.Prelude.{◌≡◌, ◌≢◌, ◌^◌, ◌<◌, ◌+◌, ◌*◌, ◌/◌, ◌++◌, ◌∷◌, [], ◌==◌, if◌then◌else◌, ℕ, Bool, List, Result, Ok, Err, length, ⊤}
+use Rattle.bitstream_format.specs.Within.{is_end, sized_decoder}
+use Rattle.bitstream_messages.specs.Renegotiation.{renegotiation_decoder, renegotiation_writes, renegotiation_size, renegotiation_format, Fits as RenegotiationFits}
+use Rattle.std.proofs.Common.{refl, arith}
+use Rattle.std.proofs.lemmas.Bool.{ne_eqb}
+use Rattle.bitstream_format.specs.Format.{◌>>=◌, Own as OwnFormat, Parts as FormatParts, format, named, field, own_field, ◌&◌, own_done}
+use Rattle.bitstream_format.specs.Lists.{with_error, error_of}
+use Rattle.bitstream_format.specs.Chosen.{Choice as FormatChoice, chosen, by_size, Goes as CaseGoes, held-goes, alone-goes, bytes_held-goes}
+use Rattle.bitstream_format.specs.Measured.{Written as WrittenPart, size_of_part, over_bytes}
+use Rattle.std.specs.Prelude.{◌≡◌, ◌≢◌, ◌^◌, ◌<◌, ◌*◌, ◌/◌, ◌++◌, ◌∷◌, [], ◌==◌, if◌then◌else◌, ℕ, Bool, List, Result, Ok, length, ⊤}
 use Rattle.std.specs.List.{All}
-use Rattle.bitstream_io.specs.Callers.{◌>>=◌, Decoder, Encoder, pure, Error, Order, High, number, and_then, unsigned_decoder, vec_decoder, unsigned, buffer, align, write_sequence, part_then}
+use Rattle.bitstream_io.specs.Callers.{Decoder, Encoder, pure, Error, Order, High, number, and_then, vec_decoder, buffer, align, write_sequence, part_then}
+use Rattle.bitstream_format.specs.Atoms as atom
 
 -- Made by `./format` from formats/extension.fields: edit that file and make this one anew.
 
@@ -24,8 +31,7 @@ renegotiation_error error = Reader error
 
 -- a result with these errors
 abbrev pub renegotiation_answer : Result Renegotiation Error → Result Renegotiation ExtensionError
-renegotiation_answer (Ok value) = Ok value
-renegotiation_answer (Err error) = Err (renegotiation_error error)
+renegotiation_answer = error_of renegotiation_error
 
 -- the reads of a `Renegotiation`, with the errors of the type
 abbrev pub renegotiation_here : Order → Decoder (Result Renegotiation ExtensionError)
@@ -74,24 +80,51 @@ body_ended OtherSize = OtherSize
 abbrev pub body_sized : Order → ℕ → ℕ → Decoder (Result Body ExtensionError)
 body_sized o number n = sized_decoder (λ o. body_read o number n) OtherSize (λ error. Reader error) body_ended o n
 
--- the reads, in order, after 1 that may be refused
-abbrev pub extension_decoder_1 : Order → ℕ → ℕ → Body → Decoder (Result Extension ExtensionError)
-extension_decoder_1 o body_tag body_bytes body = pure (Ok (record { body = body }))
+-- the number of each case fits its bits
+pub body_small : (it : Body) → body_fits it → body_number it < 2 ^ 16
+body_small BodyExtendedSecret fits = omega arith
+body_small (BodyRenegotiation it) fits = omega arith
+body_small (BodyOther it) fits = fits.0
+
+-- each case is read back behind its number, and its writes are accepted
+pub body_goes : (o : Order) (it : Body) → body_fits it
+    → CaseGoes (body_read o (body_number it) (body_size High it / 8)) (body_writes o it) (Ok it) (body_size High it)
+body_goes o BodyExtendedSecret fits = alone-goes (Ok BodyExtendedSecret)
+body_goes o (BodyRenegotiation it) fits = held-goes (with_error renegotiation_error renegotiation_format) (λ v.
+    BodyRenegotiation v) o it fits
+body_goes o (BodyOther it) fits = rw (ne_eqb it.number 23 fits.1, ne_eqb it.number 65281 fits.2) (bytes_held-goes {P =
+    OtherBody} (λ bytes. record { number = it.number; bytes = bytes }) (λ v. BodyOther v) o it.bytes fits.3)
+
+-- the choice
+abbrev pub body_choice : ℕ → FormatChoice Body (Result Body ExtensionError) (λ it. Ok it)
+body_choice = by_size body_number body_read body_writes (body_size High) body_fits body_goes
+
+-- what is written of a `Body`
+abbrev pub body_written : WrittenPart Body
+body_written = record {
+  write = body_writes;
+  size = body_size High;
+  fits = body_fits;
+  packs = λ o it fits. (body_goes o
+      it fits).packs;
+}
+
+-- the lines, in order
+abbrev pub extension_lines : FormatParts Extension (Result Extension ExtensionError) (λ s. Ok s)
+extension_lines = do
+  body_tag ← field (atom.unsigned 16 16 refl) (λ s. body_number s.body)
+  body_bytes ← size_of_part 16 refl refl body_written (λ s. s.body)
+  body ← own_field (over_bytes (chosen (body_choice body_bytes) body_tag) OtherSize (λ error. Reader error) body_ended
+      body_bytes) (λ s. s.body)
+  own_done (record { body = body })
 
 -- the reads, in order
 abbrev pub extension_decoder : Order → Decoder (Result Extension ExtensionError)
-extension_decoder o = do
-  body_tag ← unsigned_decoder o 16 16
-  body_bytes ← unsigned_decoder o 64 16
-  and_then (body_sized o body_tag body_bytes) (part_then (λ body. extension_decoder_1 o body_tag body_bytes body))
+extension_decoder o = extension_lines.read o
 
 -- the writes, in order
 abbrev pub extension_writes : Order → Extension → List Encoder
-extension_writes o value =
-    unsigned o 16 16 (body_number value.body)
-    ∷ size_encoder o 16 (body_writes High value.body)
-    ∷ body_writes o value.body
-    ++ []
+extension_writes o value = extension_lines.write o value
 
 -- each field fits its bits
 pub record Fits (value : Extension) : Type 0 where
@@ -101,7 +134,13 @@ pub record Fits (value : Extension) : Type 0 where
 
 -- the number of bits
 abbrev pub extension_size : Order → Extension → ℕ
-extension_size o value = 32 + body_size o value.body
+extension_size o value = extension_lines.size value
+
+-- the format, with the facts that must fit by name
+abbrev pub extension_format : OwnFormat ExtensionError Extension
+extension_format = named Fits (format extension_lines (λ s. refl {a = s}))
+    (λ s fits. body_small s.body fits.body & fits.body_bytes & fits.body & ((fits.body, refl), refl) & fits.body_whole
+    High)
 
 -- the bits of all fields, up to a whole byte
 unfoldable pub extension_bits : Extension → List Bool

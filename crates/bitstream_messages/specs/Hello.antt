@@ -5,10 +5,14 @@ use Rattle.bitstream_messages.specs.declared.hello.HelloError.TheVariants.{Reade
 use Rattle.bitstream_messages.specs.declared.extensions.Extensions.{Extensions}
 use Rattle.bitstream_messages.specs.declared.extensions.ExtensionsError.{ExtensionsError}
 use Rattle.bitstream_messages.specs.declared.extensions.ExtensionsError.TheVariants.{Reader as ExtensionsReader, Overlong as ExtensionsOverlong, InExtension as ExtensionsInExtension}
-use Rattle.bitstream_messages.specs.Extensions.{extensions_decoder, extensions_writes, extensions_size, Fits as ExtensionsFits}
-use Rattle.std.specs.Prelude.{◌≡◌, ◌^◌, ◌<◌, ◌+◌, ◌*◌, ◌++◌, ◌∷◌, [], if◌then◌else◌, ℕ, Bool, List, Result, Ok, Err, length}
+use Rattle.bitstream_messages.specs.Extensions.{extensions_decoder, extensions_format, Fits as ExtensionsFits}
+use Rattle.std.proofs.Common.{refl}
+use Rattle.bitstream_format.specs.Format.{◌>>=◌, Own as OwnFormat, Parts as FormatParts, format, named, field, own_field, const, ◌&◌, own_done}
+use Rattle.bitstream_format.specs.Lists.{byte_list, with_error, error_of}
+use Rattle.std.specs.Prelude.{◌≡◌, ◌^◌, ◌<◌, ◌++◌, ◌∷◌, [], ℕ, Bool, List, Result, Ok, length}
 use Rattle.std.specs.List.{All}
-use Rattle.bitstream_io.specs.Callers.{◌>>=◌, Decoder, Encoder, pure, Error, Order, High, and_then, word, unsigned_decoder, const_decoder, bytes_decoder, vec_decoder, plain, unsigned, buffer, align, write_sequence, part_then}
+use Rattle.bitstream_io.specs.Callers.{Decoder, Encoder, pure, Error, Order, High, and_then, align, write_sequence}
+use Rattle.bitstream_format.specs.Atoms as atom
 
 -- Made by `./format` from formats/hello.fields: edit that file and make this one anew.
 
@@ -24,64 +28,43 @@ extensions_error (ExtensionsInExtension error) = InExtensions (ExtensionsInExten
 
 -- a result with these errors
 abbrev pub extensions_answer : Result Extensions ExtensionsError → Result Extensions HelloError
-extensions_answer (Ok value) = Ok value
-extensions_answer (Err error) = Err (extensions_error error)
+extensions_answer = error_of extensions_error
 
 -- the reads of a `Extensions`, with the errors of the type
 abbrev pub extensions_here : Order → Decoder (Result Extensions HelloError)
 extensions_here o = and_then (extensions_decoder o) (λ answer. pure (extensions_answer answer))
 
--- the reads, in order, after 2 that may be refused
-abbrev pub hello_decoder_2 : Order → ℕ → ℕ → List ℕ → ℕ → List ℕ → ℕ → List ℕ → ℕ → List ℕ → Extensions → Decoder
-    (Result Hello HelloError)
-hello_decoder_2 o length_ version random session_count session suites_count suites compressions_count compressions
-    extensions = pure (Ok (record {
-      length = length_;
-      version = version;
-      random = random;
-      session = session;
-      suites =
-          suites;
-      compressions = compressions;
-      extensions = extensions;
-    }))
-
--- the reads, in order, after 1 that may be refused
-abbrev pub hello_decoder_1 : Order → Decoder (Result Hello HelloError)
-hello_decoder_1 o = do
-  length_ ← unsigned_decoder o 32 24
-  version ← unsigned_decoder o 16 16
-  random ← bytes_decoder o 32
-  session_count ← unsigned_decoder o 64 8
-  session ← vec_decoder o session_count
-  suites_count ← unsigned_decoder o 64 16
-  suites ← vec_decoder o suites_count
-  compressions_count ← unsigned_decoder o 64 8
-  compressions ← vec_decoder o compressions_count
-  and_then (extensions_here o) (part_then (λ extensions. hello_decoder_2 o length_ version random session_count session
-      suites_count suites compressions_count compressions extensions))
+-- the lines, in order
+abbrev pub hello_lines : FormatParts Hello (Result Hello HelloError) (λ s. Ok s)
+hello_lines = do
+  constant_0 ← const 8 1 refl OtherMessage
+  length_ ← field (atom.unsigned 32 24 refl) (λ s. s.length)
+  version ← field (atom.unsigned 16 16 refl) (λ s. s.version)
+  random ← field (atom.bytes 32) (λ s. s.random)
+  session_count ← field (atom.unsigned 64 8 refl) (λ s. length s.session)
+  session ← byte_list session_count (λ s. s.session)
+  suites_count ← field (atom.unsigned 64 16 refl) (λ s. length s.suites)
+  suites ← byte_list suites_count (λ s. s.suites)
+  compressions_count ← field (atom.unsigned 64 8 refl) (λ s. length s.compressions)
+  compressions ← byte_list compressions_count (λ s. s.compressions)
+  extensions ← own_field (with_error extensions_error extensions_format) (λ s. s.extensions)
+  own_done (record {
+    length = length_;
+    version = version;
+    random = random;
+    session = session;
+    suites = suites;
+    compressions = compressions;
+    extensions = extensions;
+  })
 
 -- the reads, in order
 abbrev pub hello_decoder : Order → Decoder (Result Hello HelloError)
-hello_decoder o = do
-  is_0 ← const_decoder o 8 1
-  if is_0 then hello_decoder_1 o else pure (Err OtherMessage)
+hello_decoder o = hello_lines.read o
 
 -- the writes, in order
 abbrev pub hello_writes : Order → Hello → List Encoder
-hello_writes o value =
-    plain (word o 8 1)
-    ∷ unsigned o 32 24 value.length
-    ∷ unsigned o 16 16 value.version
-    ∷ buffer o value.random
-    ∷ unsigned o 64 8 (length value.session)
-    ∷ buffer o value.session
-    ∷ unsigned o 64 16 (length value.suites)
-    ∷ buffer o value.suites
-    ∷ unsigned o 64 8 (length value.compressions)
-    ∷ buffer o value.compressions
-    ∷ extensions_writes o value.extensions
-    ++ []
+hello_writes o value = hello_lines.write o value
 
 -- each field fits its bits
 pub record Fits (value : Hello) : Type 0 where
@@ -99,8 +82,13 @@ pub record Fits (value : Hello) : Type 0 where
 
 -- the number of bits
 abbrev pub hello_size : Order → Hello → ℕ
-hello_size o value = 336 + 8 * length value.session + 8 * length value.suites + 8 * length value.compressions +
-    extensions_size o value.extensions
+hello_size o value = hello_lines.size value
+
+-- the format, with the facts that must fit by name
+abbrev pub hello_format : OwnFormat HelloError Hello
+hello_format = named Fits (format hello_lines (λ s. (refl, (refl, (refl, refl {a = s})))))
+    (λ s fits. fits.length_ & fits.version & fits.random_count & fits.random & fits.session_count & fits.session &
+    fits.suites_count & fits.suites & fits.compressions_count & fits.compressions & fits.extensions)
 
 -- the bits of all fields, up to a whole byte
 unfoldable pub hello_bits : Hello → List Bool

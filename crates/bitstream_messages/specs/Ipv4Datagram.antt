@@ -5,9 +5,15 @@ use Rattle.bitstream_messages.specs.declared.ipv4_datagram.Ipv4DatagramError.The
 use Rattle.bitstream_messages.specs.declared.ipv4_datagram.Ecn.{Ecn}
 use Rattle.bitstream_messages.specs.declared.ipv4_datagram.Ecn.TheVariants.{NotCapable, Ect1, Ect0, Congested}
 use Rattle.bitstream_format.specs.Stated.{sized_bytes, stated_decoder, stored_size}
-use Rattle.std.specs.Prelude.{◌≡◌, ◌^◌, ◌<◌, ◌+◌, ◌*◌, ◌++◌, ◌∷◌, [], ◌==◌, if◌then◌else◌, ℕ, Bool, List, Result, Ok, Err, length}
+use Rattle.std.proofs.Common.{refl, true}
+use Rattle.bitstream_format.specs.Format.{◌>>=◌, Plain as PlainFormat, Own as OwnFormat, Parts as FormatParts, format, named, field, own_field, const, ◌&◌, own_done}
+use Rattle.bitstream_format.specs.Lists.{own as as_own}
+use Rattle.bitstream_format.specs.Cases.{cases}
+use Rattle.bitstream_format.specs.Measured.{vec, in_units}
+use Rattle.std.specs.Prelude.{◌≡◌, ◌^◌, ◌<◌, ◌++◌, ◌∷◌, [], ◌==◌, if◌then◌else◌, ℕ, Bool, List, Result, Ok, length, nat_lt}
 use Rattle.std.specs.List.{All}
-use Rattle.bitstream_io.specs.Callers.{◌>>=◌, Decoder, Encoder, pure, Error, Order, High, and_then, word, bit_decoder, unsigned_decoder, const_decoder, bytes_decoder, plain, bit, unsigned, buffer, align, write_sequence, part_then}
+use Rattle.bitstream_io.specs.Callers.{Decoder, Encoder, pure, Error, Order, High, and_then, unsigned_decoder, align, write_sequence}
+use Rattle.bitstream_format.specs.Atoms as atom
 
 -- Made by `./format` from formats/ipv4_datagram.fields: edit that file and make this one anew.
 
@@ -30,82 +36,71 @@ ecn_number Congested = 3
 abbrev pub ecn_read : Order → Decoder Ecn
 ecn_read o = and_then (unsigned_decoder o 8 2) (λ v. pure (ecn_of v))
 
+-- the number of each case fits its bits, and decodes to that case
+pub ecn_small : (it : Ecn) → nat_lt (ecn_number it) (2 ^ 2) ≡ true
+ecn_small NotCapable = refl
+ecn_small Ect1 = refl
+ecn_small Ect0 = refl
+ecn_small Congested = refl
+
+pub ecn_again : (it : Ecn) → ecn_of (ecn_number it) ≡ it
+ecn_again NotCapable = refl
+ecn_again Ect1 = refl
+ecn_again Ect0 = refl
+ecn_again Congested = refl
+
+-- the cases, by their numbers
+abbrev pub ecn_cases : PlainFormat Ecn
+ecn_cases = cases 8 2 refl ecn_of ecn_number ecn_small ecn_again
+
 -- the reads of `options` by the number that states its size
 abbrev pub options_stated : Order → ℕ → Decoder (Result (List ℕ) Ipv4DatagramError)
 options_stated o stored = stated_decoder 4 20 0 ShortHeader sized_bytes o stored
 
--- the reads, in order, after 3 that may be refused
-abbrev pub ipv4_datagram_decoder_3 : Order → ℕ → ℕ → Ecn → ℕ → ℕ → Bool → Bool → ℕ → ℕ → ℕ → ℕ → List ℕ → List ℕ → List
-    ℕ → Decoder (Result Ipv4Datagram Ipv4DatagramError)
-ipv4_datagram_decoder_3 o options_bytes dscp ecn length_ id keep_whole more_ offset ttl protocol checksum source target
-    options = pure (Ok (record {
-      dscp = dscp;
-      ecn = ecn;
-      length = length_;
-      id = id;
-      keep_whole = keep_whole;
-      more = more_;
-      offset = offset;
-      ttl = ttl;
-      protocol = protocol;
-      checksum = checksum;
-      source = source;
-      target = target;
-      options =
-          options;
-    }))
-
--- the reads, in order, after 2 that may be refused
-abbrev pub ipv4_datagram_decoder_2 : Order → ℕ → ℕ → Ecn → ℕ → ℕ → Decoder (Result Ipv4Datagram Ipv4DatagramError)
-ipv4_datagram_decoder_2 o options_bytes dscp ecn length_ id = do
-  keep_whole ← bit_decoder
-  more_ ← bit_decoder
-  offset ← unsigned_decoder o 16 13
-  ttl ← unsigned_decoder o 8 8
-  protocol ← unsigned_decoder o 8 8
-  checksum ← unsigned_decoder o 16 16
-  source ← bytes_decoder o 4
-  target ← bytes_decoder o 4
-  and_then (options_stated o options_bytes) (part_then (λ options. ipv4_datagram_decoder_3 o options_bytes dscp ecn
-      length_ id keep_whole more_ offset ttl protocol checksum source target options))
-
--- the reads, in order, after 1 that may be refused
-abbrev pub ipv4_datagram_decoder_1 : Order → Decoder (Result Ipv4Datagram Ipv4DatagramError)
-ipv4_datagram_decoder_1 o = do
-  options_bytes ← unsigned_decoder o 64 4
-  dscp ← unsigned_decoder o 8 6
-  ecn ← ecn_read o
-  length_ ← unsigned_decoder o 16 16
-  id ← unsigned_decoder o 16 16
-  is_6 ← const_decoder o 1 0
-  if is_6 then ipv4_datagram_decoder_2 o options_bytes dscp ecn length_ id else pure (Err ReservedSet)
+-- the lines, in order
+abbrev pub ipv4_datagram_lines : FormatParts Ipv4Datagram (Result Ipv4Datagram Ipv4DatagramError) (λ s. Ok s)
+ipv4_datagram_lines = do
+  constant_0 ← const 4 4 refl OtherVersion
+  options_bytes ← field (atom.unsigned 64 4 refl) (λ s. stored_size 4 20 0 (length s.options))
+  dscp ← field (atom.unsigned 8 6 refl) (λ s. s.dscp)
+  ecn ← field ecn_cases (λ s. s.ecn)
+  length_ ← field (atom.unsigned 16 16 refl) (λ s. s.length)
+  id ← field (atom.unsigned 16 16 refl) (λ s. s.id)
+  constant_6 ← const 1 0 refl ReservedSet
+  keep_whole ← field atom.bool (λ s. s.keep_whole)
+  more_ ← field atom.bool (λ s. s.more)
+  offset ← field (atom.unsigned 16 13 refl) (λ s. s.offset)
+  ttl ← field (atom.unsigned 8 8 refl) (λ s. s.ttl)
+  protocol ← field (atom.unsigned 8 8 refl) (λ s. s.protocol)
+  checksum ← field (atom.unsigned 16 16 refl) (λ s. s.checksum)
+  source ← field (atom.bytes 4) (λ s. s.source)
+  target ← field (atom.bytes 4) (λ s. s.target)
+  options ← own_field (in_units 4 20 0 (2 ^ 4) refl refl ShortHeader (λ xs. length xs) (λ n. as_own (vec n))
+      options_bytes) (λ s. s.options)
+  own_done (record {
+    dscp = dscp;
+    ecn = ecn;
+    length = length_;
+    id = id;
+    keep_whole = keep_whole;
+    more = more_;
+    offset =
+        offset;
+    ttl = ttl;
+    protocol = protocol;
+    checksum = checksum;
+    source = source;
+    target = target;
+    options = options;
+  })
 
 -- the reads, in order
 abbrev pub ipv4_datagram_decoder : Order → Decoder (Result Ipv4Datagram Ipv4DatagramError)
-ipv4_datagram_decoder o = do
-  is_0 ← const_decoder o 4 4
-  if is_0 then ipv4_datagram_decoder_1 o else pure (Err OtherVersion)
+ipv4_datagram_decoder o = ipv4_datagram_lines.read o
 
 -- the writes, in order
 abbrev pub ipv4_datagram_writes : Order → Ipv4Datagram → List Encoder
-ipv4_datagram_writes o value =
-    plain (word o 4 4)
-    ∷ unsigned o 64 4 (stored_size 4 20 0 (length value.options))
-    ∷ unsigned o 8 6 value.dscp
-    ∷ unsigned o 8 2 (ecn_number value.ecn)
-    ∷ unsigned o 16 16 value.length
-    ∷ unsigned o 16 16 value.id
-    ∷ plain (word o 1 0)
-    ∷ bit value.keep_whole
-    ∷ bit value.more
-    ∷ unsigned o 16 13 value.offset
-    ∷ unsigned o 8 8 value.ttl
-    ∷ unsigned o 8 8 value.protocol
-    ∷ unsigned o 16 16 value.checksum
-    ∷ buffer o value.source
-    ∷ buffer o value.target
-    ∷ buffer o value.options
-    ∷ []
+ipv4_datagram_writes o value = ipv4_datagram_lines.write o value
 
 -- each field fits its bits
 pub record Fits (value : Ipv4Datagram) : Type 0 where
@@ -125,7 +120,14 @@ pub record Fits (value : Ipv4Datagram) : Type 0 where
 
 -- the number of bits
 abbrev pub ipv4_datagram_size : Order → Ipv4Datagram → ℕ
-ipv4_datagram_size o value = 160 + 8 * length value.options
+ipv4_datagram_size o value = ipv4_datagram_lines.size value
+
+-- the format, with the facts that must fit by name
+abbrev pub ipv4_datagram_format : OwnFormat Ipv4DatagramError Ipv4Datagram
+ipv4_datagram_format = named Fits (format ipv4_datagram_lines (λ s. refl {a = s}))
+    (λ s fits. fits.options_bytes & fits.dscp & fits.length_ & fits.id & fits.offset & fits.ttl & fits.protocol &
+    fits.checksum & fits.source_count & fits.source & fits.target_count & fits.target & (fits.options, refl) &
+    fits.options_bytes & refl)
 
 -- the bits of all fields, up to a whole byte
 unfoldable pub ipv4_datagram_bits : Ipv4Datagram → List Bool

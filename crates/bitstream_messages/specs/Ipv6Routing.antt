@@ -1,31 +1,34 @@
 -- A routing header of IPv6 (RFC 8200, section 4.4).
 use Rattle.bitstream_messages.specs.declared.ipv6_routing.Ipv6Routing.{Ipv6Routing}
 use Rattle.bitstream_format.specs.Stated.{size_in_units, stored_size}
-use Rattle.std.specs.Prelude.{◌^◌, ◌<◌, ◌+◌, ◌*◌, ◌++◌, ◌∷◌, [], ℕ, Bool, List, Result, Ok, length}
+use Rattle.std.proofs.Common.{refl}
+use Rattle.bitstream_format.specs.Format.{◌>>=◌, Own as OwnFormat, Parts as FormatParts, format, named, field, ◌&◌, own_done}
+use Rattle.bitstream_format.specs.Measured.{vec}
+use Rattle.bitstream_format.specs.SizeLaws.{units-again}
+use Rattle.std.specs.Prelude.{◌^◌, ◌<◌, ◌++◌, ◌∷◌, [], ℕ, Bool, List, Result, Ok, length}
 use Rattle.std.specs.List.{All}
-use Rattle.bitstream_io.specs.Callers.{◌>>=◌, Decoder, Encoder, pure, Error, Order, High, unsigned_decoder, vec_decoder, unsigned, buffer, align, write_sequence}
+use Rattle.bitstream_io.specs.Callers.{Decoder, Encoder, Error, Order, High, align, write_sequence}
+use Rattle.bitstream_format.specs.Atoms as atom
 
 -- Made by `./format` from formats/ipv6_routing.fields: edit that file and make this one anew.
 
+-- the lines, in order
+abbrev pub ipv6_routing_lines : FormatParts Ipv6Routing (Result Ipv6Routing Error) (λ s. Ok s)
+ipv6_routing_lines = do
+  following ← field (atom.unsigned 8 8 refl) (λ s. s.following)
+  data_bytes ← field (atom.unsigned 64 8 refl) (λ s. stored_size 8 0 4 (length s.data))
+  kind ← field (atom.unsigned 8 8 refl) (λ s. s.kind)
+  left ← field (atom.unsigned 8 8 refl) (λ s. s.left)
+  data_ ← field (vec (size_in_units 8 4 data_bytes)) (λ s. s.data)
+  own_done (record { following = following; kind = kind; left = left; «data» = data_ })
+
 -- the reads, in order
 abbrev pub ipv6_routing_decoder : Order → Decoder (Result Ipv6Routing Error)
-ipv6_routing_decoder o = do
-  following ← unsigned_decoder o 8 8
-  data_bytes ← unsigned_decoder o 64 8
-  kind ← unsigned_decoder o 8 8
-  left ← unsigned_decoder o 8 8
-  data_ ← vec_decoder o (size_in_units 8 4 data_bytes)
-  pure (Ok (record { following = following; kind = kind; left = left; «data» = data_ }))
+ipv6_routing_decoder o = ipv6_routing_lines.read o
 
 -- the writes, in order
 abbrev pub ipv6_routing_writes : Order → Ipv6Routing → List Encoder
-ipv6_routing_writes o value =
-    unsigned o 8 8 value.following
-    ∷ unsigned o 64 8 (stored_size 8 0 4 (length value.data))
-    ∷ unsigned o 8 8 value.kind
-    ∷ unsigned o 8 8 value.left
-    ∷ buffer o value.data
-    ∷ []
+ipv6_routing_writes o value = ipv6_routing_lines.write o value
 
 -- each field fits its bits
 pub record Fits (value : Ipv6Routing) : Type 0 where
@@ -37,7 +40,13 @@ pub record Fits (value : Ipv6Routing) : Type 0 where
 
 -- the number of bits
 abbrev pub ipv6_routing_size : Order → Ipv6Routing → ℕ
-ipv6_routing_size o value = 32 + 8 * length value.data
+ipv6_routing_size o value = ipv6_routing_lines.size value
+
+-- the format, with the facts that must fit by name
+abbrev pub ipv6_routing_format : OwnFormat Error Ipv6Routing
+ipv6_routing_format = named Fits (format ipv6_routing_lines (λ s. refl {a = s}))
+    (λ s fits. fits.following & fits.data_bytes & fits.kind & fits.left & fits.data_ & (units-again 8 4 (length s.data)
+    (2 ^ 8) fits.data_bytes refl refl))
 
 -- the bits of all fields, up to a whole byte
 unfoldable pub ipv6_routing_bits : Ipv6Routing → List Bool

@@ -1,4 +1,5 @@
 pub mod Ack
+pub mod CheckedIpv4
 pub mod Event
 pub mod Extension
 pub mod ExtensionBytes
@@ -7,8 +8,12 @@ pub mod Extensions
 pub mod ExtensionsFields
 pub mod Frame
 pub mod FrameFields
+pub mod GifComment
+pub mod GifCommentFields
 pub mod Hello
 pub mod HelloFields
+pub mod IcmpMessage
+pub mod IcmpMessageFields
 pub mod Ipv4Datagram
 pub mod Ipv4DatagramFields
 pub mod Ipv6Routing
@@ -22,6 +27,10 @@ pub mod Notes
 pub mod NotesFields
 pub mod Packet
 pub mod PacketFields
+pub mod PngChunk
+pub mod PngChunkFields
+pub mod PngFile
+pub mod PngFileFields
 pub mod QuicStream
 pub mod QuicStreamFields
 pub mod Renegotiation
@@ -32,5 +41,9 @@ pub mod TcpData
 pub mod TcpDataFields
 pub mod TcpReceived
 pub mod TcpReceivedFields
+pub mod TftpData
+pub mod TftpDataFields
+pub mod TftpRequest
+pub mod TftpRequestFields
 pub mod TlsRecord
 pub mod TlsRecordFields

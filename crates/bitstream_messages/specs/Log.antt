@@ -1,4 +1,4 @@
--- Acknowledgements and marks, each list behind its size in bytes.
+-- Acknowledgements and marks, each list after its size in bytes.
 use Rattle.bitstream_messages.specs.declared.log.Log.{Log}
 use Rattle.bitstream_messages.specs.declared.log.LogError.{LogError}
 use Rattle.bitstream_messages.specs.declared.log.LogError.TheVariants.{Reader, OddAcks, OddMarks, InMark}
@@ -6,13 +6,17 @@ use Rattle.bitstream_messages.specs.declared.ack.Ack.{Ack}
 use Rattle.bitstream_messages.specs.declared.mark.Mark.{Mark}
 use Rattle.bitstream_messages.specs.declared.mark.MarkError.{MarkError}
 use Rattle.bitstream_messages.specs.declared.mark.MarkError.TheVariants.{Reader as MarkReader, NoMark as MarkNoMark}
-use Rattle.bitstream_format.specs.Within.{is_end, size_encoder}
+use Rattle.bitstream_format.specs.Within.{is_end}
 use Rattle.bitstream_format.specs.Filled.{filled_decoder}
-use Rattle.bitstream_messages.specs.Ack.{ack_decoder, ack_writes, ack_size, Fits as AckFits}
-use Rattle.bitstream_messages.specs.Mark.{mark_decoder, mark_writes, mark_size, Fits as MarkFits}
-use Rattle.std.specs.Prelude.{◌≡◌, ◌^◌, ◌<◌, ◌+◌, ◌*◌, ◌/◌, ◌++◌, ◌∷◌, [], if◌then◌else◌, ℕ, Bool, List, Result, Ok, Err}
-use Rattle.std.specs.List.{All, flat_map}
-use Rattle.bitstream_io.specs.Callers.{◌>>=◌, Decoder, Encoder, pure, Error, Order, High, and_then, unsigned_decoder, align, write_sequence, plain_reads, part_then}
+use Rattle.bitstream_messages.specs.Ack.{ack_decoder, ack_size, ack_format, Fits as AckFits}
+use Rattle.bitstream_messages.specs.Mark.{mark_decoder, mark_size, mark_format, Fits as MarkFits}
+use Rattle.std.proofs.Common.{refl, arith}
+use Rattle.bitstream_format.specs.Format.{◌>>=◌, Own as OwnFormat, Parts as FormatParts, format, named, own_field, ◌&◌, own_done}
+use Rattle.bitstream_format.specs.Lists.{with_error, error_of, own as as_own}
+use Rattle.bitstream_format.specs.Measured.{of_items, size_of_part, filling}
+use Rattle.std.specs.Prelude.{◌≡◌, ◌^◌, ◌<◌, ◌≤◌, ◌*◌, ◌/◌, ◌++◌, ◌∷◌, [], if◌then◌else◌, ℕ, Bool, List, Result, Ok}
+use Rattle.std.specs.List.{All}
+use Rattle.bitstream_io.specs.Callers.{Decoder, Encoder, pure, Error, Order, High, and_then, align, write_sequence, plain_reads}
 use Rattle.bitstream_io.specs.Loop.{parts_size}
 
 -- Made by `./format` from formats/log.fields: edit that file and make this one anew.
@@ -32,6 +36,10 @@ acks_ended (InMark error) = InMark error
 abbrev pub acks_sized : Order → ℕ → Decoder (Result (List Ack) LogError)
 acks_sized o n = filled_decoder (λ o. plain_reads (ack_decoder o)) OddAcks (λ error. Reader error) acks_ended o n
 
+-- each item has a byte or more
+pub acks_wide : (it : Ack) → 8 ≤ ack_size High it
+acks_wide it = omega arith
+
 -- an error of a `Mark`, as an error of the type
 abbrev pub mark_error : MarkError → LogError
 mark_error (MarkReader error) = Reader error
@@ -39,8 +47,7 @@ mark_error MarkNoMark = InMark MarkNoMark
 
 -- a result with these errors
 abbrev pub mark_answer : Result Mark MarkError → Result Mark LogError
-mark_answer (Ok value) = Ok value
-mark_answer (Err error) = Err (mark_error error)
+mark_answer = error_of mark_error
 
 -- the reads of a `Mark`, with the errors of the type
 abbrev pub mark_here : Order → Decoder (Result Mark LogError)
@@ -57,30 +64,28 @@ marks_ended (InMark error) = InMark error
 abbrev pub marks_sized : Order → ℕ → Decoder (Result (List Mark) LogError)
 marks_sized o n = filled_decoder (λ o. mark_here o) OddMarks (λ error. Reader error) marks_ended o n
 
--- the reads, in order, after 2 that may be refused
-abbrev pub log_decoder_2 : Order → ℕ → ℕ → List Ack → List Mark → Decoder (Result Log LogError)
-log_decoder_2 o acks_bytes marks_bytes acks marks = pure (Ok (record { acks = acks; marks = marks }))
+-- each item has a byte or more
+pub marks_wide : (it : Mark) → 8 ≤ mark_size High it
+marks_wide it = omega arith
 
--- the reads, in order, after 1 that may be refused
-abbrev pub log_decoder_1 : Order → ℕ → ℕ → List Ack → Decoder (Result Log LogError)
-log_decoder_1 o acks_bytes marks_bytes acks = and_then (marks_sized o marks_bytes) (part_then (λ marks. log_decoder_2 o
-    acks_bytes marks_bytes acks marks))
+-- the lines, in order
+abbrev pub log_lines : FormatParts Log (Result Log LogError) (λ s. Ok s)
+log_lines = do
+  acks_bytes ← size_of_part 8 refl refl (of_items ack_format) (λ s. s.acks)
+  marks_bytes ← size_of_part 8 refl refl (of_items mark_format) (λ s. s.marks)
+  acks ← own_field (filling (as_own ack_format) OddAcks (λ error. Reader error) acks_ended acks_bytes acks_wide) (λ s.
+      s.acks)
+  marks ← own_field (filling (with_error mark_error mark_format) OddMarks (λ error. Reader error) marks_ended
+      marks_bytes marks_wide) (λ s. s.marks)
+  own_done (record { acks = acks; marks = marks })
 
 -- the reads, in order
 abbrev pub log_decoder : Order → Decoder (Result Log LogError)
-log_decoder o = do
-  acks_bytes ← unsigned_decoder o 64 8
-  marks_bytes ← unsigned_decoder o 64 8
-  and_then (acks_sized o acks_bytes) (part_then (λ acks. log_decoder_1 o acks_bytes marks_bytes acks))
+log_decoder o = log_lines.read o
 
 -- the writes, in order
 abbrev pub log_writes : Order → Log → List Encoder
-log_writes o value =
-    size_encoder o 8 (flat_map (ack_writes High) value.acks)
-    ∷ size_encoder o 8 (flat_map (mark_writes High) value.marks)
-    ∷ flat_map (ack_writes o) value.acks
-    ++ (flat_map (mark_writes o) value.marks
-    ++ [])
+log_writes o value = log_lines.write o value
 
 -- each field fits its bits
 pub record Fits (value : Log) : Type 0 where
@@ -94,7 +99,13 @@ pub record Fits (value : Log) : Type 0 where
 
 -- the number of bits
 abbrev pub log_size : Order → Log → ℕ
-log_size o value = 16 + parts_size (ack_size o) value.acks + parts_size (mark_size o) value.marks
+log_size o value = log_lines.size value
+
+-- the format, with the facts that must fit by name
+abbrev pub log_format : OwnFormat LogError Log
+log_format = named Fits (format log_lines (λ s. refl {a = s}))
+    (λ s fits. fits.acks_bytes & fits.acks & fits.marks_bytes & fits.marks & fits.acks & fits.acks_whole High &
+    fits.marks & fits.marks_whole High)
 
 -- the bits of all fields, up to a whole byte
 unfoldable pub log_bits : Log → List Bool

@@ -2,8 +2,11 @@
 use Rattle.bitstream_messages.specs.declared.mark.Mark.{Mark}
 use Rattle.bitstream_messages.specs.declared.mark.MarkError.{MarkError}
 use Rattle.bitstream_messages.specs.declared.mark.MarkError.TheVariants.{Reader, NoMark}
-use Rattle.std.specs.Prelude.{◌≡◌, ◌^◌, ◌<◌, ◌++◌, ◌∷◌, [], if◌then◌else◌, ℕ, Bool, List, Result, Ok, Err, take, drop}
-use Rattle.bitstream_io.specs.Callers.{◌>>=◌, Decoder, Encoder, pure, Error, Order, High, number, word, unsigned_decoder, const_decoder, plain, unsigned, align, write_sequence}
+use Rattle.std.proofs.Common.{refl}
+use Rattle.bitstream_format.specs.Format.{◌>>=◌, Own as OwnFormat, Parts as FormatParts, format, renamed, field, const, own_done}
+use Rattle.std.specs.Prelude.{◌≡◌, ◌^◌, ◌<◌, ◌++◌, ◌∷◌, [], ℕ, Bool, List, Result, Ok, take, drop}
+use Rattle.bitstream_io.specs.Callers.{Decoder, Encoder, Error, Order, High, number, align, write_sequence}
+use Rattle.bitstream_format.specs.Atoms as atom
 
 -- Made by `./format` from formats/mark.fields: edit that file and make this one anew.
 
@@ -19,24 +22,20 @@ bits_at k n bits = take n (drop k bits)
 abbrev pub const_at_0 : List Bool → ℕ
 const_at_0 bits = number High (bits_at 0 8 bits)
 
--- the reads, in order, after 1 that may be refused
-abbrev pub mark_decoder_1 : Order → Decoder (Result Mark MarkError)
-mark_decoder_1 o = do
-  color ← unsigned_decoder o 8 8
-  pure (Ok (record { color = color }))
+-- the lines, in order
+abbrev pub mark_lines : FormatParts Mark (Result Mark MarkError) (λ s. Ok s)
+mark_lines = do
+  constant_0 ← const 8 7 refl NoMark
+  color ← field (atom.unsigned 8 8 refl) (λ s. s.color)
+  own_done (record { color = color })
 
 -- the reads, in order
 abbrev pub mark_decoder : Order → Decoder (Result Mark MarkError)
-mark_decoder o = do
-  is_0 ← const_decoder o 8 7
-  if is_0 then mark_decoder_1 o else pure (Err NoMark)
+mark_decoder o = mark_lines.read o
 
 -- the writes, in order
 abbrev pub mark_writes : Order → Mark → List Encoder
-mark_writes o value =
-    plain (word o 8 7)
-    ∷ unsigned o 8 8 value.color
-    ∷ []
+mark_writes o value = mark_lines.write o value
 
 -- each field fits its bits
 pub record Fits (value : Mark) : Type 0 where
@@ -45,6 +44,12 @@ pub record Fits (value : Mark) : Type 0 where
 -- the number of bits
 abbrev pub mark_size : Order → Mark → ℕ
 mark_size o value = 16
+
+-- the format, with the facts that must fit by name
+abbrev pub mark_format : OwnFormat MarkError Mark
+mark_format = renamed Fits (format mark_lines (λ s. refl {a = s}))
+    (λ s fits. fits.color)
+    (λ s facts. record { color = facts })
 
 -- the bits of all fields, up to a whole byte
 unfoldable pub mark_bits : Mark → List Bool

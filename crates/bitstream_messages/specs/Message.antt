@@ -8,11 +8,16 @@ use Rattle.bitstream_messages.specs.declared.notes.Notes.{Notes}
 use Rattle.bitstream_messages.specs.declared.mark.Mark.{Mark}
 use Rattle.bitstream_messages.specs.declared.mark.MarkError.{MarkError}
 use Rattle.bitstream_messages.specs.declared.mark.MarkError.TheVariants.{Reader as MarkReader, NoMark as MarkNoMark}
-use Rattle.bitstream_messages.specs.Ack.{ack_decoder, ack_writes, ack_size, Fits as AckFits}
-use Rattle.bitstream_messages.specs.Notes.{notes_decoder, notes_writes, notes_size, Fits as NotesFits}
-use Rattle.bitstream_messages.specs.Mark.{mark_decoder, mark_writes, mark_size, Fits as MarkFits}
-use Rattle.std.specs.Prelude.{◌≡◌, ◌^◌, ◌<◌, ◌+◌, ◌++◌, ◌∷◌, [], ◌==◌, if◌then◌else◌, ℕ, Bool, List, Result, Ok, Err, ⊤}
-use Rattle.bitstream_io.specs.Callers.{◌>>=◌, Decoder, Encoder, pure, Error, Order, High, and_then, bit_decoder, unsigned_decoder, skip_decoder, bit, unsigned, zeros, align, write_sequence, part_then}
+use Rattle.bitstream_messages.specs.Ack.{ack_decoder, ack_writes, ack_size, ack_format, Fits as AckFits}
+use Rattle.bitstream_messages.specs.Notes.{notes_decoder, notes_writes, notes_size, notes_format, Fits as NotesFits}
+use Rattle.bitstream_messages.specs.Mark.{mark_decoder, mark_writes, mark_size, mark_format, Fits as MarkFits}
+use Rattle.std.proofs.Common.{refl, arith}
+use Rattle.bitstream_format.specs.Format.{◌>>=◌, Own as OwnFormat, Parts as FormatParts, format, named, field, own_field, ◌&◌, own_done}
+use Rattle.bitstream_format.specs.Lists.{with_error, error_of}
+use Rattle.bitstream_format.specs.Chosen.{Choice as FormatChoice, chosen, Goes as CaseGoes, held-goes, plain_held-goes, alone-goes}
+use Rattle.std.specs.Prelude.{◌≡◌, ◌^◌, ◌<◌, ◌++◌, ◌∷◌, [], ◌==◌, if◌then◌else◌, ℕ, Bool, List, Result, Ok, Err, ⊤}
+use Rattle.bitstream_io.specs.Callers.{Decoder, Encoder, pure, Error, Order, High, and_then, align, write_sequence, part_then}
+use Rattle.bitstream_format.specs.Atoms as atom
 
 -- Made by `./format` from formats/message.fields: edit that file and make this one anew.
 
@@ -26,8 +31,7 @@ notes_error error = Reader error
 
 -- a result with these errors
 abbrev pub notes_answer : Result Notes Error → Result Notes MessageError
-notes_answer (Ok value) = Ok value
-notes_answer (Err error) = Err (notes_error error)
+notes_answer = error_of notes_error
 
 -- the reads of a `Notes`, with the errors of the type
 abbrev pub notes_here : Order → Decoder (Result Notes MessageError)
@@ -40,8 +44,7 @@ mark_error MarkNoMark = InMark MarkNoMark
 
 -- a result with these errors
 abbrev pub mark_answer : Result Mark MarkError → Result Mark MessageError
-mark_answer (Ok value) = Ok value
-mark_answer (Err error) = Err (mark_error error)
+mark_answer = error_of mark_error
 
 -- the reads of a `Mark`, with the errors of the type
 abbrev pub mark_here : Order → Decoder (Result Mark MessageError)
@@ -81,29 +84,50 @@ body_fits (BodyFirst it) = NotesFits it
 body_fits BodyStop = ⊤
 body_fits (BodyMark it) = MarkFits it
 
--- the reads, in order, after 1 that may be refused
-abbrev pub message_decoder_1 : Order → ℕ → ℕ → Body → Decoder (Result Message MessageError)
-message_decoder_1 o version body_tag body = do
-  checked ← bit_decoder
-  skipped_4 ← skip_decoder 7
-  pure (Ok (record { version = version; body = body; checked = checked }))
+-- the number of each case fits its bits
+pub body_small : (it : Body) → body_fits it → body_number it < 2 ^ 4
+body_small (BodyAck it) fits = omega arith
+body_small (BodyFirst it) fits = omega arith
+body_small BodyStop fits = omega arith
+body_small (BodyMark it) fits = omega arith
+
+-- each case is read back behind its number, and its writes are accepted
+pub body_goes : (o : Order) (it : Body) → body_fits it
+    → CaseGoes (body_read o (body_number it)) (body_writes o it) (Ok it) (body_size High it)
+body_goes o (BodyAck it) fits = plain_held-goes ack_format (λ v. Ok (BodyAck v)) o it fits
+body_goes o (BodyFirst it) fits = held-goes (with_error notes_error notes_format) (λ v. BodyFirst v) o it fits
+body_goes o BodyStop fits = alone-goes (Ok BodyStop)
+body_goes o (BodyMark it) fits = held-goes (with_error mark_error mark_format) (λ v. BodyMark v) o it fits
+
+-- the choice
+abbrev pub body_choice : FormatChoice Body (Result Body MessageError) (λ it. Ok it)
+body_choice = record {
+  number = body_number;
+  read = body_read;
+  write = body_writes;
+  size = body_size High;
+  fits =
+      body_fits;
+  goes = body_goes;
+}
+
+-- the lines, in order
+abbrev pub message_lines : FormatParts Message (Result Message MessageError) (λ s. Ok s)
+message_lines = do
+  version ← field (atom.unsigned 8 4 refl) (λ s. s.version)
+  body_tag ← field (atom.unsigned 8 4 refl) (λ s. body_number s.body)
+  body ← own_field (chosen body_choice body_tag) (λ s. s.body)
+  checked ← field atom.bool (λ s. s.checked)
+  skipped_4 ← field (atom.pad 7) (λ s. tt)
+  own_done (record { version = version; body = body; checked = checked })
 
 -- the reads, in order
 abbrev pub message_decoder : Order → Decoder (Result Message MessageError)
-message_decoder o = do
-  version ← unsigned_decoder o 8 4
-  body_tag ← unsigned_decoder o 8 4
-  and_then (body_read o body_tag) (part_then (λ body. message_decoder_1 o version body_tag body))
+message_decoder o = message_lines.read o
 
 -- the writes, in order
 abbrev pub message_writes : Order → Message → List Encoder
-message_writes o value =
-    unsigned o 8 4 value.version
-    ∷ unsigned o 8 4 (body_number value.body)
-    ∷ body_writes o value.body
-    ++ bit value.checked
-    ∷ zeros 7
-    ∷ []
+message_writes o value = message_lines.write o value
 
 -- each field fits its bits
 pub record Fits (value : Message) : Type 0 where
@@ -112,7 +136,12 @@ pub record Fits (value : Message) : Type 0 where
 
 -- the number of bits
 abbrev pub message_size : Order → Message → ℕ
-message_size o value = 16 + body_size o value.body
+message_size o value = message_lines.size value
+
+-- the format, with the facts that must fit by name
+abbrev pub message_format : OwnFormat MessageError Message
+message_format = named Fits (format message_lines (λ s. refl {a = s}))
+    (λ s fits. fits.version & body_small s.body fits.body & fits.body & refl)
 
 -- the bits of all fields, up to a whole byte
 unfoldable pub message_bits : Message → List Bool

@@ -1,26 +1,30 @@
 -- Levels that were noted at one place.
 use Rattle.bitstream_messages.specs.declared.notes.Notes.{Notes}
-use Rattle.std.specs.Prelude.{◌^◌, ◌<◌, ◌+◌, ◌*◌, ◌++◌, ◌∷◌, [], ℕ, Bool, List, Result, Ok, length}
-use Rattle.std.specs.List.{All, flat_map}
-use Rattle.bitstream_io.specs.Callers.{◌>>=◌, Decoder, Encoder, pure, list_item, Error, Order, High, unsigned_decoder, items_decoder, unsigned, align, write_sequence}
+use Rattle.std.proofs.Common.{refl}
+use Rattle.bitstream_format.specs.Format.{◌>>=◌, Own as OwnFormat, Parts as FormatParts, format, renamed, field, ◌&◌, own_done}
+use Rattle.bitstream_format.specs.Lists.{even_list}
+use Rattle.std.specs.Prelude.{◌^◌, ◌<◌, ◌++◌, ◌∷◌, [], ℕ, Bool, List, Result, Ok, length}
+use Rattle.std.specs.List.{All}
+use Rattle.bitstream_io.specs.Callers.{Decoder, Encoder, Error, Order, High, align, write_sequence}
+use Rattle.bitstream_format.specs.Atoms as atom
 
 -- Made by `./format` from formats/notes.fields: edit that file and make this one anew.
 
+-- the lines, in order
+abbrev pub notes_lines : FormatParts Notes (Result Notes Error) (λ s. Ok s)
+notes_lines = do
+  place ← field (atom.unsigned 8 8 refl) (λ s. s.place)
+  levels_count ← field (atom.unsigned 64 8 refl) (λ s. length s.levels)
+  levels ← even_list levels_count 16 (atom.unsigned 16 16 refl) (λ x. refl) (λ s. s.levels)
+  own_done (record { place = place; levels = levels })
+
 -- the reads, in order
 abbrev pub notes_decoder : Order → Decoder (Result Notes Error)
-notes_decoder o = do
-  place ← unsigned_decoder o 8 8
-  levels_count ← unsigned_decoder o 64 8
-  levels ← items_decoder (list_item (unsigned_decoder o 16 16)) levels_count
-  pure (Ok (record { place = place; levels = levels }))
+notes_decoder o = notes_lines.read o
 
 -- the writes, in order
 abbrev pub notes_writes : Order → Notes → List Encoder
-notes_writes o value =
-    unsigned o 8 8 value.place
-    ∷ unsigned o 64 8 (length value.levels)
-    ∷ flat_map (λ x. unsigned o 16 16 x ∷ []) value.levels
-    ++ []
+notes_writes o value = notes_lines.write o value
 
 -- each field fits its bits
 pub record Fits (value : Notes) : Type 0 where
@@ -30,7 +34,13 @@ pub record Fits (value : Notes) : Type 0 where
 
 -- the number of bits
 abbrev pub notes_size : Order → Notes → ℕ
-notes_size o value = 16 + length value.levels * 16
+notes_size o value = notes_lines.size value
+
+-- the format, with the facts that must fit by name
+abbrev pub notes_format : OwnFormat Error Notes
+notes_format = renamed Fits (format notes_lines (λ s. (refl, refl {a = s})))
+    (λ s fits. fits.place & fits.levels_count & fits.levels)
+    (λ s facts. record { place = facts.0; levels_count = facts.1.0; levels = facts.1.1 })
 
 -- the bits of all fields, up to a whole byte
 unfoldable pub notes_bits : Notes → List Bool

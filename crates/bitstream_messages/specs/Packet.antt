@@ -1,14 +1,19 @@
--- Notes and an acknowledgement, each behind its size in bytes.
+-- Notes and an acknowledgement, each after its size in bytes.
 use Rattle.bitstream_messages.specs.declared.packet.Packet.{Packet}
 use Rattle.bitstream_messages.specs.declared.packet.PacketError.{PacketError}
 use Rattle.bitstream_messages.specs.declared.packet.PacketError.TheVariants.{Reader, OtherNotes, OtherAck}
 use Rattle.bitstream_messages.specs.declared.notes.Notes.{Notes}
 use Rattle.bitstream_messages.specs.declared.ack.Ack.{Ack}
-use Rattle.bitstream_format.specs.Within.{is_end, sized_decoder, size_encoder}
-use Rattle.bitstream_messages.specs.Notes.{notes_decoder, notes_writes, notes_size, Fits as NotesFits}
-use Rattle.bitstream_messages.specs.Ack.{ack_decoder, ack_writes, ack_size, Fits as AckFits}
-use Rattle.std.specs.Prelude.{◌≡◌, ◌^◌, ◌<◌, ◌+◌, ◌*◌, ◌/◌, ◌++◌, ◌∷◌, [], if◌then◌else◌, ℕ, Bool, List, Result, Ok, Err}
-use Rattle.bitstream_io.specs.Callers.{◌>>=◌, Decoder, Encoder, pure, Error, Order, High, and_then, unsigned_decoder, unsigned, align, write_sequence, plain_reads, part_then}
+use Rattle.bitstream_format.specs.Within.{is_end, sized_decoder}
+use Rattle.bitstream_messages.specs.Notes.{notes_decoder, notes_size, notes_format, Fits as NotesFits}
+use Rattle.bitstream_messages.specs.Ack.{ack_decoder, ack_size, ack_format, Fits as AckFits}
+use Rattle.std.proofs.Common.{refl}
+use Rattle.bitstream_format.specs.Format.{◌>>=◌, Own as OwnFormat, Parts as FormatParts, format, named, field, own_field, ◌&◌, own_done}
+use Rattle.bitstream_format.specs.Lists.{with_error, error_of, own as as_own}
+use Rattle.bitstream_format.specs.Measured.{of_format, size_of_part, over_bytes}
+use Rattle.std.specs.Prelude.{◌≡◌, ◌^◌, ◌<◌, ◌*◌, ◌/◌, ◌++◌, ◌∷◌, [], if◌then◌else◌, ℕ, Bool, List, Result, Ok}
+use Rattle.bitstream_io.specs.Callers.{Decoder, Encoder, pure, Error, Order, High, and_then, align, write_sequence, plain_reads}
+use Rattle.bitstream_format.specs.Atoms as atom
 
 -- Made by `./format` from formats/packet.fields: edit that file and make this one anew.
 
@@ -22,8 +27,7 @@ notes_error error = Reader error
 
 -- a result with these errors
 abbrev pub notes_answer : Result Notes Error → Result Notes PacketError
-notes_answer (Ok value) = Ok value
-notes_answer (Err error) = Err (notes_error error)
+notes_answer = error_of notes_error
 
 -- the reads of a `Notes`, with the errors of the type
 abbrev pub notes_here : Order → Decoder (Result Notes PacketError)
@@ -49,33 +53,24 @@ ack_ended OtherAck = OtherAck
 abbrev pub ack_sized : Order → ℕ → Decoder (Result Ack PacketError)
 ack_sized o n = sized_decoder (λ o. plain_reads (ack_decoder o)) OtherAck (λ error. Reader error) ack_ended o n
 
--- the reads, in order, after 2 that may be refused
-abbrev pub packet_decoder_2 : Order → ℕ → Notes → ℕ → Ack → Decoder (Result Packet PacketError)
-packet_decoder_2 o notes_bytes notes ack_bytes ack = do
-  end ← unsigned_decoder o 8 8
-  pure (Ok (record { notes = notes; ack = ack; end = end }))
-
--- the reads, in order, after 1 that may be refused
-abbrev pub packet_decoder_1 : Order → ℕ → Notes → Decoder (Result Packet PacketError)
-packet_decoder_1 o notes_bytes notes = do
-  ack_bytes ← unsigned_decoder o 64 8
-  and_then (ack_sized o ack_bytes) (part_then (λ ack. packet_decoder_2 o notes_bytes notes ack_bytes ack))
+-- the lines, in order
+abbrev pub packet_lines : FormatParts Packet (Result Packet PacketError) (λ s. Ok s)
+packet_lines = do
+  notes_bytes ← size_of_part 16 refl refl (of_format notes_format) (λ s. s.notes)
+  notes ← own_field (over_bytes (with_error notes_error notes_format) OtherNotes (λ error. Reader error) notes_ended
+      notes_bytes) (λ s. s.notes)
+  ack_bytes ← size_of_part 8 refl refl (of_format ack_format) (λ s. s.ack)
+  ack ← own_field (over_bytes (as_own ack_format) OtherAck (λ error. Reader error) ack_ended ack_bytes) (λ s. s.ack)
+  end ← field (atom.unsigned 8 8 refl) (λ s. s.end)
+  own_done (record { notes = notes; ack = ack; end = end })
 
 -- the reads, in order
 abbrev pub packet_decoder : Order → Decoder (Result Packet PacketError)
-packet_decoder o = do
-  notes_bytes ← unsigned_decoder o 64 16
-  and_then (notes_sized o notes_bytes) (part_then (λ notes. packet_decoder_1 o notes_bytes notes))
+packet_decoder o = packet_lines.read o
 
 -- the writes, in order
 abbrev pub packet_writes : Order → Packet → List Encoder
-packet_writes o value =
-    size_encoder o 16 (notes_writes High value.notes)
-    ∷ notes_writes o value.notes
-    ++ (size_encoder o 8 (ack_writes High value.ack)
-    ∷ ack_writes o value.ack
-    ++ unsigned o 8 8 value.end
-    ∷ [])
+packet_writes o value = packet_lines.write o value
 
 -- each field fits its bits
 pub record Fits (value : Packet) : Type 0 where
@@ -89,7 +84,13 @@ pub record Fits (value : Packet) : Type 0 where
 
 -- the number of bits
 abbrev pub packet_size : Order → Packet → ℕ
-packet_size o value = 32 + notes_size o value.notes + ack_size o value.ack
+packet_size o value = packet_lines.size value
+
+-- the format, with the facts that must fit by name
+abbrev pub packet_format : OwnFormat PacketError Packet
+packet_format = named Fits (format packet_lines (λ s. refl {a = s}))
+    (λ s fits. fits.notes_bytes & fits.notes & fits.notes & fits.notes_whole High & fits.ack_bytes & fits.ack & fits.ack
+    & fits.ack_whole High & fits.end)
 
 -- the bits of all fields, up to a whole byte
 unfoldable pub packet_bits : Packet → List Bool

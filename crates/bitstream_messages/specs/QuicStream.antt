@@ -2,10 +2,13 @@
 use Rattle.bitstream_messages.specs.declared.quic_stream.QuicStream.{QuicStream}
 use Rattle.bitstream_messages.specs.declared.quic_stream.QuicStreamError.{QuicStreamError}
 use Rattle.bitstream_messages.specs.declared.quic_stream.QuicStreamError.TheVariants.{Reader, OtherFrame}
-use Rattle.std.specs.Prelude.{◌≡◌, ◌^◌, ◌<◌, ◌+◌, ◌*◌, ◌++◌, ◌∷◌, [], if◌then◌else◌, ℕ, Bool, List, Result, Ok, Err, length}
+use Rattle.std.proofs.Common.{refl}
+use Rattle.bitstream_format.specs.Format.{◌>>=◌, Own as OwnFormat, Parts as FormatParts, format, named, field, const, ◌&◌, own_done}
+use Rattle.bitstream_format.specs.Measured.{varint, vec}
+use Rattle.std.specs.Prelude.{◌≡◌, ◌^◌, ◌<◌, ◌++◌, ◌∷◌, [], ℕ, Bool, List, Result, Ok, length}
 use Rattle.std.specs.List.{All}
-use Rattle.bitstream_io.specs.Callers.{◌>>=◌, Decoder, Encoder, pure, Error, Order, High, word, bit_decoder, const_decoder, vec_decoder, plain, bit, buffer, align, write_sequence}
-use Rattle.bitstream_format.specs.Varint.{varint_decoder, varint_writes, varint_size}
+use Rattle.bitstream_io.specs.Callers.{Decoder, Encoder, Error, Order, High, align, write_sequence}
+use Rattle.bitstream_format.specs.Atoms as atom
 
 -- Made by `./format` from formats/quic_stream.fields: edit that file and make this one anew.
 
@@ -13,32 +16,24 @@ use Rattle.bitstream_format.specs.Varint.{varint_decoder, varint_writes, varint_
 abbrev pub becomes_quic_stream : Error → QuicStreamError → Type 0
 becomes_quic_stream error own = own ≡ Reader error
 
--- the reads, in order, after 1 that may be refused
-abbrev pub quic_stream_decoder_1 : Order → Decoder (Result QuicStream QuicStreamError)
-quic_stream_decoder_1 o = do
-  last ← bit_decoder
-  stream ← varint_decoder o
-  offset ← varint_decoder o
-  data_bytes ← varint_decoder o
-  data_ ← vec_decoder o data_bytes
-  pure (Ok (record { last = last; stream = stream; offset = offset; «data» = data_ }))
+-- the lines, in order
+abbrev pub quic_stream_lines : FormatParts QuicStream (Result QuicStream QuicStreamError) (λ s. Ok s)
+quic_stream_lines = do
+  constant_0 ← const 7 7 refl OtherFrame
+  last ← field atom.bool (λ s. s.last)
+  stream ← field varint (λ s. s.stream)
+  offset ← field varint (λ s. s.offset)
+  data_bytes ← field varint (λ s. length s.data)
+  data_ ← field (vec data_bytes) (λ s. s.data)
+  own_done (record { last = last; stream = stream; offset = offset; «data» = data_ })
 
 -- the reads, in order
 abbrev pub quic_stream_decoder : Order → Decoder (Result QuicStream QuicStreamError)
-quic_stream_decoder o = do
-  is_0 ← const_decoder o 7 7
-  if is_0 then quic_stream_decoder_1 o else pure (Err OtherFrame)
+quic_stream_decoder o = quic_stream_lines.read o
 
 -- the writes, in order
 abbrev pub quic_stream_writes : Order → QuicStream → List Encoder
-quic_stream_writes o value =
-    plain (word o 7 7)
-    ∷ bit value.last
-    ∷ varint_writes o value.stream
-    ++ (varint_writes o value.offset
-    ++ (varint_writes o (length value.data)
-    ++ buffer o value.data
-    ∷ []))
+quic_stream_writes o value = quic_stream_lines.write o value
 
 -- each field fits its bits
 pub record Fits (value : QuicStream) : Type 0 where
@@ -49,8 +44,12 @@ pub record Fits (value : QuicStream) : Type 0 where
 
 -- the number of bits
 abbrev pub quic_stream_size : Order → QuicStream → ℕ
-quic_stream_size o value = 8 + varint_size value.stream + varint_size value.offset + varint_size (length value.data) + 8
-    * length value.data
+quic_stream_size o value = quic_stream_lines.size value
+
+-- the format, with the facts that must fit by name
+abbrev pub quic_stream_format : OwnFormat QuicStreamError QuicStream
+quic_stream_format = named Fits (format quic_stream_lines (λ s. refl {a = s}))
+    (λ s fits. fits.stream & fits.offset & fits.data_bytes & fits.data_ & refl)
 
 -- the bits of all fields, up to a whole byte
 unfoldable pub quic_stream_bits : QuicStream → List Bool

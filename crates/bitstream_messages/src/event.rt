@@ -62,11 +62,11 @@ impl From<Error> for EventError {
 /// The kind of the event.
 #[derive(Clone, Copy, Debug, PartialEq)]
 pub enum Kind {
-    /// 0.
+    /// Encoded as 0.
     Marked,
-    /// 1.
+    /// Encoded as 1.
     Acked,
-    /// 2.
+    /// Encoded as 2.
     Plain,
 }
 
@@ -121,11 +121,11 @@ impl From<MarkError> for EventError {
 /// The content of the event.
 #[derive(Clone, Copy, Debug, PartialEq)]
 pub enum What {
-    /// 0.
+    /// The case for the number 0.
     Marked(Mark),
-    /// 1.
+    /// The case for the number 1.
     Acked(Ack),
-    /// 2.
+    /// The case for the number 2.
     Plain,
 }
 
@@ -145,8 +145,8 @@ impl What {
     ///
     /// # Errors
     ///
-    /// `NoWhat` if no case has the number: nothing is read then.
-    /// `InMark` if a `Mark` is refused.
+    /// `NoWhat` if no case has the number, before anything is read.
+    /// `InMark` if a `Mark` is rejected.
     /// Otherwise the reader's errors, after which it has failed.
     pub fn read<R: BitRead>(reader: &mut R, number: u8) -> Result<What, EventError>
         ensures { ReadsOwn R.source becomes_event (what_read R.source.order number) reader.old result reader.new }
@@ -167,7 +167,7 @@ impl What {
     ///
     /// # Errors
     ///
-    /// `Checked` for a field that does not fit its bits. The fields before it are written then.
+    /// `Checked` for a field that does not fit its bits. The fields before it have been written.
     /// Otherwise the sink's errors.
     pub fn write<W: BitWrite>(&self, writer: &mut W) -> Result<(), Error>
         ensures { WritesAll W.sink (what_writes W.sink.order self.now) writer.old result writer.new }
@@ -188,8 +188,7 @@ impl Event {
     ///
     /// # Errors
     ///
-    /// `NoKind`, `NoWhat`, `InMark`.
-    /// The refused bits are read then.
+    /// `NoKind`, `NoWhat` or `InMark`, after the rejected bits have been read.
     /// Otherwise the reader's errors, after which it has failed.
     pub fn read<R: BitRead>(reader: &mut R) -> Result<Event, EventError>
         ensures { ReadsOwn R.source becomes_event (event_decoder R.source.order) reader.old result reader.new }
@@ -203,7 +202,8 @@ impl Event {
     ///
     /// # Errors
     ///
-    /// `NoKind`, `NoWhat`, `InMark`, `Reader(EndOfInput)` if the bytes end before the fields do.
+    /// `NoKind`, `NoWhat` or `InMark` if bits are rejected.
+    /// `Reader(EndOfInput)` if the bytes end before the fields do.
     pub fn parse(packet: &[u8]) -> Result<Event, EventError>
         ensures answer { OwnAnswer becomes_event (λ answer. answer)
             (sure_answer ((event_decoder High).reads 0 (bits High packet.now))) result }
@@ -218,7 +218,7 @@ impl Event {
     ///
     /// # Errors
     ///
-    /// `Checked` for a field that does not fit its bits. The fields before it are written then.
+    /// `Checked` for a field that does not fit its bits. The fields before it have been written.
     /// Otherwise the sink's errors.
     pub fn write<W: BitWrite>(&self, writer: &mut W) -> Result<(), Error>
         ensures { WritesAll W.sink (event_writes W.sink.order self.now) writer.old result writer.new }
@@ -235,7 +235,7 @@ impl Event {
     ///
     /// `Checked` for the first field that does not fit its bits, however long the buffer is.
     /// `Stream(WriteZero)` if all fields fit, and the buffer is too short for the bits.
-    /// The first bytes of the buffer may be changed then.
+    /// After an error, the first bytes of the buffer may have changed.
     pub fn pack_into<'a>(&self, buffer: &'a mut [u8]) -> Result<SliceMut<'a>, Error>
         ensures packed { IfOk result (λ packed. bits High (written_bytes packed) ≡ event_bits self.now) }
         ensures first { IfOk result (HoldsFirst buffer.entry.ghost_name buffer.old) }

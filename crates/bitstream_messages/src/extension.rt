@@ -113,11 +113,11 @@ impl OtherBody {
 /// The content.
 #[derive(Debug, Drop)]
 pub enum Body {
-    /// 23.
+    /// The case for the number 23.
     ExtendedSecret,
-    /// 65281.
+    /// The case for the number 65281.
     Renegotiation(Renegotiation),
-    /// Another number, and the bytes after it.
+    /// Any other number, and the bytes after it.
     Other(OtherBody),
 }
 
@@ -159,7 +159,7 @@ impl Body {
     ///
     /// # Errors
     ///
-    /// `Checked` for a field that does not fit its bits. The fields before it are written then.
+    /// `Checked` for a field that does not fit its bits. The fields before it have been written.
     /// Otherwise the sink's errors.
     pub fn write<W: BitWrite>(&self, writer: &mut W) -> Result<(), Error>
         ensures { WritesAll W.sink (body_writes W.sink.order self.now) writer.old result writer.new }
@@ -184,7 +184,7 @@ impl ToBitStream for Body {
     }
 }
 
-/// Maps an error inside the bytes of `body`: an error at their end is `OtherSize`.
+/// Maps an error inside the bytes of `body`: the end of these bytes becomes `OtherSize`.
 fn body_ended(error: ExtensionError) -> ExtensionError
     ensures { result ≡ body_ended error }
 {
@@ -199,11 +199,11 @@ fn body_ended(error: ExtensionError) -> ExtensionError
     }
 }
 
-/// Returns the `body` that fills these bytes.
+/// Parses these bytes as `body`.
 ///
 /// # Errors
 ///
-/// `OtherSize` if it does not fill them. Otherwise its errors.
+/// `OtherSize` if `body` does not fill the bytes. Otherwise the errors of `body`.
 fn body_in(bytes: &[u8], alloc: Global, number: u16, size: u64) -> Result<Body, ExtensionError>
     ensures { UnlessMemory (λ error. Reader error)
         (within (body_read High number size) OtherSize (λ error. Reader error) body_ended (bits High bytes.now)) result }
@@ -243,9 +243,9 @@ impl Extension {
     ///
     /// # Errors
     ///
-    /// `OtherSize`.
-    /// The refused bits are read then.
-    /// `Reader(OutOfMemory)` if the allocation for a list fails, after the items before.
+    /// `OtherSize`, after the rejected bits have been read.
+    /// `Reader(OutOfMemory)` if an allocation for a list fails. The items before the failure
+    /// have been read.
     /// Otherwise the reader's errors, after which it has failed.
     pub fn read<R: BitRead>(reader: &mut R, alloc: Global) -> Result<Extension, ExtensionError>
         requires { R.source.order ≡ High }
@@ -261,7 +261,8 @@ impl Extension {
     ///
     /// # Errors
     ///
-    /// `OtherSize`, `Reader(EndOfInput)` if the bytes end before the fields do.
+    /// `OtherSize` if bits are rejected.
+    /// `Reader(EndOfInput)` if the bytes end before the fields do.
     /// `Reader(OutOfMemory)` if the allocation for an item of a list fails.
     pub fn parse(packet: &[u8], alloc: Global) -> Result<Extension, ExtensionError>
         ensures answer { (OwnAnswer becomes_extension (λ answer. answer)
@@ -281,7 +282,7 @@ impl Extension {
     ///
     /// # Errors
     ///
-    /// `Checked` for a field that does not fit its bits. The fields before it are written then.
+    /// `Checked` for a field that does not fit its bits. The fields before it have been written.
     /// Otherwise the sink's errors.
     pub fn write<W: BitWrite>(&self, writer: &mut W) -> Result<(), Error>
         ensures { WritesAll W.sink (extension_writes W.sink.order self.now) writer.old result writer.new }
@@ -299,7 +300,7 @@ impl Extension {
     ///
     /// `Checked` for the first field that does not fit its bits, however long the buffer is.
     /// `Stream(WriteZero)` if all fields fit, and the buffer is too short for the bits.
-    /// The first bytes of the buffer may be changed then.
+    /// After an error, the first bytes of the buffer may have changed.
     pub fn pack_into<'a>(&self, buffer: &'a mut [u8]) -> Result<SliceMut<'a>, Error>
         ensures packed { IfOk result (λ packed. bits High (written_bytes packed) ≡ extension_bits self.now) }
         ensures first { IfOk result (HoldsFirst buffer.entry.ghost_name buffer.old) }

@@ -1,4 +1,4 @@
-//! The extensions of a TLS hello, behind their size (RFC 8446, 4.2).
+//! The extensions of a TLS hello, after their size (RFC 8446, 4.2).
 //!
 //! Made by `./format` from formats/extensions.fields: edit that file and make this one anew.
 ghost use Rattle.bitstream_messages.specs.Extensions.{extensions_decoder, extensions_writes, extensions_size, extensions_bits, Fits, becomes_extensions, items_sized, items_ended, extension_error, extension_here};
@@ -24,7 +24,7 @@ use bitstream_io::{
 use std::alloc::{AllocFailed, Global};
 use std::marker::Model;
 
-/// The extensions of a TLS hello, behind their size (RFC 8446, 4.2).
+/// The extensions of a TLS hello, after their size (RFC 8446, 4.2).
 ///
 /// ```text
 ///  0                   1                   2                   3
@@ -60,7 +60,7 @@ pub enum ExtensionsError {
     /// `items` does not fill the bytes that its size states.
     #[error("`items` does not fill the bytes that its size states")]
     Overlong,
-    /// An error of a `Extension` that is not the reader's.
+    /// An error of an `Extension` that is not the reader's.
     #[error("in an `Extension`: {0}")]
     InExtension(ExtensionError),
 }
@@ -117,7 +117,7 @@ fn count_items(items: &[Extension]) -> Result<u64, Error>
     Ok(counter.into_written())
 }
 
-/// Maps an error inside the bytes of `items`: an error at their end is `Overlong`.
+/// Maps an error inside the bytes of `items`: the end of these bytes becomes `Overlong`.
 fn items_ended(error: ExtensionsError) -> ExtensionsError
     ensures { result ≡ items_ended error }
 {
@@ -133,11 +133,11 @@ fn items_ended(error: ExtensionsError) -> ExtensionsError
     }
 }
 
-/// Returns the items of `items` that fill these bytes, at most `size`.
+/// Parses these bytes as the items of `items`, of which there are at most `size`.
 ///
 /// # Errors
 ///
-/// `Overlong` if they do not fill them. Otherwise the error of an item.
+/// `Overlong` if the items do not fill the bytes. Otherwise the error of an item.
 fn items_in(bytes: &[u8], alloc: Global, size: u64) -> Result<Vec<Extension>, ExtensionsError>
     ensures { UnlessMemory (λ error. Reader error)
         (items_from (extension_here High) Overlong (λ error. Reader error) items_ended 0 (bits High bytes.now) size)
@@ -182,9 +182,9 @@ impl Extensions {
     ///
     /// # Errors
     ///
-    /// `Overlong`, `InExtension`.
-    /// The refused bits are read then.
-    /// `Reader(OutOfMemory)` if the allocation for a list fails, after the items before.
+    /// `Overlong` or `InExtension`, after the rejected bits have been read.
+    /// `Reader(OutOfMemory)` if an allocation for a list fails. The items before the failure
+    /// have been read.
     /// Otherwise the reader's errors, after which it has failed.
     pub fn read<R: BitRead>(reader: &mut R, alloc: Global) -> Result<Extensions, ExtensionsError>
         requires { R.source.order ≡ High }
@@ -199,7 +199,8 @@ impl Extensions {
     ///
     /// # Errors
     ///
-    /// `Overlong`, `InExtension`, `Reader(EndOfInput)` if the bytes end before the fields do.
+    /// `Overlong` or `InExtension` if bits are rejected.
+    /// `Reader(EndOfInput)` if the bytes end before the fields do.
     /// `Reader(OutOfMemory)` if the allocation for an item of a list fails.
     pub fn parse(packet: &[u8], alloc: Global) -> Result<Extensions, ExtensionsError>
         ensures answer { (OwnAnswer becomes_extensions (λ answer. answer)
@@ -219,7 +220,7 @@ impl Extensions {
     ///
     /// # Errors
     ///
-    /// `Checked` for a field that does not fit its bits. The fields before it are written then.
+    /// `Checked` for a field that does not fit its bits. The fields before it have been written.
     /// Otherwise the sink's errors.
     pub fn write<W: BitWrite>(&self, writer: &mut W) -> Result<(), Error>
         ensures { WritesAll W.sink (extensions_writes W.sink.order self.now) writer.old result writer.new }
@@ -236,7 +237,7 @@ impl Extensions {
     ///
     /// `Checked` for the first field that does not fit its bits, however long the buffer is.
     /// `Stream(WriteZero)` if all fields fit, and the buffer is too short for the bits.
-    /// The first bytes of the buffer may be changed then.
+    /// After an error, the first bytes of the buffer may have changed.
     pub fn pack_into<'a>(&self, buffer: &'a mut [u8]) -> Result<SliceMut<'a>, Error>
         ensures packed { IfOk result (λ packed. bits High (written_bytes packed) ≡ extensions_bits self.now) }
         ensures first { IfOk result (HoldsFirst buffer.entry.ghost_name buffer.old) }

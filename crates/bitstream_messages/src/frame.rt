@@ -1,4 +1,4 @@
-//! A message behind its kind and its size, and another behind its size.
+//! A message after its kind and its size, and another message after its size.
 //!
 //! Made by `./format` from formats/frame.fields: edit that file and make this one anew.
 ghost use Rattle.bitstream_messages.specs.Frame.{frame_decoder, frame_writes, frame_size, frame_bits, Fits, becomes_frame, content_number, content_read, content_writes, body_sized, body_ended, message_sized, message_ended, message_error, message_here};
@@ -22,7 +22,7 @@ use bitstream_io::{
 use std::alloc::Global;
 use std::marker::Model;
 
-/// A message behind its kind and its size, and another behind its size.
+/// A message after its kind and its size, and another message after its size.
 ///
 /// ```text
 ///  0                   1                   2                   3
@@ -85,11 +85,11 @@ impl From<Error> for FrameError {
 /// The first one.
 #[derive(Debug, Drop)]
 pub enum Content {
-    /// 1.
+    /// The case for the number 1.
     Ack(Ack),
-    /// 2.
+    /// The case for the number 2.
     Notes(Notes),
-    /// 3.
+    /// The case for the number 3.
     Empty,
 }
 
@@ -109,7 +109,7 @@ impl Content {
     ///
     /// # Errors
     ///
-    /// `NoContent` if no case has the number: nothing is read then.
+    /// `NoContent` if no case has the number, before anything is read.
     /// Otherwise the reader's errors, after which it has failed.
     pub fn read<R: BitRead>(
         reader: &mut R,
@@ -134,7 +134,7 @@ impl Content {
     ///
     /// # Errors
     ///
-    /// `Checked` for a field that does not fit its bits. The fields before it are written then.
+    /// `Checked` for a field that does not fit its bits. The fields before it have been written.
     /// Otherwise the sink's errors.
     pub fn write<W: BitWrite>(&self, writer: &mut W) -> Result<(), Error>
         ensures { WritesAll W.sink (content_writes W.sink.order self.now) writer.old result writer.new }
@@ -159,7 +159,7 @@ impl ToBitStream for Content {
     }
 }
 
-/// Maps an error inside the bytes of `body`: an error at their end is `OtherBody`.
+/// Maps an error inside the bytes of `body`: the end of these bytes becomes `OtherBody`.
 fn body_ended(error: FrameError) -> FrameError
     ensures { result ≡ body_ended error }
 {
@@ -177,11 +177,11 @@ fn body_ended(error: FrameError) -> FrameError
     }
 }
 
-/// Returns the `body` that fills these bytes.
+/// Parses these bytes as `body`.
 ///
 /// # Errors
 ///
-/// `OtherBody` if it does not fill them. Otherwise its errors.
+/// `OtherBody` if `body` does not fill the bytes. Otherwise the errors of `body`.
 fn body_in(bytes: &[u8], alloc: Global, number: u8) -> Result<Content, FrameError>
     ensures { UnlessMemory (λ error. Reader error)
         (within (content_read High number) OtherBody (λ error. Reader error) body_ended (bits High bytes.now)) result }
@@ -225,7 +225,7 @@ impl From<MessageError> for FrameError {
     }
 }
 
-/// Maps an error inside the bytes of `message`: an error at their end is `OtherMessage`.
+/// Maps an error inside the bytes of `message`: the end of these bytes becomes `OtherMessage`.
 fn message_ended(error: FrameError) -> FrameError
     ensures { result ≡ message_ended error }
 {
@@ -243,11 +243,11 @@ fn message_ended(error: FrameError) -> FrameError
     }
 }
 
-/// Returns the `message` that fills these bytes.
+/// Parses these bytes as `message`.
 ///
 /// # Errors
 ///
-/// `OtherMessage` if it does not fill them. Otherwise its errors.
+/// `OtherMessage` if `message` does not fill the bytes. Otherwise the errors of `message`.
 fn message_in(bytes: &[u8], alloc: Global) -> Result<Message, FrameError>
     ensures { UnlessMemory (λ error. Reader error)
         (within (message_here High) OtherMessage (λ error. Reader error) message_ended (bits High bytes.now)) result }
@@ -279,9 +279,9 @@ impl Frame {
     ///
     /// # Errors
     ///
-    /// `NoContent`, `OtherBody`, `OtherMessage`, `InMessage`.
-    /// The refused bits are read then.
-    /// `Reader(OutOfMemory)` if the allocation for a list fails, after the items before.
+    /// `NoContent`, `OtherBody`, `OtherMessage` or `InMessage`, after the rejected bits have been read.
+    /// `Reader(OutOfMemory)` if an allocation for a list fails. The items before the failure
+    /// have been read.
     /// Otherwise the reader's errors, after which it has failed.
     pub fn read<R: BitRead>(reader: &mut R, alloc: Global) -> Result<Frame, FrameError>
         requires { R.source.order ≡ High }
@@ -299,7 +299,8 @@ impl Frame {
     ///
     /// # Errors
     ///
-    /// `NoContent`, `OtherBody`, `OtherMessage`, `InMessage`, `Reader(EndOfInput)` if the bytes end before the fields do.
+    /// `NoContent`, `OtherBody`, `OtherMessage` or `InMessage` if bits are rejected.
+    /// `Reader(EndOfInput)` if the bytes end before the fields do.
     /// `Reader(OutOfMemory)` if the allocation for an item of a list fails.
     pub fn parse(packet: &[u8], alloc: Global) -> Result<Frame, FrameError>
         ensures answer { (OwnAnswer becomes_frame (λ answer. answer)
@@ -319,7 +320,7 @@ impl Frame {
     ///
     /// # Errors
     ///
-    /// `Checked` for a field that does not fit its bits. The fields before it are written then.
+    /// `Checked` for a field that does not fit its bits. The fields before it have been written.
     /// Otherwise the sink's errors.
     pub fn write<W: BitWrite>(&self, writer: &mut W) -> Result<(), Error>
         ensures { WritesAll W.sink (frame_writes W.sink.order self.now) writer.old result writer.new }
@@ -339,7 +340,7 @@ impl Frame {
     ///
     /// `Checked` for the first field that does not fit its bits, however long the buffer is.
     /// `Stream(WriteZero)` if all fields fit, and the buffer is too short for the bits.
-    /// The first bytes of the buffer may be changed then.
+    /// After an error, the first bytes of the buffer may have changed.
     pub fn pack_into<'a>(&self, buffer: &'a mut [u8]) -> Result<SliceMut<'a>, Error>
         ensures packed { IfOk result (λ packed. bits High (written_bytes packed) ≡ frame_bits self.now) }
         ensures first { IfOk result (HoldsFirst buffer.entry.ghost_name buffer.old) }

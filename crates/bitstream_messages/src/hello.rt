@@ -53,7 +53,7 @@ pub struct Hello {
     pub version: u16,
     /// Random bytes.
     pub random: [u8; 32],
-    /// The session that is to go on. Fewer than 2^8.
+    /// The session to resume. Fewer than 2^8.
     pub session: Vec<u8>,
     /// The cipher suites, of two bytes each. Fewer than 2^16.
     pub suites: Vec<u8>,
@@ -88,7 +88,7 @@ pub enum HelloError {
     /// The message is no ClientHello.
     #[error("the message is no ClientHello")]
     OtherMessage,
-    /// An error of a `Extensions` that is not the reader's.
+    /// An error of an `Extensions` that is not the reader's.
     #[error("in an `Extensions`: {0}")]
     InExtensions(ExtensionsError),
 }
@@ -120,9 +120,9 @@ impl Hello {
     ///
     /// # Errors
     ///
-    /// `OtherMessage`, `InExtensions`.
-    /// The refused bits are read then.
-    /// `Reader(OutOfMemory)` if the allocation for a list fails, after the items before.
+    /// `OtherMessage` or `InExtensions`, after the rejected bits have been read.
+    /// `Reader(OutOfMemory)` if an allocation for a list fails. The items before the failure
+    /// have been read.
     /// Otherwise the reader's errors, after which it has failed.
     pub fn read<R: BitRead>(reader: &mut R, alloc: Global) -> Result<Hello, HelloError>
         requires { R.source.order ≡ High }
@@ -154,7 +154,8 @@ impl Hello {
     ///
     /// # Errors
     ///
-    /// `OtherMessage`, `InExtensions`, `Reader(EndOfInput)` if the bytes end before the fields do.
+    /// `OtherMessage` or `InExtensions` if bits are rejected.
+    /// `Reader(EndOfInput)` if the bytes end before the fields do.
     /// `Reader(OutOfMemory)` if the allocation for an item of a list fails.
     pub fn parse(packet: &[u8], alloc: Global) -> Result<Hello, HelloError>
         ensures answer { (OwnAnswer becomes_hello (λ answer. answer)
@@ -174,7 +175,7 @@ impl Hello {
     ///
     /// # Errors
     ///
-    /// `Checked` for a field that does not fit its bits. The fields before it are written then.
+    /// `Checked` for a field that does not fit its bits. The fields before it have been written.
     /// Otherwise the sink's errors.
     pub fn write<W: BitWrite>(&self, writer: &mut W) -> Result<(), Error>
         ensures { WritesAll W.sink (hello_writes W.sink.order self.now) writer.old result writer.new }
@@ -200,7 +201,7 @@ impl Hello {
     ///
     /// `Checked` for the first field that does not fit its bits, however long the buffer is.
     /// `Stream(WriteZero)` if all fields fit, and the buffer is too short for the bits.
-    /// The first bytes of the buffer may be changed then.
+    /// After an error, the first bytes of the buffer may have changed.
     pub fn pack_into<'a>(&self, buffer: &'a mut [u8]) -> Result<SliceMut<'a>, Error>
         ensures packed { IfOk result (λ packed. bits High (written_bytes packed) ≡ hello_bits self.now) }
         ensures first { IfOk result (HoldsFirst buffer.entry.ghost_name buffer.old) }

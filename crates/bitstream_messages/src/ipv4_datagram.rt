@@ -41,15 +41,15 @@ use std::marker::Model;
 pub struct Ipv4Datagram {
     /// The class of service. Below 2^6.
     pub dscp: u8,
-    /// Whether the path is congested.
+    /// The congestion mark of the path (RFC 3168).
     pub ecn: Ecn,
     /// The bytes of the packet, with this header.
     pub length: u16,
     /// The packet that a fragment belongs to.
     pub id: u16,
-    /// Whether the packet must not be fragmented.
+    /// True if the packet must not be fragmented.
     pub keep_whole: bool,
-    /// Whether more fragments follow.
+    /// True if more fragments follow.
     pub more: bool,
     /// The place of the fragment, in units of 8 bytes. Below 2^13.
     pub offset: u16,
@@ -114,16 +114,16 @@ impl From<Error> for Ipv4DatagramError {
     }
 }
 
-/// Whether the path is congested.
+/// The congestion mark of the path (RFC 3168).
 #[derive(Clone, Copy, Debug, PartialEq)]
 pub enum Ecn {
-    /// 0.
+    /// Encoded as 0.
     NotCapable,
-    /// 1.
+    /// Encoded as 1.
     Ect1,
-    /// 2.
+    /// Encoded as 2.
     Ect0,
-    /// 3.
+    /// Encoded as 3.
     Congested,
 }
 
@@ -165,7 +165,7 @@ impl Ecn {
     }
 }
 
-/// Reads `options`, whose size a number states.
+/// Reads `options`. The number `stored` states its size.
 fn read_stated_options<R: BitRead>(
     reader: &mut R,
     alloc: Global,
@@ -190,9 +190,9 @@ impl Ipv4Datagram {
     ///
     /// # Errors
     ///
-    /// `OtherVersion`, `ReservedSet`, `ShortHeader`.
-    /// The refused bits are read then.
-    /// `Reader(OutOfMemory)` if the allocation for a list fails, after the items before.
+    /// `OtherVersion`, `ReservedSet` or `ShortHeader`, after the rejected bits have been read.
+    /// `Reader(OutOfMemory)` if an allocation for a list fails. The items before the failure
+    /// have been read.
     /// Otherwise the reader's errors, after which it has failed.
     pub fn read<R: BitRead>(
         reader: &mut R,
@@ -237,7 +237,8 @@ impl Ipv4Datagram {
     ///
     /// # Errors
     ///
-    /// `OtherVersion`, `ReservedSet`, `ShortHeader`, `Reader(EndOfInput)` if the bytes end before the fields do.
+    /// `OtherVersion`, `ReservedSet` or `ShortHeader` if bits are rejected.
+    /// `Reader(EndOfInput)` if the bytes end before the fields do.
     /// `Reader(OutOfMemory)` if the allocation for an item of a list fails.
     pub fn parse(packet: &[u8], alloc: Global) -> Result<Ipv4Datagram, Ipv4DatagramError>
         ensures answer { (OwnAnswer becomes_ipv4_datagram (λ answer. answer)
@@ -257,7 +258,7 @@ impl Ipv4Datagram {
     ///
     /// # Errors
     ///
-    /// `Checked` for a field that does not fit its bits. The fields before it are written then.
+    /// `Checked` for a field that does not fit its bits. The fields before it have been written.
     /// Otherwise the sink's errors.
     pub fn write<W: BitWrite>(&self, writer: &mut W) -> Result<(), Error>
         ensures { WritesAll W.sink (ipv4_datagram_writes W.sink.order self.now) writer.old result writer.new }
@@ -288,7 +289,7 @@ impl Ipv4Datagram {
     ///
     /// `Checked` for the first field that does not fit its bits, however long the buffer is.
     /// `Stream(WriteZero)` if all fields fit, and the buffer is too short for the bits.
-    /// The first bytes of the buffer may be changed then.
+    /// After an error, the first bytes of the buffer may have changed.
     pub fn pack_into<'a>(&self, buffer: &'a mut [u8]) -> Result<SliceMut<'a>, Error>
         ensures packed { IfOk result (λ packed. bits High (written_bytes packed) ≡ ipv4_datagram_bits self.now) }
         ensures first { IfOk result (HoldsFirst buffer.entry.ghost_name buffer.old) }

@@ -1,4 +1,4 @@
-//! Acknowledgements and marks, each list behind its size in bytes.
+//! Acknowledgements and marks, each list after its size in bytes.
 //!
 //! Made by `./format` from formats/log.fields: edit that file and make this one anew.
 ghost use Rattle.bitstream_messages.specs.Log.{log_decoder, log_writes, log_size, log_bits, Fits, becomes_log, acks_sized, acks_ended, marks_sized, marks_ended, mark_error, mark_here};
@@ -26,7 +26,7 @@ use bitstream_io::{
 use std::alloc::{AllocFailed, Global};
 use std::marker::Model;
 
-/// Acknowledgements and marks, each list behind its size in bytes.
+/// Acknowledgements and marks, each list after its size in bytes.
 ///
 /// ```text
 ///  0                   1                   2                   3
@@ -116,7 +116,7 @@ fn count_acks(items: &[Ack]) -> Result<u64, Error>
     Ok(counter.into_written())
 }
 
-/// Maps an error inside the bytes of `acks`: an error at their end is `OddAcks`.
+/// Maps an error inside the bytes of `acks`: the end of these bytes becomes `OddAcks`.
 fn acks_ended(error: LogError) -> LogError
     ensures { result ≡ acks_ended error }
 {
@@ -133,11 +133,11 @@ fn acks_ended(error: LogError) -> LogError
     }
 }
 
-/// Returns the items of `acks` that fill these bytes, at most `size`.
+/// Parses these bytes as the items of `acks`, of which there are at most `size`.
 ///
 /// # Errors
 ///
-/// `OddAcks` if they do not fill them. Otherwise the error of an item.
+/// `OddAcks` if the items do not fill the bytes. Otherwise the error of an item.
 fn acks_in(bytes: &[u8], alloc: Global, size: u64) -> Result<Vec<Ack>, LogError>
     ensures { UnlessMemory (λ error. Reader error)
         (items_from (plain_reads (ack_decoder High)) OddAcks (λ error. Reader error) acks_ended 0 (bits High bytes.now) size)
@@ -206,7 +206,7 @@ fn count_marks(items: &[Mark]) -> Result<u64, Error>
     Ok(counter.into_written())
 }
 
-/// Maps an error inside the bytes of `marks`: an error at their end is `OddMarks`.
+/// Maps an error inside the bytes of `marks`: the end of these bytes becomes `OddMarks`.
 fn marks_ended(error: LogError) -> LogError
     ensures { result ≡ marks_ended error }
 {
@@ -223,11 +223,11 @@ fn marks_ended(error: LogError) -> LogError
     }
 }
 
-/// Returns the items of `marks` that fill these bytes, at most `size`.
+/// Parses these bytes as the items of `marks`, of which there are at most `size`.
 ///
 /// # Errors
 ///
-/// `OddMarks` if they do not fill them. Otherwise the error of an item.
+/// `OddMarks` if the items do not fill the bytes. Otherwise the error of an item.
 fn marks_in(bytes: &[u8], alloc: Global, size: u64) -> Result<Vec<Mark>, LogError>
     ensures { UnlessMemory (λ error. Reader error)
         (items_from (mark_here High) OddMarks (λ error. Reader error) marks_ended 0 (bits High bytes.now) size)
@@ -265,9 +265,9 @@ impl Log {
     ///
     /// # Errors
     ///
-    /// `OddAcks`, `OddMarks`, `InMark`.
-    /// The refused bits are read then.
-    /// `Reader(OutOfMemory)` if the allocation for a list fails, after the items before.
+    /// `OddAcks`, `OddMarks` or `InMark`, after the rejected bits have been read.
+    /// `Reader(OutOfMemory)` if an allocation for a list fails. The items before the failure
+    /// have been read.
     /// Otherwise the reader's errors, after which it has failed.
     pub fn read<R: BitRead>(reader: &mut R, alloc: Global) -> Result<Log, LogError>
         requires { R.source.order ≡ High }
@@ -284,7 +284,8 @@ impl Log {
     ///
     /// # Errors
     ///
-    /// `OddAcks`, `OddMarks`, `InMark`, `Reader(EndOfInput)` if the bytes end before the fields do.
+    /// `OddAcks`, `OddMarks` or `InMark` if bits are rejected.
+    /// `Reader(EndOfInput)` if the bytes end before the fields do.
     /// `Reader(OutOfMemory)` if the allocation for an item of a list fails.
     pub fn parse(packet: &[u8], alloc: Global) -> Result<Log, LogError>
         ensures answer { (OwnAnswer becomes_log (λ answer. answer)
@@ -304,7 +305,7 @@ impl Log {
     ///
     /// # Errors
     ///
-    /// `Checked` for a field that does not fit its bits. The fields before it are written then.
+    /// `Checked` for a field that does not fit its bits. The fields before it have been written.
     /// Otherwise the sink's errors.
     pub fn write<W: BitWrite>(&self, writer: &mut W) -> Result<(), Error>
         ensures { WritesAll W.sink (log_writes W.sink.order self.now) writer.old result writer.new }
@@ -323,7 +324,7 @@ impl Log {
     ///
     /// `Checked` for the first field that does not fit its bits, however long the buffer is.
     /// `Stream(WriteZero)` if all fields fit, and the buffer is too short for the bits.
-    /// The first bytes of the buffer may be changed then.
+    /// After an error, the first bytes of the buffer may have changed.
     pub fn pack_into<'a>(&self, buffer: &'a mut [u8]) -> Result<SliceMut<'a>, Error>
         ensures packed { IfOk result (λ packed. bits High (written_bytes packed) ≡ log_bits self.now) }
         ensures first { IfOk result (HoldsFirst buffer.entry.ghost_name buffer.old) }

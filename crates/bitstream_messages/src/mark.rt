@@ -57,8 +57,7 @@ impl Mark {
     ///
     /// # Errors
     ///
-    /// `NoMark`.
-    /// The refused bits are read then.
+    /// `NoMark`, after the rejected bits have been read.
     /// Otherwise the reader's errors, after which it has failed.
     pub fn read<R: BitRead>(reader: &mut R) -> Result<Mark, MarkError>
         ensures { ReadsOwn R.source becomes_mark (mark_decoder R.source.order) reader.old result reader.new }
@@ -72,7 +71,8 @@ impl Mark {
     ///
     /// # Errors
     ///
-    /// `NoMark`, `Reader(EndOfInput)` for fewer than 2 bytes.
+    /// `NoMark` if bits are rejected.
+    /// `Reader(EndOfInput)` for fewer than 2 bytes.
     pub fn parse(packet: &[u8]) -> Result<Mark, MarkError>
         ensures answer { OwnAnswer becomes_mark (λ answer. answer)
             (sure_answer ((mark_decoder High).reads 0 (bits High packet.now))) result }
@@ -94,7 +94,7 @@ impl Mark {
     ///
     /// # Errors
     ///
-    /// `Checked` for a field that does not fit its bits. The fields before it are written then.
+    /// `Checked` for a field that does not fit its bits. The fields before it have been written.
     /// Otherwise the sink's errors.
     pub fn write<W: BitWrite>(&self, writer: &mut W) -> Result<(), Error>
         ensures { WritesAll W.sink (mark_writes W.sink.order self.now) writer.old result writer.new }
@@ -111,7 +111,7 @@ impl Mark {
     ///
     /// `Checked` for the first field that does not fit its bits, however long the buffer is.
     /// `Stream(WriteZero)` if all fields fit, and the buffer has fewer than 2 bytes.
-    /// The first bytes of the buffer may be changed then.
+    /// After an error, the first bytes of the buffer may have changed.
     pub fn pack_into<'a>(&self, buffer: &'a mut [u8]) -> Result<SliceMut<'a>, Error>
         ensures packed { IfOk result (λ packed. bits High (written_bytes packed) ≡ mark_bits self.now) }
         ensures first { IfOk result (HoldsFirst buffer.entry.ghost_name buffer.old) }

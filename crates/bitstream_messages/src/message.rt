@@ -91,13 +91,13 @@ impl From<MarkError> for MessageError {
 /// The body.
 #[derive(Debug, Drop)]
 pub enum Body {
-    /// 1.
+    /// The case for the number 1.
     Ack(Ack),
-    /// 2.
+    /// The case for the number 2.
     First(Notes),
-    /// 3.
+    /// The case for the number 3.
     Stop,
-    /// 4.
+    /// The case for the number 4.
     Mark(Mark),
 }
 
@@ -118,8 +118,8 @@ impl Body {
     ///
     /// # Errors
     ///
-    /// `NoBody` if no case has the number: nothing is read then.
-    /// `InMark` if a `Mark` is refused.
+    /// `NoBody` if no case has the number, before anything is read.
+    /// `InMark` if a `Mark` is rejected.
     /// Otherwise the reader's errors, after which it has failed.
     pub fn read<R: BitRead>(reader: &mut R, alloc: Global, number: u8) -> Result<Body, MessageError>
         ensures { GrowsOwn R.source becomes_message (body_read R.source.order number) reader.old result reader.new }
@@ -143,7 +143,7 @@ impl Body {
     ///
     /// # Errors
     ///
-    /// `Checked` for a field that does not fit its bits. The fields before it are written then.
+    /// `Checked` for a field that does not fit its bits. The fields before it have been written.
     /// Otherwise the sink's errors.
     pub fn write<W: BitWrite>(&self, writer: &mut W) -> Result<(), Error>
         ensures { WritesAll W.sink (body_writes W.sink.order self.now) writer.old result writer.new }
@@ -162,9 +162,9 @@ impl Message {
     ///
     /// # Errors
     ///
-    /// `NoBody`, `InMark`.
-    /// The refused bits are read then.
-    /// `Reader(OutOfMemory)` if the allocation for a list fails, after the items before.
+    /// `NoBody` or `InMark`, after the rejected bits have been read.
+    /// `Reader(OutOfMemory)` if an allocation for a list fails. The items before the failure
+    /// have been read.
     /// Otherwise the reader's errors, after which it has failed.
     pub fn read<R: BitRead>(reader: &mut R, alloc: Global) -> Result<Message, MessageError>
         ensures { GrowsOwn R.source becomes_message (message_decoder R.source.order) reader.old result reader.new }
@@ -185,7 +185,8 @@ impl Message {
     ///
     /// # Errors
     ///
-    /// `NoBody`, `InMark`, `Reader(EndOfInput)` if the bytes end before the fields do.
+    /// `NoBody` or `InMark` if bits are rejected.
+    /// `Reader(EndOfInput)` if the bytes end before the fields do.
     /// `Reader(OutOfMemory)` if the allocation for an item of a list fails.
     pub fn parse(packet: &[u8], alloc: Global) -> Result<Message, MessageError>
         ensures answer { (OwnAnswer becomes_message (λ answer. answer)
@@ -205,7 +206,7 @@ impl Message {
     ///
     /// # Errors
     ///
-    /// `Checked` for a field that does not fit its bits. The fields before it are written then.
+    /// `Checked` for a field that does not fit its bits. The fields before it have been written.
     /// Otherwise the sink's errors.
     pub fn write<W: BitWrite>(&self, writer: &mut W) -> Result<(), Error>
         ensures { WritesAll W.sink (message_writes W.sink.order self.now) writer.old result writer.new }
@@ -225,7 +226,7 @@ impl Message {
     ///
     /// `Checked` for the first field that does not fit its bits, however long the buffer is.
     /// `Stream(WriteZero)` if all fields fit, and the buffer is too short for the bits.
-    /// The first bytes of the buffer may be changed then.
+    /// After an error, the first bytes of the buffer may have changed.
     pub fn pack_into<'a>(&self, buffer: &'a mut [u8]) -> Result<SliceMut<'a>, Error>
         ensures packed { IfOk result (λ packed. bits High (written_bytes packed) ≡ message_bits self.now) }
         ensures first { IfOk result (HoldsFirst buffer.entry.ghost_name buffer.old) }

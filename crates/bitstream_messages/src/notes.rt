@@ -47,7 +47,7 @@ impl Model for Notes {
     } };
 }
 
-/// Reads `count` items of `levels`. It stops after an item whose allocation fails.
+/// Reads `count` items of `levels`. Stops after an item whose allocation fails.
 fn read_levels<R: BitRead>(reader: &mut R, alloc: Global, count: u64) -> Result<Vec<u16>, Error>
     ensures { GrowingOutcome R.source (items_decoder (list_item (unsigned_decoder R.source.order 16 16)) count)
         reader.old (result_map (λ found. found.items) result) reader.new }
@@ -78,7 +78,8 @@ impl Notes {
     ///
     /// # Errors
     ///
-    /// `OutOfMemory` if the allocation for a list fails, after the items before.
+    /// `OutOfMemory` if an allocation for a list fails. The items before the failure
+    /// have been read.
     /// Otherwise the reader's errors, after which it has failed.
     pub fn read<R: BitRead>(reader: &mut R, alloc: Global) -> Result<Notes, Error>
         ensures { GrowsOwn R.source same_error (notes_decoder R.source.order) reader.old result reader.new }
@@ -113,7 +114,7 @@ impl Notes {
     ///
     /// # Errors
     ///
-    /// `Checked` for a field that does not fit its bits. The fields before it are written then.
+    /// `Checked` for a field that does not fit its bits. The fields before it have been written.
     /// Otherwise the sink's errors.
     pub fn write<W: BitWrite>(&self, writer: &mut W) -> Result<(), Error>
         ensures { WritesAll W.sink (notes_writes W.sink.order self.now) writer.old result writer.new }
@@ -131,7 +132,7 @@ impl Notes {
     ///
     /// `Checked` for the first field that does not fit its bits, however long the buffer is.
     /// `Stream(WriteZero)` if all fields fit, and the buffer is too short for the bits.
-    /// The first bytes of the buffer may be changed then.
+    /// After an error, the first bytes of the buffer may have changed.
     pub fn pack_into<'a>(&self, buffer: &'a mut [u8]) -> Result<SliceMut<'a>, Error>
         ensures packed { IfOk result (λ packed. bits High (written_bytes packed) ≡ notes_bits self.now) }
         ensures first { IfOk result (HoldsFirst buffer.entry.ghost_name buffer.old) }

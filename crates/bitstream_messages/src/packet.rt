@@ -1,4 +1,4 @@
-//! Notes and an acknowledgement, each behind its size in bytes.
+//! Notes and an acknowledgement, each after its size in bytes.
 //!
 //! Made by `./format` from formats/packet.fields: edit that file and make this one anew.
 ghost use Rattle.bitstream_messages.specs.Packet.{packet_decoder, packet_writes, packet_size, packet_bits, Fits, becomes_packet, notes_sized, notes_ended, notes_here, ack_sized, ack_ended};
@@ -22,7 +22,7 @@ use bitstream_io::{
 use std::alloc::Global;
 use std::marker::Model;
 
-/// Notes and an acknowledgement, each behind its size in bytes.
+/// Notes and an acknowledgement, each after its size in bytes.
 ///
 /// ```text
 ///  0                   1                   2                   3
@@ -83,7 +83,7 @@ impl From<Error> for PacketError {
     }
 }
 
-/// Maps an error inside the bytes of `notes`: an error at their end is `OtherNotes`.
+/// Maps an error inside the bytes of `notes`: the end of these bytes becomes `OtherNotes`.
 fn notes_ended(error: PacketError) -> PacketError
     ensures { result ≡ notes_ended error }
 {
@@ -99,11 +99,11 @@ fn notes_ended(error: PacketError) -> PacketError
     }
 }
 
-/// Returns the `notes` that fills these bytes.
+/// Parses these bytes as `notes`.
 ///
 /// # Errors
 ///
-/// `OtherNotes` if it does not fill them. Otherwise its errors.
+/// `OtherNotes` if `notes` does not fill the bytes. Otherwise the errors of `notes`.
 fn notes_in(bytes: &[u8], alloc: Global) -> Result<Notes, PacketError>
     ensures { UnlessMemory (λ error. Reader error)
         (within (notes_here High) OtherNotes (λ error. Reader error) notes_ended (bits High bytes.now)) result }
@@ -130,7 +130,7 @@ fn read_notes<R: BitRead>(reader: &mut R, alloc: Global, size: u64) -> Result<No
     notes_in(&bytes, alloc)
 }
 
-/// Maps an error inside the bytes of `ack`: an error at their end is `OtherAck`.
+/// Maps an error inside the bytes of `ack`: the end of these bytes becomes `OtherAck`.
 fn ack_ended(error: PacketError) -> PacketError
     ensures { result ≡ ack_ended error }
 {
@@ -146,11 +146,11 @@ fn ack_ended(error: PacketError) -> PacketError
     }
 }
 
-/// Returns the `ack` that fills these bytes.
+/// Parses these bytes as `ack`.
 ///
 /// # Errors
 ///
-/// `OtherAck` if it does not fill them. Otherwise its errors.
+/// `OtherAck` if `ack` does not fill the bytes. Otherwise the errors of `ack`.
 fn ack_in(bytes: &[u8]) -> Result<Ack, PacketError>
     ensures { UnlessMemory (λ error. Reader error)
         (within (plain_reads (ack_decoder High)) OtherAck (λ error. Reader error) ack_ended (bits High bytes.now)) result }
@@ -182,9 +182,9 @@ impl Packet {
     ///
     /// # Errors
     ///
-    /// `OtherNotes`, `OtherAck`.
-    /// The refused bits are read then.
-    /// `Reader(OutOfMemory)` if the allocation for a list fails, after the items before.
+    /// `OtherNotes` or `OtherAck`, after the rejected bits have been read.
+    /// `Reader(OutOfMemory)` if an allocation for a list fails. The items before the failure
+    /// have been read.
     /// Otherwise the reader's errors, after which it has failed.
     pub fn read<R: BitRead>(reader: &mut R, alloc: Global) -> Result<Packet, PacketError>
         requires { R.source.order ≡ High }
@@ -202,7 +202,8 @@ impl Packet {
     ///
     /// # Errors
     ///
-    /// `OtherNotes`, `OtherAck`, `Reader(EndOfInput)` if the bytes end before the fields do.
+    /// `OtherNotes` or `OtherAck` if bits are rejected.
+    /// `Reader(EndOfInput)` if the bytes end before the fields do.
     /// `Reader(OutOfMemory)` if the allocation for an item of a list fails.
     pub fn parse(packet: &[u8], alloc: Global) -> Result<Packet, PacketError>
         ensures answer { (OwnAnswer becomes_packet (λ answer. answer)
@@ -222,7 +223,7 @@ impl Packet {
     ///
     /// # Errors
     ///
-    /// `Checked` for a field that does not fit its bits. The fields before it are written then.
+    /// `Checked` for a field that does not fit its bits. The fields before it have been written.
     /// Otherwise the sink's errors.
     pub fn write<W: BitWrite>(&self, writer: &mut W) -> Result<(), Error>
         ensures { WritesAll W.sink (packet_writes W.sink.order self.now) writer.old result writer.new }
@@ -242,7 +243,7 @@ impl Packet {
     ///
     /// `Checked` for the first field that does not fit its bits, however long the buffer is.
     /// `Stream(WriteZero)` if all fields fit, and the buffer is too short for the bits.
-    /// The first bytes of the buffer may be changed then.
+    /// After an error, the first bytes of the buffer may have changed.
     pub fn pack_into<'a>(&self, buffer: &'a mut [u8]) -> Result<SliceMut<'a>, Error>
         ensures packed { IfOk result (λ packed. bits High (written_bytes packed) ≡ packet_bits self.now) }
         ensures first { IfOk result (HoldsFirst buffer.entry.ghost_name buffer.old) }

@@ -37,7 +37,7 @@ use std::marker::Model;
 /// ```
 #[derive(Debug, Drop)]
 pub struct QuicStream {
-    /// Whether the stream ends with these data.
+    /// True if the stream ends with these data.
     pub last: bool,
     /// The stream. Below 2^62.
     pub stream: u64,
@@ -84,9 +84,9 @@ impl QuicStream {
     ///
     /// # Errors
     ///
-    /// `OtherFrame`.
-    /// The refused bits are read then.
-    /// `Reader(OutOfMemory)` if the allocation for a list fails, after the items before.
+    /// `OtherFrame`, after the rejected bits have been read.
+    /// `Reader(OutOfMemory)` if an allocation for a list fails. The items before the failure
+    /// have been read.
     /// Otherwise the reader's errors, after which it has failed.
     pub fn read<R: BitRead>(reader: &mut R, alloc: Global) -> Result<QuicStream, QuicStreamError>
         ensures { GrowsOwn R.source becomes_quic_stream (quic_stream_decoder R.source.order) reader.old result reader.new }
@@ -109,7 +109,8 @@ impl QuicStream {
     ///
     /// # Errors
     ///
-    /// `OtherFrame`, `Reader(EndOfInput)` if the bytes end before the fields do.
+    /// `OtherFrame` if bits are rejected.
+    /// `Reader(EndOfInput)` if the bytes end before the fields do.
     /// `Reader(OutOfMemory)` if the allocation for an item of a list fails.
     pub fn parse(packet: &[u8], alloc: Global) -> Result<QuicStream, QuicStreamError>
         ensures answer { (OwnAnswer becomes_quic_stream (λ answer. answer)
@@ -129,7 +130,7 @@ impl QuicStream {
     ///
     /// # Errors
     ///
-    /// `Checked` for a field that does not fit its bits. The fields before it are written then.
+    /// `Checked` for a field that does not fit its bits. The fields before it have been written.
     /// Otherwise the sink's errors.
     pub fn write<W: BitWrite>(&self, writer: &mut W) -> Result<(), Error>
         ensures { WritesAll W.sink (quic_stream_writes W.sink.order self.now) writer.old result writer.new }
@@ -150,7 +151,7 @@ impl QuicStream {
     ///
     /// `Checked` for the first field that does not fit its bits, however long the buffer is.
     /// `Stream(WriteZero)` if all fields fit, and the buffer is too short for the bits.
-    /// The first bytes of the buffer may be changed then.
+    /// After an error, the first bytes of the buffer may have changed.
     pub fn pack_into<'a>(&self, buffer: &'a mut [u8]) -> Result<SliceMut<'a>, Error>
         ensures packed { IfOk result (λ packed. bits High (written_bytes packed) ≡ quic_stream_bits self.now) }
         ensures first { IfOk result (HoldsFirst buffer.entry.ghost_name buffer.old) }

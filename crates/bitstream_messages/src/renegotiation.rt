@@ -50,7 +50,8 @@ impl Renegotiation {
     ///
     /// # Errors
     ///
-    /// `OutOfMemory` if the allocation for a list fails, after the items before.
+    /// `OutOfMemory` if an allocation for a list fails. The items before the failure
+    /// have been read.
     /// Otherwise the reader's errors, after which it has failed.
     pub fn read<R: BitRead>(reader: &mut R, alloc: Global) -> Result<Renegotiation, Error>
         ensures { GrowsOwn R.source same_error (renegotiation_decoder R.source.order) reader.old result reader.new }
@@ -84,7 +85,7 @@ impl Renegotiation {
     ///
     /// # Errors
     ///
-    /// `Checked` for a field that does not fit its bits. The fields before it are written then.
+    /// `Checked` for a field that does not fit its bits. The fields before it have been written.
     /// Otherwise the sink's errors.
     pub fn write<W: BitWrite>(&self, writer: &mut W) -> Result<(), Error>
         ensures { WritesAll W.sink (renegotiation_writes W.sink.order self.now) writer.old result writer.new }
@@ -101,7 +102,7 @@ impl Renegotiation {
     ///
     /// `Checked` for the first field that does not fit its bits, however long the buffer is.
     /// `Stream(WriteZero)` if all fields fit, and the buffer is too short for the bits.
-    /// The first bytes of the buffer may be changed then.
+    /// After an error, the first bytes of the buffer may have changed.
     pub fn pack_into<'a>(&self, buffer: &'a mut [u8]) -> Result<SliceMut<'a>, Error>
         ensures packed { IfOk result (λ packed. bits High (written_bytes packed) ≡ renegotiation_bits self.now) }
         ensures first { IfOk result (HoldsFirst buffer.entry.ghost_name buffer.old) }

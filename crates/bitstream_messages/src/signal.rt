@@ -40,11 +40,11 @@ pub struct Signal {
 /// The body.
 #[derive(Clone, Copy, Debug, PartialEq)]
 pub enum Reply {
-    /// 1.
+    /// The case for the number 1.
     Ack(Ack),
-    /// 7.
+    /// The case for the number 7.
     Stop,
-    /// Another number, with nothing after it.
+    /// Any other number, with nothing after it.
     Other(u8),
 }
 
@@ -81,7 +81,7 @@ impl Reply {
     ///
     /// # Errors
     ///
-    /// `Checked` for a field that does not fit its bits. The fields before it are written then.
+    /// `Checked` for a field that does not fit its bits. The fields before it have been written.
     /// Otherwise the sink's errors.
     pub fn write<W: BitWrite>(&self, writer: &mut W) -> Result<(), Error>
         ensures { WritesAll W.sink (reply_writes W.sink.order self.now) writer.old result writer.new }
@@ -97,9 +97,9 @@ impl Reply {
 /// The acknowledgement of an earlier packet, if there is one.
 #[derive(Clone, Copy, Debug, PartialEq)]
 pub enum Tail {
-    /// 0.
+    /// The case for the number 0.
     Nothing,
-    /// 1.
+    /// The case for the number 1.
     Late(Ack),
 }
 
@@ -132,7 +132,7 @@ impl Tail {
     ///
     /// # Errors
     ///
-    /// `Checked` for a field that does not fit its bits. The fields before it are written then.
+    /// `Checked` for a field that does not fit its bits. The fields before it have been written.
     /// Otherwise the sink's errors.
     pub fn write<W: BitWrite>(&self, writer: &mut W) -> Result<(), Error>
         ensures { WritesAll W.sink (tail_writes W.sink.order self.now) writer.old result writer.new }
@@ -179,7 +179,7 @@ impl Signal {
     ///
     /// # Errors
     ///
-    /// `Checked` for a field that does not fit its bits. The fields before it are written then.
+    /// `Checked` for a field that does not fit its bits. The fields before it have been written.
     /// Otherwise the sink's errors.
     pub fn write<W: BitWrite>(&self, writer: &mut W) -> Result<(), Error>
         ensures { WritesAll W.sink (signal_writes W.sink.order self.now) writer.old result writer.new }
@@ -199,7 +199,7 @@ impl Signal {
     ///
     /// `Checked` for the first field that does not fit its bits, however long the buffer is.
     /// `Stream(WriteZero)` if all fields fit, and the buffer is too short for the bits.
-    /// The first bytes of the buffer may be changed then.
+    /// After an error, the first bytes of the buffer may have changed.
     pub fn pack_into<'a>(&self, buffer: &'a mut [u8]) -> Result<SliceMut<'a>, Error>
         ensures packed { IfOk result (λ packed. bits High (written_bytes packed) ≡ signal_bits self.now) }
         ensures first { IfOk result (HoldsFirst buffer.entry.ghost_name buffer.old) }

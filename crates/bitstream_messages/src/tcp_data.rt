@@ -64,7 +64,7 @@ impl From<Error> for DataError {
     }
 }
 
-/// Reads `data`, whose size a number states.
+/// Reads `data`. The number `stored` states its size.
 fn read_stated_data<R: BitRead>(
     reader: &mut R,
     alloc: Global,
@@ -87,9 +87,9 @@ impl Data {
     ///
     /// # Errors
     ///
-    /// `ShortOption`.
-    /// The refused bits are read then.
-    /// `Reader(OutOfMemory)` if the allocation for a list fails, after the items before.
+    /// `ShortOption`, after the rejected bits have been read.
+    /// `Reader(OutOfMemory)` if an allocation for a list fails. The items before the failure
+    /// have been read.
     /// Otherwise the reader's errors, after which it has failed.
     pub fn read<R: BitRead>(reader: &mut R, alloc: Global) -> Result<Data, DataError>
         ensures { GrowsOwn R.source becomes_tcp_data (tcp_data_decoder R.source.order) reader.old result reader.new }
@@ -103,7 +103,8 @@ impl Data {
     ///
     /// # Errors
     ///
-    /// `ShortOption`, `Reader(EndOfInput)` if the bytes end before the fields do.
+    /// `ShortOption` if bits are rejected.
+    /// `Reader(EndOfInput)` if the bytes end before the fields do.
     /// `Reader(OutOfMemory)` if the allocation for an item of a list fails.
     pub fn parse(packet: &[u8], alloc: Global) -> Result<Data, DataError>
         ensures answer { (OwnAnswer becomes_tcp_data (λ answer. answer)
@@ -123,7 +124,7 @@ impl Data {
     ///
     /// # Errors
     ///
-    /// `Checked` for a field that does not fit its bits. The fields before it are written then.
+    /// `Checked` for a field that does not fit its bits. The fields before it have been written.
     /// Otherwise the sink's errors.
     pub fn write<W: BitWrite>(&self, writer: &mut W) -> Result<(), Error>
         ensures { WritesAll W.sink (tcp_data_writes W.sink.order self.now) writer.old result writer.new }
@@ -140,7 +141,7 @@ impl Data {
     ///
     /// `Checked` for the first field that does not fit its bits, however long the buffer is.
     /// `Stream(WriteZero)` if all fields fit, and the buffer is too short for the bits.
-    /// The first bytes of the buffer may be changed then.
+    /// After an error, the first bytes of the buffer may have changed.
     pub fn pack_into<'a>(&self, buffer: &'a mut [u8]) -> Result<SliceMut<'a>, Error>
         ensures packed { IfOk result (λ packed. bits High (written_bytes packed) ≡ tcp_data_bits self.now) }
         ensures first { IfOk result (HoldsFirst buffer.entry.ghost_name buffer.old) }

@@ -104,7 +104,7 @@ fn count_blocks(items: &[Block]) -> Result<u64, Error>
     Ok(counter.into_written())
 }
 
-/// Maps an error inside the bytes of `blocks`: an error at their end is `OtherSize`.
+/// Maps an error inside the bytes of `blocks`: the end of these bytes becomes `OtherSize`.
 fn blocks_ended(error: ReceivedError) -> ReceivedError
     ensures { result ≡ blocks_ended error }
 {
@@ -119,11 +119,11 @@ fn blocks_ended(error: ReceivedError) -> ReceivedError
     }
 }
 
-/// Returns the items of `blocks` that fill these bytes, at most `size`.
+/// Parses these bytes as the items of `blocks`, of which there are at most `size`.
 ///
 /// # Errors
 ///
-/// `OtherSize` if they do not fill them. Otherwise the error of an item.
+/// `OtherSize` if the items do not fill the bytes. Otherwise the error of an item.
 fn blocks_in(bytes: &[u8], alloc: Global, size: u64) -> Result<Vec<Block>, ReceivedError>
     ensures { UnlessMemory (λ error. Reader error)
         (items_from (plain_reads (tcp_block_decoder High)) OtherSize (λ error. Reader error) blocks_ended 0 (bits High bytes.now) size)
@@ -160,7 +160,7 @@ fn read_blocks<R: BitRead>(
     blocks_in(&bytes, alloc, size)
 }
 
-/// Reads `blocks`, whose size a number states.
+/// Reads `blocks`. The number `stored` states its size.
 fn read_stated_blocks<R: BitRead>(
     reader: &mut R,
     alloc: Global,
@@ -184,9 +184,9 @@ impl Received {
     ///
     /// # Errors
     ///
-    /// `OtherSize`.
-    /// The refused bits are read then.
-    /// `Reader(OutOfMemory)` if the allocation for a list fails, after the items before.
+    /// `OtherSize`, after the rejected bits have been read.
+    /// `Reader(OutOfMemory)` if an allocation for a list fails. The items before the failure
+    /// have been read.
     /// Otherwise the reader's errors, after which it has failed.
     pub fn read<R: BitRead>(reader: &mut R, alloc: Global) -> Result<Received, ReceivedError>
         requires { R.source.order ≡ High }
@@ -201,7 +201,8 @@ impl Received {
     ///
     /// # Errors
     ///
-    /// `OtherSize`, `Reader(EndOfInput)` if the bytes end before the fields do.
+    /// `OtherSize` if bits are rejected.
+    /// `Reader(EndOfInput)` if the bytes end before the fields do.
     /// `Reader(OutOfMemory)` if the allocation for an item of a list fails.
     pub fn parse(packet: &[u8], alloc: Global) -> Result<Received, ReceivedError>
         ensures answer { (OwnAnswer becomes_tcp_received (λ answer. answer)
@@ -221,7 +222,7 @@ impl Received {
     ///
     /// # Errors
     ///
-    /// `Checked` for a field that does not fit its bits. The fields before it are written then.
+    /// `Checked` for a field that does not fit its bits. The fields before it have been written.
     /// Otherwise the sink's errors.
     pub fn write<W: BitWrite>(&self, writer: &mut W) -> Result<(), Error>
         ensures { WritesAll W.sink (tcp_received_writes W.sink.order self.now) writer.old result writer.new }
@@ -238,7 +239,7 @@ impl Received {
     ///
     /// `Checked` for the first field that does not fit its bits, however long the buffer is.
     /// `Stream(WriteZero)` if all fields fit, and the buffer is too short for the bits.
-    /// The first bytes of the buffer may be changed then.
+    /// After an error, the first bytes of the buffer may have changed.
     pub fn pack_into<'a>(&self, buffer: &'a mut [u8]) -> Result<SliceMut<'a>, Error>
         ensures packed { IfOk result (λ packed. bits High (written_bytes packed) ≡ tcp_received_bits self.now) }
         ensures first { IfOk result (HoldsFirst buffer.entry.ghost_name buffer.old) }

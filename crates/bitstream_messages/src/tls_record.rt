@@ -30,7 +30,7 @@ use std::marker::Model;
 /// ```
 #[derive(Debug, Drop)]
 pub struct TlsRecord {
-    /// What it holds.
+    /// The type of the content.
     pub content: Content,
     /// The version, 0x0301 to 0x0303.
     pub version: u16,
@@ -50,18 +50,18 @@ impl Model for TlsRecord {
     } };
 }
 
-/// What it holds.
+/// The type of the content.
 #[derive(Clone, Copy, Debug, PartialEq)]
 pub enum Content {
-    /// 20.
+    /// Encoded as 20.
     ChangeCipherSpec,
-    /// 21.
+    /// Encoded as 21.
     Alert,
-    /// 22.
+    /// Encoded as 22.
     Handshake,
-    /// 23.
+    /// Encoded as 23.
     Data,
-    /// Another number.
+    /// Any other number.
     Other(u8),
 }
 
@@ -115,7 +115,8 @@ impl TlsRecord {
     ///
     /// # Errors
     ///
-    /// `OutOfMemory` if the allocation for a list fails, after the items before.
+    /// `OutOfMemory` if an allocation for a list fails. The items before the failure
+    /// have been read.
     /// Otherwise the reader's errors, after which it has failed.
     pub fn read<R: BitRead>(reader: &mut R, alloc: Global) -> Result<TlsRecord, Error>
         ensures { GrowsOwn R.source same_error (tls_record_decoder R.source.order) reader.old result reader.new }
@@ -155,7 +156,7 @@ impl TlsRecord {
     ///
     /// # Errors
     ///
-    /// `Checked` for a field that does not fit its bits. The fields before it are written then.
+    /// `Checked` for a field that does not fit its bits. The fields before it have been written.
     /// Otherwise the sink's errors.
     pub fn write<W: BitWrite>(&self, writer: &mut W) -> Result<(), Error>
         ensures { WritesAll W.sink (tls_record_writes W.sink.order self.now) writer.old result writer.new }
@@ -174,7 +175,7 @@ impl TlsRecord {
     ///
     /// `Checked` for the first field that does not fit its bits, however long the buffer is.
     /// `Stream(WriteZero)` if all fields fit, and the buffer is too short for the bits.
-    /// The first bytes of the buffer may be changed then.
+    /// After an error, the first bytes of the buffer may have changed.
     pub fn pack_into<'a>(&self, buffer: &'a mut [u8]) -> Result<SliceMut<'a>, Error>
         ensures packed { IfOk result (λ packed. bits High (written_bytes packed) ≡ tls_record_bits self.now) }
         ensures first { IfOk result (HoldsFirst buffer.entry.ghost_name buffer.old) }

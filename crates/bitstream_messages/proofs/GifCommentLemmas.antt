@@ -1,0 +1,29 @@
+-- Made by `./format` from formats/gif_comment.fields: edit that file and make this one anew.
+-- A written `GifComment` is read back, and its number of bits.
+use Rattle.bitstream_messages.specs.GifComment.{gif_comment_decoder, gif_comment_writes, gif_comment_size, gif_comment_bits, Fits}
+use Rattle.bitstream_messages.specs.declared.gif_comment.GifComment.{GifComment}
+use Rattle.std.proofs.Common.{◌≡◌, ◌++◌, ◌∷◌, [], Ok, refl, arith}
+use Rattle.bitstream_io.proofs.CallerLemmas.{RoundTrip, Packs, pure-back, literal-back, part-back, const-written, packs-none, packs-more, packs-part, packs-is}
+use Rattle.bitstream_format.proofs.BlocksLemmas.{blocks-back, blocks-packs}
+use Rattle.bitstream_io.specs.Callers.{Order, High, align, write_sequence}
+use Rattle.bitstream_format.specs.Blocks.{blocks_decoder, blocks_writes}
+
+-- a written value is read back
+pub gif_comment_goes : (o : Order) (value : GifComment) → Fits value
+    → RoundTrip (gif_comment_decoder o) (gif_comment_writes o value) (Ok value)
+gif_comment_goes o value fits =
+    literal-back _ _ o 8 33 _ refl (literal-back _ _ o 8 254 _ refl (part-back (blocks_decoder o) _ (blocks_writes o
+    value.text) _ value.text _ (blocks-back o value.text fits.text fits.text_most).back (pure-back _)))
+
+-- each write is accepted, and the value's size is the number of bits written
+pub gif_comment_packs : (o : Order) (value : GifComment) → Fits value
+    → Packs (gif_comment_writes o value) (gif_comment_size o value)
+gif_comment_packs o value fits =
+    packs-is (packs-more (const-written o 8 33) (packs-more (const-written o 8 254) (packs-part (blocks-packs o
+    value.text fits.text) (packs-none)))) (omega arith)
+
+-- the bits, of which a search is to see no part
+pub told : (value : GifComment)
+    → write_sequence (gif_comment_writes High value ++ align ∷ []) 0 ≡ gif_comment_bits value
+unfolding gif_comment_bits
+told value = refl
