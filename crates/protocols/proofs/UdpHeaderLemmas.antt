@@ -1,37 +1,24 @@
 -- Made by `./format` from formats/udp_header.fields: edit that file and make this one anew.
 -- A written `UdpHeader` is read back, and its number of bits.
-use Rattle.protocols.specs.UdpHeader.{udp_header_decoder, udp_header_writes, udp_header_size, udp_header_bits, Fits}
+use Rattle.protocols.specs.UdpHeader.{udp_header_decoder, udp_header_writes, udp_header_size, udp_header_format, udp_header_bits, Fits}
 use Rattle.protocols.specs.declared.udp_header.UdpHeader.{UdpHeader}
 use Rattle.std.proofs.Common.{◌≡◌, ◌++◌, ◌∷◌, [], ℕ, refl}
-use Rattle.bitstream_io.proofs.CallerLemmas.{RoundTrip, Packs, unsigned-accepted, unsigned-back, pure-back, unsigned-written, packs-none, packs-more}
+use Rattle.bitstream_io.proofs.CallerLemmas.{RoundTrip, Packs}
 use Rattle.bitstream_io.specs.Callers.{Order, High, align, write_sequence, AllAccepted}
 
 -- a written value is read back
 pub udp_header_goes : (o : Order) (value : UdpHeader) → Fits value
     → RoundTrip (udp_header_decoder o) (udp_header_writes o value) value
-udp_header_goes o value fits =
-    unsigned-back o 16 _ _ 16 value.source _ refl fits.source (unsigned-back o 16 _ _ 16 value.target _ refl fits.target
-    (unsigned-back o 16 _ _ 16 value.size _ refl fits.size (unsigned-back o 16 _ _ 16 value.checksum _ refl
-    fits.checksum (pure-back _))))
+udp_header_goes = udp_header_format.round_trip
 
 -- each write is accepted, and the value's size is the number of bits written
 pub udp_header_packs : (o : Order) (value : UdpHeader) → Fits value
     → Packs (udp_header_writes o value) (udp_header_size o value)
-udp_header_packs o value fits =
-    packs-more (unsigned-written o 16 16 value.source refl fits.source) (packs-more (unsigned-written o 16 16
-    value.target refl fits.target) (packs-more (unsigned-written o 16 16 value.size refl fits.size) (packs-more
-    (unsigned-written o 16 16 value.checksum refl fits.checksum) (packs-none))))
+udp_header_packs = udp_header_format.packs
 
 -- each field fits if each write is accepted
 pub udp_header_fits : (o : Order) (value : UdpHeader) (at : ℕ) → AllAccepted (udp_header_writes o value) at → Fits value
-udp_header_fits o value at all = record {
-  source = unsigned-accepted o 16 16 value.source _ refl (all.0);
-  target =
-      unsigned-accepted o 16 16 value.target _ refl (all.1.0);
-  size = unsigned-accepted o 16 16 value.size _ refl
-      (all.1.1.0);
-  checksum = unsigned-accepted o 16 16 value.checksum _ refl (all.1.1.1.0);
-}
+udp_header_fits o value at = udp_header_format.accepted o value at tt
 
 -- the bits, of which a search is to see no part
 pub told : (value : UdpHeader)

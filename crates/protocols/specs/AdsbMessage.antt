@@ -2,8 +2,11 @@
 use Rattle.protocols.specs.declared.adsb_message.AdsbMessage.{AdsbMessage}
 use Rattle.protocols.specs.declared.adsb_message.AdsbError.{AdsbError}
 use Rattle.protocols.specs.declared.adsb_message.AdsbError.TheVariants.{Reader, OtherFormat}
-use Rattle.std.specs.Prelude.{◌≡◌, ◌^◌, ◌<◌, ◌++◌, ◌∷◌, [], if◌then◌else◌, ℕ, Bool, List, Result, Ok, Err, take, drop}
-use Rattle.bitstream_io.specs.Callers.{◌>>=◌, Decoder, Encoder, pure, Error, Order, High, number, word, unsigned_decoder, const_decoder, plain, unsigned, align, write_sequence}
+use Rattle.std.proofs.Common.{refl}
+use Rattle.bitstream_format.specs.Format.{◌>>=◌, Own as OwnFormat, Parts as FormatParts, format, renamed, field, const, ◌&◌, own_done}
+use Rattle.std.specs.Prelude.{◌≡◌, ◌^◌, ◌<◌, ◌++◌, ◌∷◌, [], ℕ, Bool, List, Result, Ok, take, drop}
+use Rattle.bitstream_io.specs.Callers.{Decoder, Encoder, Error, Order, High, number, align, write_sequence}
+use Rattle.bitstream_format.specs.Atoms as atom
 
 -- Made by `./format` from formats/adsb_message.fields: edit that file and make this one anew.
 
@@ -19,32 +22,24 @@ bits_at k n bits = take n (drop k bits)
 abbrev pub const_at_0 : List Bool → ℕ
 const_at_0 bits = number High (bits_at 0 5 bits)
 
--- the reads, in order, after 1 that may be refused
-abbrev pub adsb_message_decoder_1 : Order → Decoder (Result AdsbMessage AdsbError)
-adsb_message_decoder_1 o = do
-  capability ← unsigned_decoder o 8 3
-  aircraft ← unsigned_decoder o 32 24
-  kind ← unsigned_decoder o 8 5
-  message ← unsigned_decoder o 64 51
-  parity ← unsigned_decoder o 32 24
-  pure (Ok (record { capability = capability; aircraft = aircraft; kind = kind; message = message; parity = parity }))
+-- the lines, in order
+abbrev pub adsb_message_lines : FormatParts AdsbMessage (Result AdsbMessage AdsbError) (λ s. Ok s)
+adsb_message_lines = do
+  constant_0 ← const 5 17 refl OtherFormat
+  capability ← field (atom.unsigned 8 3 refl) (λ s. s.capability)
+  aircraft ← field (atom.unsigned 32 24 refl) (λ s. s.aircraft)
+  kind ← field (atom.unsigned 8 5 refl) (λ s. s.kind)
+  message ← field (atom.unsigned 64 51 refl) (λ s. s.message)
+  parity ← field (atom.unsigned 32 24 refl) (λ s. s.parity)
+  own_done (record { capability = capability; aircraft = aircraft; kind = kind; message = message; parity = parity })
 
 -- the reads, in order
 abbrev pub adsb_message_decoder : Order → Decoder (Result AdsbMessage AdsbError)
-adsb_message_decoder o = do
-  is_0 ← const_decoder o 5 17
-  if is_0 then adsb_message_decoder_1 o else pure (Err OtherFormat)
+adsb_message_decoder o = adsb_message_lines.read o
 
 -- the writes, in order
 abbrev pub adsb_message_writes : Order → AdsbMessage → List Encoder
-adsb_message_writes o value =
-    plain (word o 5 17)
-    ∷ unsigned o 8 3 value.capability
-    ∷ unsigned o 32 24 value.aircraft
-    ∷ unsigned o 8 5 value.kind
-    ∷ unsigned o 64 51 value.message
-    ∷ unsigned o 32 24 value.parity
-    ∷ []
+adsb_message_writes o value = adsb_message_lines.write o value
 
 -- each field fits its bits
 pub record Fits (value : AdsbMessage) : Type 0 where
@@ -57,6 +52,19 @@ pub record Fits (value : AdsbMessage) : Type 0 where
 -- the number of bits
 abbrev pub adsb_message_size : Order → AdsbMessage → ℕ
 adsb_message_size o value = 112
+
+-- the format, with the facts that must fit by name
+abbrev pub adsb_message_format : OwnFormat AdsbError AdsbMessage
+adsb_message_format = renamed Fits (format adsb_message_lines (λ s. refl {a = s}))
+    (λ s fits. fits.capability & fits.aircraft & fits.kind & fits.message & fits.parity)
+    (λ s facts. record {
+      capability = facts.0;
+      aircraft = facts.1.0;
+      kind = facts.1.1.0;
+      message = facts.1.1.1.0;
+      parity
+          = facts.1.1.1.1;
+    })
 
 -- the bits of all fields, up to a whole byte
 unfoldable pub adsb_message_bits : AdsbMessage → List Bool

@@ -4,9 +4,13 @@ use Rattle.protocols.specs.declared.arp_packet.ArpError.{ArpError}
 use Rattle.protocols.specs.declared.arp_packet.ArpError.TheVariants.{Reader, OtherHardware, OtherProtocol, OtherHardwareLength, OtherProtocolLength}
 use Rattle.protocols.specs.declared.arp_packet.Operation.{Operation}
 use Rattle.protocols.specs.declared.arp_packet.Operation.TheVariants.{Request, Reply, Other}
-use Rattle.std.specs.Prelude.{◌≡◌, ◌^◌, ◌<◌, ◌++◌, ◌∷◌, [], ◌==◌, if◌then◌else◌, ℕ, Bool, List, Result, Ok, Err, length, take, drop}
+use Rattle.std.proofs.Common.{refl}
+use Rattle.bitstream_format.specs.Format.{◌>>=◌, Plain as PlainFormat, Own as OwnFormat, Parts as FormatParts, format, named, field, const, ◌&◌, own_done}
+use Rattle.bitstream_format.specs.Cases.{open_cases}
+use Rattle.std.specs.Prelude.{◌≡◌, ◌^◌, ◌<◌, ◌++◌, ◌∷◌, [], ◌==◌, if◌then◌else◌, ℕ, Bool, List, Result, Ok, length, take, drop}
 use Rattle.std.specs.List.{All}
-use Rattle.bitstream_io.specs.Callers.{◌>>=◌, Decoder, Encoder, pure, Error, Order, High, number, and_then, word, unsigned_decoder, const_decoder, bytes_decoder, bytes_of, plain, unsigned, buffer, align, write_sequence}
+use Rattle.bitstream_io.specs.Callers.{Decoder, Encoder, pure, Error, Order, High, number, and_then, unsigned_decoder, bytes_of, align, write_sequence}
+use Rattle.bitstream_format.specs.Atoms as atom
 
 -- Made by `./format` from formats/arp_packet.fields: edit that file and make this one anew.
 
@@ -48,59 +52,37 @@ operation_number (Other n) = n
 abbrev pub operation_read : Order → Decoder Operation
 operation_read o = and_then (unsigned_decoder o 16 16) (λ v. pure (operation_of v))
 
--- the reads, in order, after 4 that may be refused
-abbrev pub arp_packet_decoder_4 : Order → Decoder (Result ArpPacket ArpError)
-arp_packet_decoder_4 o = do
-  operation ← operation_read o
-  sender_hardware ← bytes_decoder o 6
-  sender_protocol ← bytes_decoder o 4
-  target_hardware ← bytes_decoder o 6
-  target_protocol ← bytes_decoder o 4
-  pure (Ok (record {
+-- the cases, by their numbers
+abbrev pub operation_cases : PlainFormat Operation
+operation_cases = open_cases 16 16 refl operation_of operation_number
+
+-- the lines, in order
+abbrev pub arp_packet_lines : FormatParts ArpPacket (Result ArpPacket ArpError) (λ s. Ok s)
+arp_packet_lines = do
+  constant_0 ← const 16 1 refl OtherHardware
+  constant_1 ← const 16 2048 refl OtherProtocol
+  constant_2 ← const 8 6 refl OtherHardwareLength
+  constant_3 ← const 8 4 refl OtherProtocolLength
+  operation ← field operation_cases (λ s. s.operation)
+  sender_hardware ← field (atom.bytes 6) (λ s. s.sender_hardware)
+  sender_protocol ← field (atom.bytes 4) (λ s. s.sender_protocol)
+  target_hardware ← field (atom.bytes 6) (λ s. s.target_hardware)
+  target_protocol ← field (atom.bytes 4) (λ s. s.target_protocol)
+  own_done (record {
     operation = operation;
     sender_hardware = sender_hardware;
     sender_protocol = sender_protocol;
     target_hardware = target_hardware;
     target_protocol = target_protocol;
-  }))
-
--- the reads, in order, after 3 that may be refused
-abbrev pub arp_packet_decoder_3 : Order → Decoder (Result ArpPacket ArpError)
-arp_packet_decoder_3 o = do
-  is_3 ← const_decoder o 8 4
-  if is_3 then arp_packet_decoder_4 o else pure (Err OtherProtocolLength)
-
--- the reads, in order, after 2 that may be refused
-abbrev pub arp_packet_decoder_2 : Order → Decoder (Result ArpPacket ArpError)
-arp_packet_decoder_2 o = do
-  is_2 ← const_decoder o 8 6
-  if is_2 then arp_packet_decoder_3 o else pure (Err OtherHardwareLength)
-
--- the reads, in order, after 1 that may be refused
-abbrev pub arp_packet_decoder_1 : Order → Decoder (Result ArpPacket ArpError)
-arp_packet_decoder_1 o = do
-  is_1 ← const_decoder o 16 2048
-  if is_1 then arp_packet_decoder_2 o else pure (Err OtherProtocol)
+  })
 
 -- the reads, in order
 abbrev pub arp_packet_decoder : Order → Decoder (Result ArpPacket ArpError)
-arp_packet_decoder o = do
-  is_0 ← const_decoder o 16 1
-  if is_0 then arp_packet_decoder_1 o else pure (Err OtherHardware)
+arp_packet_decoder o = arp_packet_lines.read o
 
 -- the writes, in order
 abbrev pub arp_packet_writes : Order → ArpPacket → List Encoder
-arp_packet_writes o value =
-    plain (word o 16 1)
-    ∷ plain (word o 16 2048)
-    ∷ plain (word o 8 6)
-    ∷ plain (word o 8 4)
-    ∷ unsigned o 16 16 (operation_number value.operation)
-    ∷ buffer o value.sender_hardware
-    ∷ buffer o value.sender_protocol
-    ∷ buffer o value.target_hardware
-    ∷ buffer o value.target_protocol
-    ∷ []
+arp_packet_writes o value = arp_packet_lines.write o value
 
 -- each field fits its bits
 pub record Fits (value : ArpPacket) : Type 0 where
@@ -118,6 +100,13 @@ pub record Fits (value : ArpPacket) : Type 0 where
 -- the number of bits
 abbrev pub arp_packet_size : Order → ArpPacket → ℕ
 arp_packet_size o value = 224
+
+-- the format, with the facts that must fit by name
+abbrev pub arp_packet_format : OwnFormat ArpError ArpPacket
+arp_packet_format = named Fits (format arp_packet_lines (λ s. refl {a = s}))
+    (λ s fits. fits.operation & fits.operation_again & fits.sender_hardware_count & fits.sender_hardware &
+    fits.sender_protocol_count & fits.sender_protocol & fits.target_hardware_count & fits.target_hardware &
+    fits.target_protocol_count & fits.target_protocol)
 
 -- the bits of all fields, up to a whole byte
 unfoldable pub arp_packet_bits : ArpPacket → List Bool

@@ -1,7 +1,10 @@
 -- The header of a CAN frame in a capture (LINKTYPE_CAN_SOCKETCAN of tcpdump.org).
 use Rattle.protocols.specs.declared.can_frame.CanFrame.{CanFrame}
+use Rattle.std.proofs.Common.{refl}
+use Rattle.bitstream_format.specs.Format.{◌>>=◌, Plain as PlainFormat, Parts as FormatParts, format, renamed, field, ◌&◌, done}
 use Rattle.std.specs.Prelude.{◌^◌, ◌<◌, ◌++◌, ◌∷◌, [], ℕ, Bool, List, take, drop}
-use Rattle.bitstream_io.specs.Callers.{◌>>=◌, Decoder, Encoder, pure, Order, High, number, first_bit, bit_decoder, unsigned_decoder, skip_decoder, bit, unsigned, zeros, align, write_sequence}
+use Rattle.bitstream_io.specs.Callers.{Decoder, Encoder, Order, High, number, first_bit, align, write_sequence}
+use Rattle.bitstream_format.specs.Atoms as atom
 
 -- Made by `./format` from formats/can_frame.fields: edit that file and make this one anew.
 
@@ -9,27 +12,24 @@ use Rattle.bitstream_io.specs.Callers.{◌>>=◌, Decoder, Encoder, pure, Order,
 abbrev pub bits_at : ℕ → ℕ → List Bool → List Bool
 bits_at k n bits = take n (drop k bits)
 
+-- the lines, in order
+abbrev pub can_frame_lines : FormatParts CanFrame CanFrame (λ s. s)
+can_frame_lines = do
+  extended ← field atom.bool (λ s. s.extended)
+  remote ← field atom.bool (λ s. s.remote)
+  fault ← field atom.bool (λ s. s.fault)
+  id ← field (atom.unsigned 32 29 refl) (λ s. s.id)
+  size ← field (atom.unsigned 8 8 refl) (λ s. s.size)
+  skipped_5 ← field (atom.pad 24) (λ s. tt)
+  done (record { extended = extended; remote = remote; fault = fault; id = id; size = size })
+
 -- the reads, in order
 abbrev pub can_frame_decoder : Order → Decoder CanFrame
-can_frame_decoder o = do
-  extended ← bit_decoder
-  remote ← bit_decoder
-  fault ← bit_decoder
-  id ← unsigned_decoder o 32 29
-  size ← unsigned_decoder o 8 8
-  skipped_5 ← skip_decoder 24
-  pure (record { extended = extended; remote = remote; fault = fault; id = id; size = size })
+can_frame_decoder o = can_frame_lines.read o
 
 -- the writes, in order
 abbrev pub can_frame_writes : Order → CanFrame → List Encoder
-can_frame_writes o value =
-    bit value.extended
-    ∷ bit value.remote
-    ∷ bit value.fault
-    ∷ unsigned o 32 29 value.id
-    ∷ unsigned o 8 8 value.size
-    ∷ zeros 24
-    ∷ []
+can_frame_writes o value = can_frame_lines.write o value
 
 -- each field fits its bits
 pub record Fits (value : CanFrame) : Type 0 where
@@ -39,6 +39,12 @@ pub record Fits (value : CanFrame) : Type 0 where
 -- the number of bits
 abbrev pub can_frame_size : Order → CanFrame → ℕ
 can_frame_size o value = 64
+
+-- the format, with the facts that must fit by name
+abbrev pub can_frame_format : PlainFormat CanFrame
+can_frame_format = renamed Fits (format can_frame_lines (λ s. refl {a = s}))
+    (λ s fits. fits.id & fits.size)
+    (λ s facts. record { id = facts.0; size = facts.1 })
 
 -- the bits of all fields, up to a whole byte
 unfoldable pub can_frame_bits : CanFrame → List Bool

@@ -4,9 +4,14 @@ use Rattle.protocols.specs.declared.coap_header.CoapError.{CoapError}
 use Rattle.protocols.specs.declared.coap_header.CoapError.TheVariants.{Reader, OtherVersion}
 use Rattle.protocols.specs.declared.coap_header.Message.{Message}
 use Rattle.protocols.specs.declared.coap_header.Message.TheVariants.{Confirmable, NonConfirmable, Acknowledgement, Reset}
-use Rattle.std.specs.Prelude.{◌≡◌, ◌^◌, ◌<◌, ◌+◌, ◌*◌, ◌++◌, ◌∷◌, [], ◌==◌, if◌then◌else◌, ℕ, Bool, List, Result, Ok, Err, length}
+use Rattle.std.proofs.Common.{refl, true}
+use Rattle.bitstream_format.specs.Format.{◌>>=◌, Plain as PlainFormat, Own as OwnFormat, Parts as FormatParts, format, named, field, const, ◌&◌, own_done}
+use Rattle.bitstream_format.specs.Lists.{byte_list}
+use Rattle.bitstream_format.specs.Cases.{cases}
+use Rattle.std.specs.Prelude.{◌≡◌, ◌^◌, ◌<◌, ◌++◌, ◌∷◌, [], ◌==◌, if◌then◌else◌, ℕ, Bool, List, Result, Ok, length, nat_lt}
 use Rattle.std.specs.List.{All}
-use Rattle.bitstream_io.specs.Callers.{◌>>=◌, Decoder, Encoder, pure, Error, Order, High, and_then, word, unsigned_decoder, const_decoder, vec_decoder, plain, unsigned, buffer, align, write_sequence}
+use Rattle.bitstream_io.specs.Callers.{Decoder, Encoder, pure, Error, Order, High, and_then, unsigned_decoder, align, write_sequence}
+use Rattle.bitstream_format.specs.Atoms as atom
 
 -- Made by `./format` from formats/coap_header.fields: edit that file and make this one anew.
 
@@ -30,34 +35,42 @@ message_number Reset = 3
 abbrev pub message_read : Order → Decoder Message
 message_read o = and_then (unsigned_decoder o 8 2) (λ v. pure (message_of v))
 
--- the reads, in order, after 1 that may be refused
-abbrev pub coap_header_decoder_1 : Order → Decoder (Result CoapHeader CoapError)
-coap_header_decoder_1 o = do
-  kind ← message_read o
-  token_count ← unsigned_decoder o 64 4
-  class ← unsigned_decoder o 8 3
-  detail ← unsigned_decoder o 8 5
-  id ← unsigned_decoder o 16 16
-  token ← vec_decoder o token_count
-  pure (Ok (record { kind = kind; class = class; detail = detail; id = id; token = token }))
+-- the number of each case fits its bits, and decodes to that case
+pub message_small : (it : Message) → nat_lt (message_number it) (2 ^ 2) ≡ true
+message_small Confirmable = refl
+message_small NonConfirmable = refl
+message_small Acknowledgement = refl
+message_small Reset = refl
+
+pub message_again : (it : Message) → message_of (message_number it) ≡ it
+message_again Confirmable = refl
+message_again NonConfirmable = refl
+message_again Acknowledgement = refl
+message_again Reset = refl
+
+-- the cases, by their numbers
+abbrev pub message_cases : PlainFormat Message
+message_cases = cases 8 2 refl message_of message_number message_small message_again
+
+-- the lines, in order
+abbrev pub coap_header_lines : FormatParts CoapHeader (Result CoapHeader CoapError) (λ s. Ok s)
+coap_header_lines = do
+  constant_0 ← const 2 1 refl OtherVersion
+  kind ← field message_cases (λ s. s.kind)
+  token_count ← field (atom.unsigned 64 4 refl) (λ s. length s.token)
+  class ← field (atom.unsigned 8 3 refl) (λ s. s.class)
+  detail ← field (atom.unsigned 8 5 refl) (λ s. s.detail)
+  id ← field (atom.unsigned 16 16 refl) (λ s. s.id)
+  token ← byte_list token_count (λ s. s.token)
+  own_done (record { kind = kind; class = class; detail = detail; id = id; token = token })
 
 -- the reads, in order
 abbrev pub coap_header_decoder : Order → Decoder (Result CoapHeader CoapError)
-coap_header_decoder o = do
-  is_0 ← const_decoder o 2 1
-  if is_0 then coap_header_decoder_1 o else pure (Err OtherVersion)
+coap_header_decoder o = coap_header_lines.read o
 
 -- the writes, in order
 abbrev pub coap_header_writes : Order → CoapHeader → List Encoder
-coap_header_writes o value =
-    plain (word o 2 1)
-    ∷ unsigned o 8 2 (message_number value.kind)
-    ∷ unsigned o 64 4 (length value.token)
-    ∷ unsigned o 8 3 value.class
-    ∷ unsigned o 8 5 value.detail
-    ∷ unsigned o 16 16 value.id
-    ∷ buffer o value.token
-    ∷ []
+coap_header_writes o value = coap_header_lines.write o value
 
 -- each field fits its bits
 pub record Fits (value : CoapHeader) : Type 0 where
@@ -69,7 +82,12 @@ pub record Fits (value : CoapHeader) : Type 0 where
 
 -- the number of bits
 abbrev pub coap_header_size : Order → CoapHeader → ℕ
-coap_header_size o value = 32 + 8 * length value.token
+coap_header_size o value = coap_header_lines.size value
+
+-- the format, with the facts that must fit by name
+abbrev pub coap_header_format : OwnFormat CoapError CoapHeader
+coap_header_format = named Fits (format coap_header_lines (λ s. (refl, refl {a = s})))
+    (λ s fits. fits.token_count & fits.class & fits.detail & fits.id & fits.token)
 
 -- the bits of all fields, up to a whole byte
 unfoldable pub coap_header_bits : CoapHeader → List Bool

@@ -4,8 +4,12 @@ use Rattle.protocols.specs.declared.dns_header.DnsHeaderError.{DnsHeaderError}
 use Rattle.protocols.specs.declared.dns_header.DnsHeaderError.TheVariants.{Reader, ReservedSet}
 use Rattle.protocols.specs.declared.dns_header.Code.{Code}
 use Rattle.protocols.specs.declared.dns_header.Code.TheVariants.{NoError, FormatError, ServerFailure, NoSuchName, NotImplemented, Refuses, Other}
-use Rattle.std.specs.Prelude.{◌≡◌, ◌^◌, ◌<◌, ◌++◌, ◌∷◌, [], ◌==◌, if◌then◌else◌, ℕ, Bool, List, Result, Ok, Err, take, drop}
-use Rattle.bitstream_io.specs.Callers.{◌>>=◌, Decoder, Encoder, pure, Error, Order, High, number, and_then, word, first_bit, bit_decoder, unsigned_decoder, const_decoder, plain, bit, unsigned, align, write_sequence}
+use Rattle.std.proofs.Common.{refl}
+use Rattle.bitstream_format.specs.Format.{◌>>=◌, Plain as PlainFormat, Own as OwnFormat, Parts as FormatParts, format, named, field, const, ◌&◌, own_done}
+use Rattle.bitstream_format.specs.Cases.{open_cases}
+use Rattle.std.specs.Prelude.{◌≡◌, ◌^◌, ◌<◌, ◌++◌, ◌∷◌, [], ◌==◌, if◌then◌else◌, ℕ, Bool, List, Result, Ok, take, drop}
+use Rattle.bitstream_io.specs.Callers.{Decoder, Encoder, pure, Error, Order, High, number, and_then, first_bit, unsigned_decoder, align, write_sequence}
+use Rattle.bitstream_format.specs.Atoms as atom
 
 -- Made by `./format` from formats/dns_header.fields: edit that file and make this one anew.
 
@@ -40,18 +44,29 @@ code_number (Other n) = n
 abbrev pub code_read : Order → Decoder Code
 code_read o = and_then (unsigned_decoder o 8 4) (λ v. pure (code_of v))
 
--- the reads, in order, after 1 that may be refused
-abbrev pub dns_header_decoder_1 : Order → ℕ → Bool → ℕ → Bool → Bool → Bool → Bool → Decoder (Result DnsHeader
-    DnsHeaderError)
-dns_header_decoder_1 o id response opcode authoritative truncated recursion available = do
-  authentic ← bit_decoder
-  unchecked ← bit_decoder
-  code ← code_read o
-  questions ← unsigned_decoder o 16 16
-  answers ← unsigned_decoder o 16 16
-  authorities ← unsigned_decoder o 16 16
-  additional ← unsigned_decoder o 16 16
-  pure (Ok (record {
+-- the cases, by their numbers
+abbrev pub code_cases : PlainFormat Code
+code_cases = open_cases 8 4 refl code_of code_number
+
+-- the lines, in order
+abbrev pub dns_header_lines : FormatParts DnsHeader (Result DnsHeader DnsHeaderError) (λ s. Ok s)
+dns_header_lines = do
+  id ← field (atom.unsigned 16 16 refl) (λ s. s.id)
+  response ← field atom.bool (λ s. s.response)
+  opcode ← field (atom.unsigned 8 4 refl) (λ s. s.opcode)
+  authoritative ← field atom.bool (λ s. s.authoritative)
+  truncated ← field atom.bool (λ s. s.truncated)
+  recursion ← field atom.bool (λ s. s.recursion)
+  available ← field atom.bool (λ s. s.available)
+  constant_7 ← const 1 0 refl ReservedSet
+  authentic ← field atom.bool (λ s. s.authentic)
+  unchecked ← field atom.bool (λ s. s.unchecked)
+  code ← field code_cases (λ s. s.code)
+  questions ← field (atom.unsigned 16 16 refl) (λ s. s.questions)
+  answers ← field (atom.unsigned 16 16 refl) (λ s. s.answers)
+  authorities ← field (atom.unsigned 16 16 refl) (λ s. s.authorities)
+  additional ← field (atom.unsigned 16 16 refl) (λ s. s.additional)
+  own_done (record {
     id = id;
     response = response;
     opcode = opcode;
@@ -68,41 +83,15 @@ dns_header_decoder_1 o id response opcode authoritative truncated recursion avai
     answers = answers;
     authorities = authorities;
     additional = additional;
-  }))
+  })
 
 -- the reads, in order
 abbrev pub dns_header_decoder : Order → Decoder (Result DnsHeader DnsHeaderError)
-dns_header_decoder o = do
-  id ← unsigned_decoder o 16 16
-  response ← bit_decoder
-  opcode ← unsigned_decoder o 8 4
-  authoritative ← bit_decoder
-  truncated ← bit_decoder
-  recursion ← bit_decoder
-  available ← bit_decoder
-  is_7 ← const_decoder o 1 0
-  if is_7 then dns_header_decoder_1 o id response opcode authoritative truncated recursion available else pure (Err
-      ReservedSet)
+dns_header_decoder o = dns_header_lines.read o
 
 -- the writes, in order
 abbrev pub dns_header_writes : Order → DnsHeader → List Encoder
-dns_header_writes o value =
-    unsigned o 16 16 value.id
-    ∷ bit value.response
-    ∷ unsigned o 8 4 value.opcode
-    ∷ bit value.authoritative
-    ∷ bit value.truncated
-    ∷ bit value.recursion
-    ∷ bit value.available
-    ∷ plain (word o 1 0)
-    ∷ bit value.authentic
-    ∷ bit value.unchecked
-    ∷ unsigned o 8 4 (code_number value.code)
-    ∷ unsigned o 16 16 value.questions
-    ∷ unsigned o 16 16 value.answers
-    ∷ unsigned o 16 16 value.authorities
-    ∷ unsigned o 16 16 value.additional
-    ∷ []
+dns_header_writes o value = dns_header_lines.write o value
 
 -- each field fits its bits
 pub record Fits (value : DnsHeader) : Type 0 where
@@ -118,6 +107,12 @@ pub record Fits (value : DnsHeader) : Type 0 where
 -- the number of bits
 abbrev pub dns_header_size : Order → DnsHeader → ℕ
 dns_header_size o value = 96
+
+-- the format, with the facts that must fit by name
+abbrev pub dns_header_format : OwnFormat DnsHeaderError DnsHeader
+dns_header_format = named Fits (format dns_header_lines (λ s. refl {a = s}))
+    (λ s fits. fits.id & fits.opcode & fits.code & fits.code_again & fits.questions & fits.answers & fits.authorities &
+    fits.additional)
 
 -- the bits of all fields, up to a whole byte
 unfoldable pub dns_header_bits : DnsHeader → List Bool

@@ -4,8 +4,12 @@ use Rattle.protocols.specs.declared.icmp_echo.IcmpEchoError.{IcmpEchoError}
 use Rattle.protocols.specs.declared.icmp_echo.IcmpEchoError.TheVariants.{Reader, NoEchoKind, OtherCode}
 use Rattle.protocols.specs.declared.icmp_echo.EchoKind.{EchoKind}
 use Rattle.protocols.specs.declared.icmp_echo.EchoKind.TheVariants.{Request, Reply}
-use Rattle.std.specs.Prelude.{◌≡◌, ◌^◌, ◌<◌, ◌++◌, ◌∷◌, [], ◌==◌, if◌then◌else◌, ℕ, Bool, List, Result, Ok, Err, take, drop}
-use Rattle.bitstream_io.specs.Callers.{◌>>=◌, Decoder, Encoder, pure, Error, Order, High, number, and_then, word, unsigned_decoder, const_decoder, plain, unsigned, align, write_sequence, part_then}
+use Rattle.std.proofs.Common.{refl, true}
+use Rattle.bitstream_format.specs.Format.{◌>>=◌, Own as OwnFormat, Parts as FormatParts, format, renamed, field, own_field, const, ◌&◌, own_done}
+use Rattle.bitstream_format.specs.Cases.{cases}
+use Rattle.std.specs.Prelude.{◌≡◌, ◌^◌, ◌<◌, ◌++◌, ◌∷◌, [], ◌==◌, if◌then◌else◌, ℕ, Bool, List, Result, Ok, Err, take, drop, nat_lt}
+use Rattle.bitstream_io.specs.Callers.{Decoder, Encoder, pure, Error, Order, High, number, and_then, unsigned_decoder, align, write_sequence}
+use Rattle.bitstream_format.specs.Atoms as atom
 
 -- Made by `./format` from formats/icmp_echo.fields: edit that file and make this one anew.
 
@@ -30,37 +34,40 @@ echo_kind_number Reply = 0
 abbrev pub echo_kind_read : Order → Decoder (Result EchoKind IcmpEchoError)
 echo_kind_read o = and_then (unsigned_decoder o 8 8) (λ v. pure (echo_kind_of v))
 
+-- the number of each case fits its bits, and decodes to that case
+pub echo_kind_small : (it : EchoKind) → nat_lt (echo_kind_number it) (2 ^ 8) ≡ true
+echo_kind_small Request = refl
+echo_kind_small Reply = refl
+
+pub echo_kind_again : (it : EchoKind) → echo_kind_of (echo_kind_number it) ≡ Ok it
+echo_kind_again Request = refl
+echo_kind_again Reply = refl
+
+-- the cases, by their numbers
+abbrev pub echo_kind_cases : OwnFormat IcmpEchoError EchoKind
+echo_kind_cases = cases 8 8 refl echo_kind_of echo_kind_number echo_kind_small echo_kind_again
+
 -- the 8 bits at 8, which are 0
 abbrev pub const_at_8 : List Bool → ℕ
 const_at_8 bits = number High (bits_at 8 8 bits)
 
--- the reads, in order, after 2 that may be refused
-abbrev pub icmp_echo_decoder_2 : Order → EchoKind → Decoder (Result IcmpEcho IcmpEchoError)
-icmp_echo_decoder_2 o kind = do
-  checksum ← unsigned_decoder o 16 16
-  identifier ← unsigned_decoder o 16 16
-  sequence ← unsigned_decoder o 16 16
-  pure (Ok (record { kind = kind; checksum = checksum; identifier = identifier; sequence = sequence }))
-
--- the reads, in order, after 1 that may be refused
-abbrev pub icmp_echo_decoder_1 : Order → EchoKind → Decoder (Result IcmpEcho IcmpEchoError)
-icmp_echo_decoder_1 o kind = do
-  is_1 ← const_decoder o 8 0
-  if is_1 then icmp_echo_decoder_2 o kind else pure (Err OtherCode)
+-- the lines, in order
+abbrev pub icmp_echo_lines : FormatParts IcmpEcho (Result IcmpEcho IcmpEchoError) (λ s. Ok s)
+icmp_echo_lines = do
+  kind ← own_field echo_kind_cases (λ s. s.kind)
+  constant_1 ← const 8 0 refl OtherCode
+  checksum ← field (atom.unsigned 16 16 refl) (λ s. s.checksum)
+  identifier ← field (atom.unsigned 16 16 refl) (λ s. s.identifier)
+  sequence ← field (atom.unsigned 16 16 refl) (λ s. s.sequence)
+  own_done (record { kind = kind; checksum = checksum; identifier = identifier; sequence = sequence })
 
 -- the reads, in order
 abbrev pub icmp_echo_decoder : Order → Decoder (Result IcmpEcho IcmpEchoError)
-icmp_echo_decoder o = and_then (echo_kind_read o) (part_then (λ kind. icmp_echo_decoder_1 o kind))
+icmp_echo_decoder o = icmp_echo_lines.read o
 
 -- the writes, in order
 abbrev pub icmp_echo_writes : Order → IcmpEcho → List Encoder
-icmp_echo_writes o value =
-    unsigned o 8 8 (echo_kind_number value.kind)
-    ∷ plain (word o 8 0)
-    ∷ unsigned o 16 16 value.checksum
-    ∷ unsigned o 16 16 value.identifier
-    ∷ unsigned o 16 16 value.sequence
-    ∷ []
+icmp_echo_writes o value = icmp_echo_lines.write o value
 
 -- each field fits its bits
 pub record Fits (value : IcmpEcho) : Type 0 where
@@ -71,6 +78,12 @@ pub record Fits (value : IcmpEcho) : Type 0 where
 -- the number of bits
 abbrev pub icmp_echo_size : Order → IcmpEcho → ℕ
 icmp_echo_size o value = 64
+
+-- the format, with the facts that must fit by name
+abbrev pub icmp_echo_format : OwnFormat IcmpEchoError IcmpEcho
+icmp_echo_format = renamed Fits (format icmp_echo_lines (λ s. refl {a = s}))
+    (λ s fits. fits.checksum & fits.identifier & fits.sequence)
+    (λ s facts. record { checksum = facts.0; identifier = facts.1.0; sequence = facts.1.1 })
 
 -- the bits of all fields, up to a whole byte
 unfoldable pub icmp_echo_bits : IcmpEcho → List Bool

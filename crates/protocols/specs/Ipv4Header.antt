@@ -6,9 +6,13 @@ use Rattle.protocols.specs.declared.ipv4_header.Ecn.{Ecn}
 use Rattle.protocols.specs.declared.ipv4_header.Ecn.TheVariants.{NotCapable, Ect1, Ect0, Congested}
 use Rattle.protocols.specs.declared.ipv4_header.Protocol.{Protocol}
 use Rattle.protocols.specs.declared.ipv4_header.Protocol.TheVariants.{Icmp, Tcp, Udp, Other}
-use Rattle.std.specs.Prelude.{◌≡◌, ◌^◌, ◌<◌, ◌++◌, ◌∷◌, [], ◌==◌, if◌then◌else◌, ℕ, Bool, List, Result, Ok, Err, length, take, drop}
+use Rattle.std.proofs.Common.{refl, true}
+use Rattle.bitstream_format.specs.Format.{◌>>=◌, Plain as PlainFormat, Own as OwnFormat, Parts as FormatParts, format, named, field, const, ◌&◌, own_done}
+use Rattle.bitstream_format.specs.Cases.{cases, open_cases}
+use Rattle.std.specs.Prelude.{◌≡◌, ◌^◌, ◌<◌, ◌++◌, ◌∷◌, [], ◌==◌, if◌then◌else◌, ℕ, Bool, List, Result, Ok, length, take, drop, nat_lt}
 use Rattle.std.specs.List.{All}
-use Rattle.bitstream_io.specs.Callers.{◌>>=◌, Decoder, Encoder, pure, Error, Order, High, number, and_then, word, first_bit, bit_decoder, unsigned_decoder, const_decoder, bytes_decoder, bytes_of, plain, bit, unsigned, buffer, align, write_sequence}
+use Rattle.bitstream_io.specs.Callers.{Decoder, Encoder, pure, Error, Order, High, number, and_then, first_bit, unsigned_decoder, bytes_of, align, write_sequence}
+use Rattle.bitstream_format.specs.Atoms as atom
 
 -- Made by `./format` from formats/ipv4_header.fields: edit that file and make this one anew.
 
@@ -39,6 +43,23 @@ ecn_number Congested = 3
 abbrev pub ecn_read : Order → Decoder Ecn
 ecn_read o = and_then (unsigned_decoder o 8 2) (λ v. pure (ecn_of v))
 
+-- the number of each case fits its bits, and decodes to that case
+pub ecn_small : (it : Ecn) → nat_lt (ecn_number it) (2 ^ 2) ≡ true
+ecn_small NotCapable = refl
+ecn_small Ect1 = refl
+ecn_small Ect0 = refl
+ecn_small Congested = refl
+
+pub ecn_again : (it : Ecn) → ecn_of (ecn_number it) ≡ it
+ecn_again NotCapable = refl
+ecn_again Ect1 = refl
+ecn_again Ect0 = refl
+ecn_again Congested = refl
+
+-- the cases, by their numbers
+abbrev pub ecn_cases : PlainFormat Ecn
+ecn_cases = cases 8 2 refl ecn_of ecn_number ecn_small ecn_again
+
 -- the 1 bits at 48, which are 0
 abbrev pub const_at_48 : List Bool → ℕ
 const_at_48 bits = number High (bits_at 48 1 bits)
@@ -58,18 +79,29 @@ protocol_number (Other n) = n
 abbrev pub protocol_read : Order → Decoder Protocol
 protocol_read o = and_then (unsigned_decoder o 8 8) (λ v. pure (protocol_of v))
 
--- the reads, in order, after 2 that may be refused
-abbrev pub ipv4_header_decoder_2 : Order → ℕ → ℕ → Ecn → ℕ → ℕ → Decoder (Result Ipv4Header Ipv4Error)
-ipv4_header_decoder_2 o words_ dscp ecn size id = do
-  keep_whole ← bit_decoder
-  fragments_follow ← bit_decoder
-  offset ← unsigned_decoder o 16 13
-  ttl ← unsigned_decoder o 8 8
-  protocol ← protocol_read o
-  checksum ← unsigned_decoder o 16 16
-  source ← bytes_decoder o 4
-  target ← bytes_decoder o 4
-  pure (Ok (record {
+-- the cases, by their numbers
+abbrev pub protocol_cases : PlainFormat Protocol
+protocol_cases = open_cases 8 8 refl protocol_of protocol_number
+
+-- the lines, in order
+abbrev pub ipv4_header_lines : FormatParts Ipv4Header (Result Ipv4Header Ipv4Error) (λ s. Ok s)
+ipv4_header_lines = do
+  constant_0 ← const 4 4 refl OtherVersion
+  words_ ← field (atom.unsigned 8 4 refl) (λ s. s.words)
+  dscp ← field (atom.unsigned 8 6 refl) (λ s. s.dscp)
+  ecn ← field ecn_cases (λ s. s.ecn)
+  size ← field (atom.unsigned 16 16 refl) (λ s. s.size)
+  id ← field (atom.unsigned 16 16 refl) (λ s. s.id)
+  constant_6 ← const 1 0 refl ReservedSet
+  keep_whole ← field atom.bool (λ s. s.keep_whole)
+  fragments_follow ← field atom.bool (λ s. s.fragments_follow)
+  offset ← field (atom.unsigned 16 13 refl) (λ s. s.offset)
+  ttl ← field (atom.unsigned 8 8 refl) (λ s. s.ttl)
+  protocol ← field protocol_cases (λ s. s.protocol)
+  checksum ← field (atom.unsigned 16 16 refl) (λ s. s.checksum)
+  source ← field (atom.bytes 4) (λ s. s.source)
+  target ← field (atom.bytes 4) (λ s. s.target)
+  own_done (record {
     words = words_;
     dscp = dscp;
     ecn = ecn;
@@ -84,44 +116,15 @@ ipv4_header_decoder_2 o words_ dscp ecn size id = do
     source
         = source;
     target = target;
-  }))
-
--- the reads, in order, after 1 that may be refused
-abbrev pub ipv4_header_decoder_1 : Order → Decoder (Result Ipv4Header Ipv4Error)
-ipv4_header_decoder_1 o = do
-  words_ ← unsigned_decoder o 8 4
-  dscp ← unsigned_decoder o 8 6
-  ecn ← ecn_read o
-  size ← unsigned_decoder o 16 16
-  id ← unsigned_decoder o 16 16
-  is_6 ← const_decoder o 1 0
-  if is_6 then ipv4_header_decoder_2 o words_ dscp ecn size id else pure (Err ReservedSet)
+  })
 
 -- the reads, in order
 abbrev pub ipv4_header_decoder : Order → Decoder (Result Ipv4Header Ipv4Error)
-ipv4_header_decoder o = do
-  is_0 ← const_decoder o 4 4
-  if is_0 then ipv4_header_decoder_1 o else pure (Err OtherVersion)
+ipv4_header_decoder o = ipv4_header_lines.read o
 
 -- the writes, in order
 abbrev pub ipv4_header_writes : Order → Ipv4Header → List Encoder
-ipv4_header_writes o value =
-    plain (word o 4 4)
-    ∷ unsigned o 8 4 value.words
-    ∷ unsigned o 8 6 value.dscp
-    ∷ unsigned o 8 2 (ecn_number value.ecn)
-    ∷ unsigned o 16 16 value.size
-    ∷ unsigned o 16 16 value.id
-    ∷ plain (word o 1 0)
-    ∷ bit value.keep_whole
-    ∷ bit value.fragments_follow
-    ∷ unsigned o 16 13 value.offset
-    ∷ unsigned o 8 8 value.ttl
-    ∷ unsigned o 8 8 (protocol_number value.protocol)
-    ∷ unsigned o 16 16 value.checksum
-    ∷ buffer o value.source
-    ∷ buffer o value.target
-    ∷ []
+ipv4_header_writes o value = ipv4_header_lines.write o value
 
 -- each field fits its bits
 pub record Fits (value : Ipv4Header) : Type 0 where
@@ -142,6 +145,12 @@ pub record Fits (value : Ipv4Header) : Type 0 where
 -- the number of bits
 abbrev pub ipv4_header_size : Order → Ipv4Header → ℕ
 ipv4_header_size o value = 160
+
+-- the format, with the facts that must fit by name
+abbrev pub ipv4_header_format : OwnFormat Ipv4Error Ipv4Header
+ipv4_header_format = named Fits (format ipv4_header_lines (λ s. refl {a = s}))
+    (λ s fits. fits.words_ & fits.dscp & fits.size & fits.id & fits.offset & fits.ttl & fits.protocol &
+    fits.protocol_again & fits.checksum & fits.source_count & fits.source & fits.target_count & fits.target)
 
 -- the bits of all fields, up to a whole byte
 unfoldable pub ipv4_header_bits : Ipv4Header → List Bool

@@ -6,9 +6,13 @@ use Rattle.protocols.specs.declared.ipv6_header.Ecn.{Ecn}
 use Rattle.protocols.specs.declared.ipv6_header.Ecn.TheVariants.{NotCapable, Ect1, Ect0, Congested}
 use Rattle.protocols.specs.declared.ipv6_header.Following.{Following}
 use Rattle.protocols.specs.declared.ipv6_header.Following.TheVariants.{HopByHop, Tcp, Udp, Routing, Fragment, Icmp, Other}
-use Rattle.std.specs.Prelude.{◌≡◌, ◌^◌, ◌<◌, ◌++◌, ◌∷◌, [], ◌==◌, if◌then◌else◌, ℕ, Bool, List, Result, Ok, Err, length, take, drop}
+use Rattle.std.proofs.Common.{refl, true}
+use Rattle.bitstream_format.specs.Format.{◌>>=◌, Plain as PlainFormat, Own as OwnFormat, Parts as FormatParts, format, named, field, const, ◌&◌, own_done}
+use Rattle.bitstream_format.specs.Cases.{cases, open_cases}
+use Rattle.std.specs.Prelude.{◌≡◌, ◌^◌, ◌<◌, ◌++◌, ◌∷◌, [], ◌==◌, if◌then◌else◌, ℕ, Bool, List, Result, Ok, length, take, drop, nat_lt}
 use Rattle.std.specs.List.{All}
-use Rattle.bitstream_io.specs.Callers.{◌>>=◌, Decoder, Encoder, pure, Error, Order, High, number, and_then, word, unsigned_decoder, const_decoder, bytes_decoder, bytes_of, plain, unsigned, buffer, align, write_sequence}
+use Rattle.bitstream_io.specs.Callers.{Decoder, Encoder, pure, Error, Order, High, number, and_then, unsigned_decoder, bytes_of, align, write_sequence}
+use Rattle.bitstream_format.specs.Atoms as atom
 
 -- Made by `./format` from formats/ipv6_header.fields: edit that file and make this one anew.
 
@@ -39,6 +43,23 @@ ecn_number Congested = 3
 abbrev pub ecn_read : Order → Decoder Ecn
 ecn_read o = and_then (unsigned_decoder o 8 2) (λ v. pure (ecn_of v))
 
+-- the number of each case fits its bits, and decodes to that case
+pub ecn_small : (it : Ecn) → nat_lt (ecn_number it) (2 ^ 2) ≡ true
+ecn_small NotCapable = refl
+ecn_small Ect1 = refl
+ecn_small Ect0 = refl
+ecn_small Congested = refl
+
+pub ecn_again : (it : Ecn) → ecn_of (ecn_number it) ≡ it
+ecn_again NotCapable = refl
+ecn_again Ect1 = refl
+ecn_again Ect0 = refl
+ecn_again Congested = refl
+
+-- the cases, by their numbers
+abbrev pub ecn_cases : PlainFormat Ecn
+ecn_cases = cases 8 2 refl ecn_of ecn_number ecn_small ecn_again
+
 -- the case of a number
 abbrev pub following_of : ℕ → Following
 following_of n = if n == 0 then HopByHop else if n == 6 then Tcp else if n == 17 then Udp else if n == 43 then Routing
@@ -58,18 +79,23 @@ following_number (Other n) = n
 abbrev pub following_read : Order → Decoder Following
 following_read o = and_then (unsigned_decoder o 8 8) (λ v. pure (following_of v))
 
--- the reads, in order, after 1 that may be refused
-abbrev pub ipv6_header_decoder_1 : Order → Decoder (Result Ipv6Header Ipv6Error)
-ipv6_header_decoder_1 o = do
-  dscp ← unsigned_decoder o 8 6
-  ecn ← ecn_read o
-  flow ← unsigned_decoder o 32 20
-  payload_size ← unsigned_decoder o 16 16
-  following ← following_read o
-  hop_limit ← unsigned_decoder o 8 8
-  source ← bytes_decoder o 16
-  target ← bytes_decoder o 16
-  pure (Ok (record {
+-- the cases, by their numbers
+abbrev pub following_cases : PlainFormat Following
+following_cases = open_cases 8 8 refl following_of following_number
+
+-- the lines, in order
+abbrev pub ipv6_header_lines : FormatParts Ipv6Header (Result Ipv6Header Ipv6Error) (λ s. Ok s)
+ipv6_header_lines = do
+  constant_0 ← const 4 6 refl OtherVersion
+  dscp ← field (atom.unsigned 8 6 refl) (λ s. s.dscp)
+  ecn ← field ecn_cases (λ s. s.ecn)
+  flow ← field (atom.unsigned 32 20 refl) (λ s. s.flow)
+  payload_size ← field (atom.unsigned 16 16 refl) (λ s. s.payload_size)
+  following ← field following_cases (λ s. s.following)
+  hop_limit ← field (atom.unsigned 8 8 refl) (λ s. s.hop_limit)
+  source ← field (atom.bytes 16) (λ s. s.source)
+  target ← field (atom.bytes 16) (λ s. s.target)
+  own_done (record {
     dscp = dscp;
     ecn = ecn;
     flow = flow;
@@ -79,27 +105,15 @@ ipv6_header_decoder_1 o = do
         = hop_limit;
     source = source;
     target = target;
-  }))
+  })
 
 -- the reads, in order
 abbrev pub ipv6_header_decoder : Order → Decoder (Result Ipv6Header Ipv6Error)
-ipv6_header_decoder o = do
-  is_0 ← const_decoder o 4 6
-  if is_0 then ipv6_header_decoder_1 o else pure (Err OtherVersion)
+ipv6_header_decoder o = ipv6_header_lines.read o
 
 -- the writes, in order
 abbrev pub ipv6_header_writes : Order → Ipv6Header → List Encoder
-ipv6_header_writes o value =
-    plain (word o 4 6)
-    ∷ unsigned o 8 6 value.dscp
-    ∷ unsigned o 8 2 (ecn_number value.ecn)
-    ∷ unsigned o 32 20 value.flow
-    ∷ unsigned o 16 16 value.payload_size
-    ∷ unsigned o 8 8 (following_number value.following)
-    ∷ unsigned o 8 8 value.hop_limit
-    ∷ buffer o value.source
-    ∷ buffer o value.target
-    ∷ []
+ipv6_header_writes o value = ipv6_header_lines.write o value
 
 -- each field fits its bits
 pub record Fits (value : Ipv6Header) : Type 0 where
@@ -117,6 +131,12 @@ pub record Fits (value : Ipv6Header) : Type 0 where
 -- the number of bits
 abbrev pub ipv6_header_size : Order → Ipv6Header → ℕ
 ipv6_header_size o value = 320
+
+-- the format, with the facts that must fit by name
+abbrev pub ipv6_header_format : OwnFormat Ipv6Error Ipv6Header
+ipv6_header_format = named Fits (format ipv6_header_lines (λ s. refl {a = s}))
+    (λ s fits. fits.dscp & fits.flow & fits.payload_size & fits.following & fits.following_again & fits.hop_limit &
+    fits.source_count & fits.source & fits.target_count & fits.target)
 
 -- the bits of all fields, up to a whole byte
 unfoldable pub ipv6_header_bits : Ipv6Header → List Bool

@@ -2,9 +2,12 @@
 use Rattle.protocols.specs.declared.j1939_frame.J1939Frame.{J1939Frame}
 use Rattle.protocols.specs.declared.j1939_frame.J1939Error.{J1939Error}
 use Rattle.protocols.specs.declared.j1939_frame.J1939Error.TheVariants.{Reader, OtherFrame, OtherSize}
-use Rattle.std.specs.Prelude.{◌≡◌, ◌^◌, ◌<◌, ◌++◌, ◌∷◌, [], if◌then◌else◌, ℕ, Bool, List, Result, Ok, Err, length, take, drop}
+use Rattle.std.proofs.Common.{refl}
+use Rattle.bitstream_format.specs.Format.{◌>>=◌, Own as OwnFormat, Parts as FormatParts, format, named, field, const, ◌&◌, own_done}
+use Rattle.std.specs.Prelude.{◌≡◌, ◌^◌, ◌<◌, ◌++◌, ◌∷◌, [], ℕ, Bool, List, Result, Ok, length, take, drop}
 use Rattle.std.specs.List.{All}
-use Rattle.bitstream_io.specs.Callers.{◌>>=◌, Decoder, Encoder, pure, Error, Order, High, number, word, first_bit, bit_decoder, unsigned_decoder, const_decoder, bytes_decoder, bytes_of, skip_decoder, plain, bit, unsigned, buffer, zeros, align, write_sequence}
+use Rattle.bitstream_io.specs.Callers.{Decoder, Encoder, Error, Order, High, number, first_bit, bytes_of, align, write_sequence}
+use Rattle.bitstream_format.specs.Atoms as atom
 
 -- Made by `./format` from formats/j1939_frame.fields: edit that file and make this one anew.
 
@@ -24,12 +27,20 @@ const_at_0 bits = number High (bits_at 0 3 bits)
 abbrev pub const_at_32 : List Bool → ℕ
 const_at_32 bits = number High (bits_at 32 8 bits)
 
--- the reads, in order, after 2 that may be refused
-abbrev pub j1939_frame_decoder_2 : Order → ℕ → Bool → Bool → ℕ → ℕ → ℕ → Decoder (Result J1939Frame J1939Error)
-j1939_frame_decoder_2 o priority extended_page page format specific source = do
-  skipped_8 ← skip_decoder 24
-  payload ← bytes_decoder o 8
-  pure (Ok (record {
+-- the lines, in order
+abbrev pub j1939_frame_lines : FormatParts J1939Frame (Result J1939Frame J1939Error) (λ s. Ok s)
+j1939_frame_lines = do
+  constant_0 ← const 3 4 refl OtherFrame
+  priority ← field (atom.unsigned 8 3 refl) (λ s. s.priority)
+  extended_page ← field atom.bool (λ s. s.extended_page)
+  page ← field atom.bool (λ s. s.page)
+  format ← field (atom.unsigned 8 8 refl) (λ s. s.format)
+  specific ← field (atom.unsigned 8 8 refl) (λ s. s.specific)
+  source ← field (atom.unsigned 8 8 refl) (λ s. s.source)
+  constant_7 ← const 8 8 refl OtherSize
+  skipped_8 ← field (atom.pad 24) (λ s. tt)
+  payload ← field (atom.bytes 8) (λ s. s.payload)
+  own_done (record {
     priority = priority;
     extended_page = extended_page;
     page = page;
@@ -38,40 +49,15 @@ j1939_frame_decoder_2 o priority extended_page page format specific source = do
         specific;
     source = source;
     payload = payload;
-  }))
-
--- the reads, in order, after 1 that may be refused
-abbrev pub j1939_frame_decoder_1 : Order → Decoder (Result J1939Frame J1939Error)
-j1939_frame_decoder_1 o = do
-  priority ← unsigned_decoder o 8 3
-  extended_page ← bit_decoder
-  page ← bit_decoder
-  format ← unsigned_decoder o 8 8
-  specific ← unsigned_decoder o 8 8
-  source ← unsigned_decoder o 8 8
-  is_7 ← const_decoder o 8 8
-  if is_7 then j1939_frame_decoder_2 o priority extended_page page format specific source else pure (Err OtherSize)
+  })
 
 -- the reads, in order
 abbrev pub j1939_frame_decoder : Order → Decoder (Result J1939Frame J1939Error)
-j1939_frame_decoder o = do
-  is_0 ← const_decoder o 3 4
-  if is_0 then j1939_frame_decoder_1 o else pure (Err OtherFrame)
+j1939_frame_decoder o = j1939_frame_lines.read o
 
 -- the writes, in order
 abbrev pub j1939_frame_writes : Order → J1939Frame → List Encoder
-j1939_frame_writes o value =
-    plain (word o 3 4)
-    ∷ unsigned o 8 3 value.priority
-    ∷ bit value.extended_page
-    ∷ bit value.page
-    ∷ unsigned o 8 8 value.format
-    ∷ unsigned o 8 8 value.specific
-    ∷ unsigned o 8 8 value.source
-    ∷ plain (word o 8 8)
-    ∷ zeros 24
-    ∷ buffer o value.payload
-    ∷ []
+j1939_frame_writes o value = j1939_frame_lines.write o value
 
 -- each field fits its bits
 pub record Fits (value : J1939Frame) : Type 0 where
@@ -85,6 +71,11 @@ pub record Fits (value : J1939Frame) : Type 0 where
 -- the number of bits
 abbrev pub j1939_frame_size : Order → J1939Frame → ℕ
 j1939_frame_size o value = 128
+
+-- the format, with the facts that must fit by name
+abbrev pub j1939_frame_format : OwnFormat J1939Error J1939Frame
+j1939_frame_format = named Fits (format j1939_frame_lines (λ s. refl {a = s}))
+    (λ s fits. fits.priority & fits.format & fits.specific & fits.source & fits.payload_count & fits.payload)
 
 -- the bits of all fields, up to a whole byte
 unfoldable pub j1939_frame_bits : J1939Frame → List Bool

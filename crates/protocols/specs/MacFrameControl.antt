@@ -4,8 +4,12 @@ use Rattle.protocols.specs.declared.mac_frame_control.FrameKind.{FrameKind}
 use Rattle.protocols.specs.declared.mac_frame_control.FrameKind.TheVariants.{Beacon, Data, Ack, Command, Unused, Multipurpose, Fragment, Further}
 use Rattle.protocols.specs.declared.mac_frame_control.AddressMode.{AddressMode}
 use Rattle.protocols.specs.declared.mac_frame_control.AddressMode.TheVariants.{Absent, Reserved, Short, Extended}
-use Rattle.std.specs.Prelude.{◌^◌, ◌<◌, ◌++◌, ◌∷◌, [], ◌==◌, if◌then◌else◌, ℕ, Bool, List, take, drop}
-use Rattle.bitstream_io.specs.Callers.{◌>>=◌, Decoder, Encoder, pure, Order, Low, number, and_then, first_bit, bit_decoder, unsigned_decoder, skip_decoder, bit, unsigned, zeros, align, write_sequence}
+use Rattle.std.proofs.Common.{refl, true}
+use Rattle.bitstream_format.specs.Format.{◌>>=◌, Plain as PlainFormat, Parts as FormatParts, format, renamed, field, done}
+use Rattle.bitstream_format.specs.Cases.{cases}
+use Rattle.std.specs.Prelude.{◌≡◌, ◌^◌, ◌<◌, ◌++◌, ◌∷◌, [], ◌==◌, if◌then◌else◌, ℕ, Bool, List, take, drop, nat_lt}
+use Rattle.bitstream_io.specs.Callers.{Decoder, Encoder, pure, Order, Low, number, and_then, first_bit, unsigned_decoder, align, write_sequence}
+use Rattle.bitstream_format.specs.Atoms as atom
 
 -- Made by `./format` from formats/mac_frame_control.fields: edit that file and make this one anew.
 
@@ -33,6 +37,31 @@ frame_kind_number Further = 7
 abbrev pub frame_kind_read : Order → Decoder FrameKind
 frame_kind_read o = and_then (unsigned_decoder o 8 3) (λ v. pure (frame_kind_of v))
 
+-- the number of each case fits its bits, and decodes to that case
+pub frame_kind_small : (it : FrameKind) → nat_lt (frame_kind_number it) (2 ^ 3) ≡ true
+frame_kind_small Beacon = refl
+frame_kind_small Data = refl
+frame_kind_small Ack = refl
+frame_kind_small Command = refl
+frame_kind_small Unused = refl
+frame_kind_small Multipurpose = refl
+frame_kind_small Fragment = refl
+frame_kind_small Further = refl
+
+pub frame_kind_again : (it : FrameKind) → frame_kind_of (frame_kind_number it) ≡ it
+frame_kind_again Beacon = refl
+frame_kind_again Data = refl
+frame_kind_again Ack = refl
+frame_kind_again Command = refl
+frame_kind_again Unused = refl
+frame_kind_again Multipurpose = refl
+frame_kind_again Fragment = refl
+frame_kind_again Further = refl
+
+-- the cases, by their numbers
+abbrev pub frame_kind_cases : PlainFormat FrameKind
+frame_kind_cases = cases 8 3 refl frame_kind_of frame_kind_number frame_kind_small frame_kind_again
+
 -- the case of a number
 abbrev pub address_mode_of : ℕ → AddressMode
 address_mode_of n = if n == 0 then Absent else if n == 1 then Reserved else if n == 2 then Short else Extended
@@ -48,21 +77,38 @@ address_mode_number Extended = 3
 abbrev pub address_mode_read : Order → Decoder AddressMode
 address_mode_read o = and_then (unsigned_decoder o 8 2) (λ v. pure (address_mode_of v))
 
--- the reads, in order
-abbrev pub mac_frame_control_decoder : Order → Decoder MacFrameControl
-mac_frame_control_decoder o = do
-  kind ← frame_kind_read o
-  secured ← bit_decoder
-  pending ← bit_decoder
-  wants_ack ← bit_decoder
-  compressed ← bit_decoder
-  skipped_5 ← skip_decoder 1
-  no_sequence ← bit_decoder
-  elements ← bit_decoder
-  target_mode ← address_mode_read o
-  version ← unsigned_decoder o 8 2
-  source_mode ← address_mode_read o
-  pure (record {
+-- the number of each case fits its bits, and decodes to that case
+pub address_mode_small : (it : AddressMode) → nat_lt (address_mode_number it) (2 ^ 2) ≡ true
+address_mode_small Absent = refl
+address_mode_small Reserved = refl
+address_mode_small Short = refl
+address_mode_small Extended = refl
+
+pub address_mode_again : (it : AddressMode) → address_mode_of (address_mode_number it) ≡ it
+address_mode_again Absent = refl
+address_mode_again Reserved = refl
+address_mode_again Short = refl
+address_mode_again Extended = refl
+
+-- the cases, by their numbers
+abbrev pub address_mode_cases : PlainFormat AddressMode
+address_mode_cases = cases 8 2 refl address_mode_of address_mode_number address_mode_small address_mode_again
+
+-- the lines, in order
+abbrev pub mac_frame_control_lines : FormatParts MacFrameControl MacFrameControl (λ s. s)
+mac_frame_control_lines = do
+  kind ← field frame_kind_cases (λ s. s.kind)
+  secured ← field atom.bool (λ s. s.secured)
+  pending ← field atom.bool (λ s. s.pending)
+  wants_ack ← field atom.bool (λ s. s.wants_ack)
+  compressed ← field atom.bool (λ s. s.compressed)
+  skipped_5 ← field (atom.pad 1) (λ s. tt)
+  no_sequence ← field atom.bool (λ s. s.no_sequence)
+  elements ← field atom.bool (λ s. s.elements)
+  target_mode ← field address_mode_cases (λ s. s.target_mode)
+  version ← field (atom.unsigned 8 2 refl) (λ s. s.version)
+  source_mode ← field address_mode_cases (λ s. s.source_mode)
+  done (record {
     kind = kind;
     secured = secured;
     pending = pending;
@@ -76,21 +122,13 @@ mac_frame_control_decoder o = do
         source_mode;
   })
 
+-- the reads, in order
+abbrev pub mac_frame_control_decoder : Order → Decoder MacFrameControl
+mac_frame_control_decoder o = mac_frame_control_lines.read o
+
 -- the writes, in order
 abbrev pub mac_frame_control_writes : Order → MacFrameControl → List Encoder
-mac_frame_control_writes o value =
-    unsigned o 8 3 (frame_kind_number value.kind)
-    ∷ bit value.secured
-    ∷ bit value.pending
-    ∷ bit value.wants_ack
-    ∷ bit value.compressed
-    ∷ zeros 1
-    ∷ bit value.no_sequence
-    ∷ bit value.elements
-    ∷ unsigned o 8 2 (address_mode_number value.target_mode)
-    ∷ unsigned o 8 2 value.version
-    ∷ unsigned o 8 2 (address_mode_number value.source_mode)
-    ∷ []
+mac_frame_control_writes o value = mac_frame_control_lines.write o value
 
 -- each field fits its bits
 pub record Fits (value : MacFrameControl) : Type 0 where
@@ -99,6 +137,12 @@ pub record Fits (value : MacFrameControl) : Type 0 where
 -- the number of bits
 abbrev pub mac_frame_control_size : Order → MacFrameControl → ℕ
 mac_frame_control_size o value = 16
+
+-- the format, with the facts that must fit by name
+abbrev pub mac_frame_control_format : PlainFormat MacFrameControl
+mac_frame_control_format = renamed Fits (format mac_frame_control_lines (λ s. refl {a = s}))
+    (λ s fits. fits.version)
+    (λ s facts. record { version = facts })
 
 -- the bits of all fields, up to a whole byte
 unfoldable pub mac_frame_control_bits : MacFrameControl → List Bool

@@ -2,8 +2,11 @@
 use Rattle.protocols.specs.declared.modbus_header.ModbusHeader.{ModbusHeader}
 use Rattle.protocols.specs.declared.modbus_header.ModbusError.{ModbusError}
 use Rattle.protocols.specs.declared.modbus_header.ModbusError.TheVariants.{Reader, OtherProtocol}
-use Rattle.std.specs.Prelude.{◌≡◌, ◌^◌, ◌<◌, ◌++◌, ◌∷◌, [], if◌then◌else◌, ℕ, Bool, List, Result, Ok, Err, take, drop}
-use Rattle.bitstream_io.specs.Callers.{◌>>=◌, Decoder, Encoder, pure, Error, Order, High, number, word, first_bit, bit_decoder, unsigned_decoder, const_decoder, plain, bit, unsigned, align, write_sequence}
+use Rattle.std.proofs.Common.{refl}
+use Rattle.bitstream_format.specs.Format.{◌>>=◌, Own as OwnFormat, Parts as FormatParts, format, renamed, field, const, ◌&◌, own_done}
+use Rattle.std.specs.Prelude.{◌≡◌, ◌^◌, ◌<◌, ◌++◌, ◌∷◌, [], ℕ, Bool, List, Result, Ok, take, drop}
+use Rattle.bitstream_io.specs.Callers.{Decoder, Encoder, Error, Order, High, number, first_bit, align, write_sequence}
+use Rattle.bitstream_format.specs.Atoms as atom
 
 -- Made by `./format` from formats/modbus_header.fields: edit that file and make this one anew.
 
@@ -19,32 +22,24 @@ bits_at k n bits = take n (drop k bits)
 abbrev pub const_at_16 : List Bool → ℕ
 const_at_16 bits = number High (bits_at 16 16 bits)
 
--- the reads, in order, after 1 that may be refused
-abbrev pub modbus_header_decoder_1 : Order → ℕ → Decoder (Result ModbusHeader ModbusError)
-modbus_header_decoder_1 o transaction = do
-  size ← unsigned_decoder o 16 16
-  unit ← unsigned_decoder o 8 8
-  refused ← bit_decoder
-  function ← unsigned_decoder o 8 7
-  pure (Ok (record { transaction = transaction; size = size; unit = unit; refused = refused; function = function }))
+-- the lines, in order
+abbrev pub modbus_header_lines : FormatParts ModbusHeader (Result ModbusHeader ModbusError) (λ s. Ok s)
+modbus_header_lines = do
+  transaction ← field (atom.unsigned 16 16 refl) (λ s. s.transaction)
+  constant_1 ← const 16 0 refl OtherProtocol
+  size ← field (atom.unsigned 16 16 refl) (λ s. s.size)
+  unit ← field (atom.unsigned 8 8 refl) (λ s. s.unit)
+  refused ← field atom.bool (λ s. s.refused)
+  function ← field (atom.unsigned 8 7 refl) (λ s. s.function)
+  own_done (record { transaction = transaction; size = size; unit = unit; refused = refused; function = function })
 
 -- the reads, in order
 abbrev pub modbus_header_decoder : Order → Decoder (Result ModbusHeader ModbusError)
-modbus_header_decoder o = do
-  transaction ← unsigned_decoder o 16 16
-  is_1 ← const_decoder o 16 0
-  if is_1 then modbus_header_decoder_1 o transaction else pure (Err OtherProtocol)
+modbus_header_decoder o = modbus_header_lines.read o
 
 -- the writes, in order
 abbrev pub modbus_header_writes : Order → ModbusHeader → List Encoder
-modbus_header_writes o value =
-    unsigned o 16 16 value.transaction
-    ∷ plain (word o 16 0)
-    ∷ unsigned o 16 16 value.size
-    ∷ unsigned o 8 8 value.unit
-    ∷ bit value.refused
-    ∷ unsigned o 8 7 value.function
-    ∷ []
+modbus_header_writes o value = modbus_header_lines.write o value
 
 -- each field fits its bits
 pub record Fits (value : ModbusHeader) : Type 0 where
@@ -56,6 +51,12 @@ pub record Fits (value : ModbusHeader) : Type 0 where
 -- the number of bits
 abbrev pub modbus_header_size : Order → ModbusHeader → ℕ
 modbus_header_size o value = 64
+
+-- the format, with the facts that must fit by name
+abbrev pub modbus_header_format : OwnFormat ModbusError ModbusHeader
+modbus_header_format = renamed Fits (format modbus_header_lines (λ s. refl {a = s}))
+    (λ s fits. fits.transaction & fits.size & fits.unit & fits.function)
+    (λ s facts. record { transaction = facts.0; size = facts.1.0; unit = facts.1.1.0; function = facts.1.1.1 })
 
 -- the bits of all fields, up to a whole byte
 unfoldable pub modbus_header_bits : ModbusHeader → List Bool

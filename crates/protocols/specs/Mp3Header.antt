@@ -8,8 +8,12 @@ use Rattle.protocols.specs.declared.mp3_header.Layer.{Layer}
 use Rattle.protocols.specs.declared.mp3_header.Layer.TheVariants.{LayerThree, LayerTwo, LayerOne}
 use Rattle.protocols.specs.declared.mp3_header.ChannelMode.{ChannelMode}
 use Rattle.protocols.specs.declared.mp3_header.ChannelMode.TheVariants.{Stereo, JointStereo, DualChannel, Mono}
-use Rattle.std.specs.Prelude.{◌≡◌, ◌^◌, ◌<◌, ◌++◌, ◌∷◌, [], ◌==◌, if◌then◌else◌, ℕ, Bool, List, Result, Ok, Err, take, drop}
-use Rattle.bitstream_io.specs.Callers.{◌>>=◌, Decoder, Encoder, pure, Error, Order, High, number, and_then, word, first_bit, bit_decoder, unsigned_decoder, const_decoder, plain, bit, unsigned, align, write_sequence, part_then}
+use Rattle.std.proofs.Common.{refl, true}
+use Rattle.bitstream_format.specs.Format.{◌>>=◌, Plain as PlainFormat, Own as OwnFormat, Parts as FormatParts, format, renamed, field, own_field, const, ◌&◌, own_done}
+use Rattle.bitstream_format.specs.Cases.{cases}
+use Rattle.std.specs.Prelude.{◌≡◌, ◌^◌, ◌<◌, ◌++◌, ◌∷◌, [], ◌==◌, if◌then◌else◌, ℕ, Bool, List, Result, Ok, Err, take, drop, nat_lt}
+use Rattle.bitstream_io.specs.Callers.{Decoder, Encoder, pure, Error, Order, High, number, and_then, first_bit, unsigned_decoder, align, write_sequence}
+use Rattle.bitstream_format.specs.Atoms as atom
 
 -- Made by `./format` from formats/mp3_header.fields: edit that file and make this one anew.
 
@@ -39,6 +43,21 @@ version_number Mpeg1 = 3
 abbrev pub version_read : Order → Decoder (Result Version Mp3Error)
 version_read o = and_then (unsigned_decoder o 8 2) (λ v. pure (version_of v))
 
+-- the number of each case fits its bits, and decodes to that case
+pub version_small : (it : Version) → nat_lt (version_number it) (2 ^ 2) ≡ true
+version_small Mpeg25 = refl
+version_small Mpeg2 = refl
+version_small Mpeg1 = refl
+
+pub version_again : (it : Version) → version_of (version_number it) ≡ Ok it
+version_again Mpeg25 = refl
+version_again Mpeg2 = refl
+version_again Mpeg1 = refl
+
+-- the cases, by their numbers
+abbrev pub version_cases : OwnFormat Mp3Error Version
+version_cases = cases 8 2 refl version_of version_number version_small version_again
+
 -- the case of a number
 abbrev pub layer_of : ℕ → (Result Layer Mp3Error)
 layer_of n = if n == 1 then Ok LayerThree else if n == 2 then Ok LayerTwo else if n == 3 then Ok LayerOne else Err
@@ -53,6 +72,21 @@ layer_number LayerOne = 3
 -- the read of a case
 abbrev pub layer_read : Order → Decoder (Result Layer Mp3Error)
 layer_read o = and_then (unsigned_decoder o 8 2) (λ v. pure (layer_of v))
+
+-- the number of each case fits its bits, and decodes to that case
+pub layer_small : (it : Layer) → nat_lt (layer_number it) (2 ^ 2) ≡ true
+layer_small LayerThree = refl
+layer_small LayerTwo = refl
+layer_small LayerOne = refl
+
+pub layer_again : (it : Layer) → layer_of (layer_number it) ≡ Ok it
+layer_again LayerThree = refl
+layer_again LayerTwo = refl
+layer_again LayerOne = refl
+
+-- the cases, by their numbers
+abbrev pub layer_cases : OwnFormat Mp3Error Layer
+layer_cases = cases 8 2 refl layer_of layer_number layer_small layer_again
 
 -- the case of a number
 abbrev pub channel_mode_of : ℕ → ChannelMode
@@ -69,20 +103,40 @@ channel_mode_number Mono = 3
 abbrev pub channel_mode_read : Order → Decoder ChannelMode
 channel_mode_read o = and_then (unsigned_decoder o 8 2) (λ v. pure (channel_mode_of v))
 
--- the reads, in order, after 3 that may be refused
-abbrev pub mp3_header_decoder_3 : Order → Version → Layer → Decoder (Result Mp3Header Mp3Error)
-mp3_header_decoder_3 o version layer = do
-  protection_absent ← bit_decoder
-  bitrate ← unsigned_decoder o 8 4
-  frequency ← unsigned_decoder o 8 2
-  padding ← bit_decoder
-  private ← bit_decoder
-  mode ← channel_mode_read o
-  extension ← unsigned_decoder o 8 2
-  copyright ← bit_decoder
-  original ← bit_decoder
-  emphasis ← unsigned_decoder o 8 2
-  pure (Ok (record {
+-- the number of each case fits its bits, and decodes to that case
+pub channel_mode_small : (it : ChannelMode) → nat_lt (channel_mode_number it) (2 ^ 2) ≡ true
+channel_mode_small Stereo = refl
+channel_mode_small JointStereo = refl
+channel_mode_small DualChannel = refl
+channel_mode_small Mono = refl
+
+pub channel_mode_again : (it : ChannelMode) → channel_mode_of (channel_mode_number it) ≡ it
+channel_mode_again Stereo = refl
+channel_mode_again JointStereo = refl
+channel_mode_again DualChannel = refl
+channel_mode_again Mono = refl
+
+-- the cases, by their numbers
+abbrev pub channel_mode_cases : PlainFormat ChannelMode
+channel_mode_cases = cases 8 2 refl channel_mode_of channel_mode_number channel_mode_small channel_mode_again
+
+-- the lines, in order
+abbrev pub mp3_header_lines : FormatParts Mp3Header (Result Mp3Header Mp3Error) (λ s. Ok s)
+mp3_header_lines = do
+  constant_0 ← const 11 2047 refl NoSync
+  version ← own_field version_cases (λ s. s.version)
+  layer ← own_field layer_cases (λ s. s.layer)
+  protection_absent ← field atom.bool (λ s. s.protection_absent)
+  bitrate ← field (atom.unsigned 8 4 refl) (λ s. s.bitrate)
+  frequency ← field (atom.unsigned 8 2 refl) (λ s. s.frequency)
+  padding ← field atom.bool (λ s. s.padding)
+  private ← field atom.bool (λ s. s.private)
+  mode ← field channel_mode_cases (λ s. s.mode)
+  extension ← field (atom.unsigned 8 2 refl) (λ s. s.extension)
+  copyright ← field atom.bool (λ s. s.copyright)
+  original ← field atom.bool (λ s. s.original)
+  emphasis ← field (atom.unsigned 8 2 refl) (λ s. s.emphasis)
+  own_done (record {
     version = version;
     layer = layer;
     protection_absent = protection_absent;
@@ -96,39 +150,15 @@ mp3_header_decoder_3 o version layer = do
         copyright;
     original = original;
     emphasis = emphasis;
-  }))
-
--- the reads, in order, after 2 that may be refused
-abbrev pub mp3_header_decoder_2 : Order → Version → Decoder (Result Mp3Header Mp3Error)
-mp3_header_decoder_2 o version = and_then (layer_read o) (part_then (λ layer. mp3_header_decoder_3 o version layer))
-
--- the reads, in order, after 1 that may be refused
-abbrev pub mp3_header_decoder_1 : Order → Decoder (Result Mp3Header Mp3Error)
-mp3_header_decoder_1 o = and_then (version_read o) (part_then (λ version. mp3_header_decoder_2 o version))
+  })
 
 -- the reads, in order
 abbrev pub mp3_header_decoder : Order → Decoder (Result Mp3Header Mp3Error)
-mp3_header_decoder o = do
-  is_0 ← const_decoder o 11 2047
-  if is_0 then mp3_header_decoder_1 o else pure (Err NoSync)
+mp3_header_decoder o = mp3_header_lines.read o
 
 -- the writes, in order
 abbrev pub mp3_header_writes : Order → Mp3Header → List Encoder
-mp3_header_writes o value =
-    plain (word o 11 2047)
-    ∷ unsigned o 8 2 (version_number value.version)
-    ∷ unsigned o 8 2 (layer_number value.layer)
-    ∷ bit value.protection_absent
-    ∷ unsigned o 8 4 value.bitrate
-    ∷ unsigned o 8 2 value.frequency
-    ∷ bit value.padding
-    ∷ bit value.private
-    ∷ unsigned o 8 2 (channel_mode_number value.mode)
-    ∷ unsigned o 8 2 value.extension
-    ∷ bit value.copyright
-    ∷ bit value.original
-    ∷ unsigned o 8 2 value.emphasis
-    ∷ []
+mp3_header_writes o value = mp3_header_lines.write o value
 
 -- each field fits its bits
 pub record Fits (value : Mp3Header) : Type 0 where
@@ -140,6 +170,12 @@ pub record Fits (value : Mp3Header) : Type 0 where
 -- the number of bits
 abbrev pub mp3_header_size : Order → Mp3Header → ℕ
 mp3_header_size o value = 32
+
+-- the format, with the facts that must fit by name
+abbrev pub mp3_header_format : OwnFormat Mp3Error Mp3Header
+mp3_header_format = renamed Fits (format mp3_header_lines (λ s. refl {a = s}))
+    (λ s fits. fits.bitrate & fits.frequency & fits.extension & fits.emphasis)
+    (λ s facts. record { bitrate = facts.0; frequency = facts.1.0; extension = facts.1.1.0; emphasis = facts.1.1.1 })
 
 -- the bits of all fields, up to a whole byte
 unfoldable pub mp3_header_bits : Mp3Header → List Bool

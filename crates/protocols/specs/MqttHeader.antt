@@ -4,9 +4,12 @@ use Rattle.protocols.specs.declared.mqtt_header.MqttError.{MqttError}
 use Rattle.protocols.specs.declared.mqtt_header.MqttError.TheVariants.{Reader, NoPacket}
 use Rattle.protocols.specs.declared.mqtt_header.Packet.{Packet}
 use Rattle.protocols.specs.declared.mqtt_header.Packet.TheVariants.{Connect, ConnAck, Publish, PubAck, PubRec, PubRel, PubComp, Subscribe, SubAck, Unsubscribe, UnsubAck, PingReq, PingResp, Disconnect, Auth}
-use Rattle.std.specs.Prelude.{◌≡◌, ◌^◌, ◌<◌, ◌+◌, ◌++◌, ◌∷◌, [], ◌==◌, if◌then◌else◌, ℕ, Bool, List, Result, Ok, Err, length}
-use Rattle.bitstream_io.specs.Callers.{◌>>=◌, Decoder, Encoder, pure, Error, Order, High, and_then, bit_decoder, unsigned_decoder, any_vbr_decoder, bit, unsigned, align, vbr, write_sequence, part_then}
-use Rattle.bitstream_io.specs.Vbr.{vbr_word}
+use Rattle.std.proofs.Common.{refl, true}
+use Rattle.bitstream_format.specs.Format.{◌>>=◌, Own as OwnFormat, Parts as FormatParts, format, named, field, own_field, ◌&◌, own_done}
+use Rattle.bitstream_format.specs.Cases.{cases}
+use Rattle.std.specs.Prelude.{◌≡◌, ◌^◌, ◌<◌, ◌++◌, ◌∷◌, [], ◌==◌, if◌then◌else◌, ℕ, Bool, false, List, Result, Ok, Err, nat_lt}
+use Rattle.bitstream_io.specs.Callers.{Decoder, Encoder, pure, Error, Order, High, and_then, unsigned_decoder, align, write_sequence}
+use Rattle.bitstream_format.specs.Atoms as atom
 
 -- Made by `./format` from formats/mqtt_header.fields: edit that file and make this one anew.
 
@@ -44,28 +47,62 @@ packet_number Auth = 15
 abbrev pub packet_read : Order → Decoder (Result Packet MqttError)
 packet_read o = and_then (unsigned_decoder o 8 4) (λ v. pure (packet_of v))
 
--- the reads, in order, after 1 that may be refused
-abbrev pub mqtt_header_decoder_1 : Order → Packet → Decoder (Result MqttHeader MqttError)
-mqtt_header_decoder_1 o kind = do
-  again ← bit_decoder
-  quality ← unsigned_decoder o 8 2
-  retain ← bit_decoder
-  remaining ← any_vbr_decoder o 8 32 (2 ^ 32)
-  pure (Ok (record { kind = kind; again = again; quality = quality; retain = retain; remaining = remaining }))
+-- the number of each case fits its bits, and decodes to that case
+pub packet_small : (it : Packet) → nat_lt (packet_number it) (2 ^ 4) ≡ true
+packet_small Connect = refl
+packet_small ConnAck = refl
+packet_small Publish = refl
+packet_small PubAck = refl
+packet_small PubRec = refl
+packet_small PubRel = refl
+packet_small PubComp = refl
+packet_small Subscribe = refl
+packet_small SubAck = refl
+packet_small Unsubscribe = refl
+packet_small UnsubAck = refl
+packet_small PingReq = refl
+packet_small PingResp = refl
+packet_small Disconnect = refl
+packet_small Auth = refl
+
+pub packet_again : (it : Packet) → packet_of (packet_number it) ≡ Ok it
+packet_again Connect = refl
+packet_again ConnAck = refl
+packet_again Publish = refl
+packet_again PubAck = refl
+packet_again PubRec = refl
+packet_again PubRel = refl
+packet_again PubComp = refl
+packet_again Subscribe = refl
+packet_again SubAck = refl
+packet_again Unsubscribe = refl
+packet_again UnsubAck = refl
+packet_again PingReq = refl
+packet_again PingResp = refl
+packet_again Disconnect = refl
+packet_again Auth = refl
+
+-- the cases, by their numbers
+abbrev pub packet_cases : OwnFormat MqttError Packet
+packet_cases = cases 8 4 refl packet_of packet_number packet_small packet_again
+
+-- the lines, in order
+abbrev pub mqtt_header_lines : FormatParts MqttHeader (Result MqttHeader MqttError) (λ s. Ok s)
+mqtt_header_lines = do
+  kind ← own_field packet_cases (λ s. s.kind)
+  again ← field atom.bool (λ s. s.again)
+  quality ← field (atom.unsigned 8 2 refl) (λ s. s.quality)
+  retain ← field atom.bool (λ s. s.retain)
+  remaining ← field (atom.groups false 8 32 refl refl) (λ s. s.remaining)
+  own_done (record { kind = kind; again = again; quality = quality; retain = retain; remaining = remaining })
 
 -- the reads, in order
 abbrev pub mqtt_header_decoder : Order → Decoder (Result MqttHeader MqttError)
-mqtt_header_decoder o = and_then (packet_read o) (part_then (λ kind. mqtt_header_decoder_1 o kind))
+mqtt_header_decoder o = mqtt_header_lines.read o
 
 -- the writes, in order
 abbrev pub mqtt_header_writes : Order → MqttHeader → List Encoder
-mqtt_header_writes o value =
-    unsigned o 8 4 (packet_number value.kind)
-    ∷ bit value.again
-    ∷ unsigned o 8 2 value.quality
-    ∷ bit value.retain
-    ∷ vbr o 8 value.remaining
-    ∷ []
+mqtt_header_writes o value = mqtt_header_lines.write o value
 
 -- each field fits its bits
 pub record Fits (value : MqttHeader) : Type 0 where
@@ -74,7 +111,12 @@ pub record Fits (value : MqttHeader) : Type 0 where
 
 -- the number of bits
 abbrev pub mqtt_header_size : Order → MqttHeader → ℕ
-mqtt_header_size o value = 8 + length (vbr_word o 8 value.remaining)
+mqtt_header_size o value = mqtt_header_lines.size value
+
+-- the format, with the facts that must fit by name
+abbrev pub mqtt_header_format : OwnFormat MqttError MqttHeader
+mqtt_header_format = named Fits (format mqtt_header_lines (λ s. refl {a = s}))
+    (λ s fits. fits.quality & fits.remaining)
 
 -- the bits of all fields, up to a whole byte
 unfoldable pub mqtt_header_bits : MqttHeader → List Bool

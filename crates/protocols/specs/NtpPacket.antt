@@ -4,10 +4,14 @@ use Rattle.protocols.specs.declared.ntp_packet.Leap.{Leap}
 use Rattle.protocols.specs.declared.ntp_packet.Leap.TheVariants.{NoWarning, LongMinute, ShortMinute, Unsynchronized}
 use Rattle.protocols.specs.declared.ntp_packet.Mode.{Mode}
 use Rattle.protocols.specs.declared.ntp_packet.Mode.TheVariants.{Reserved, Active, Passive, Client, Server, Broadcast, Control, Private}
-use Rattle.protocols.specs.NtpTimestamp.{ntp_timestamp_decoder, ntp_timestamp_writes, Fits as NtpTimestampFits}
-use Rattle.std.specs.Prelude.{◌≡◌, ◌^◌, ◌<◌, ◌++◌, ◌∷◌, [], ◌==◌, if◌then◌else◌, ℕ, Bool, List, length, take, drop}
+use Rattle.protocols.specs.NtpTimestamp.{ntp_timestamp_format, Fits as NtpTimestampFits}
+use Rattle.std.proofs.Common.{refl, true}
+use Rattle.bitstream_format.specs.Format.{◌>>=◌, Plain as PlainFormat, Parts as FormatParts, format, named, field, ◌&◌, done}
+use Rattle.bitstream_format.specs.Cases.{cases}
+use Rattle.std.specs.Prelude.{◌≡◌, ◌^◌, ◌<◌, ◌++◌, ◌∷◌, [], ◌==◌, if◌then◌else◌, ℕ, Bool, List, length, take, drop, nat_lt}
 use Rattle.std.specs.List.{All}
-use Rattle.bitstream_io.specs.Callers.{◌>>=◌, Decoder, Encoder, pure, Order, High, number, and_then, signed_number, FitsSignedBits, unsigned_decoder, signed_decoder, bytes_decoder, bytes_of, unsigned, signed, buffer, align, write_sequence}
+use Rattle.bitstream_io.specs.Callers.{Decoder, Encoder, pure, Order, High, number, and_then, signed_number, FitsSignedBits, unsigned_decoder, bytes_of, align, write_sequence}
+use Rattle.bitstream_format.specs.Atoms as atom
 
 -- Made by `./format` from formats/ntp_packet.fields: edit that file and make this one anew.
 
@@ -30,6 +34,23 @@ leap_number Unsynchronized = 3
 abbrev pub leap_read : Order → Decoder Leap
 leap_read o = and_then (unsigned_decoder o 8 2) (λ v. pure (leap_of v))
 
+-- the number of each case fits its bits, and decodes to that case
+pub leap_small : (it : Leap) → nat_lt (leap_number it) (2 ^ 2) ≡ true
+leap_small NoWarning = refl
+leap_small LongMinute = refl
+leap_small ShortMinute = refl
+leap_small Unsynchronized = refl
+
+pub leap_again : (it : Leap) → leap_of (leap_number it) ≡ it
+leap_again NoWarning = refl
+leap_again LongMinute = refl
+leap_again ShortMinute = refl
+leap_again Unsynchronized = refl
+
+-- the cases, by their numbers
+abbrev pub leap_cases : PlainFormat Leap
+leap_cases = cases 8 2 refl leap_of leap_number leap_small leap_again
+
 -- the case of a number
 abbrev pub mode_of : ℕ → Mode
 mode_of n = if n == 0 then Reserved else if n == 1 then Active else if n == 2 then Passive else if n == 3 then Client
@@ -50,23 +71,48 @@ mode_number Private = 7
 abbrev pub mode_read : Order → Decoder Mode
 mode_read o = and_then (unsigned_decoder o 8 3) (λ v. pure (mode_of v))
 
--- the reads, in order
-abbrev pub ntp_packet_decoder : Order → Decoder NtpPacket
-ntp_packet_decoder o = do
-  leap ← leap_read o
-  version ← unsigned_decoder o 8 3
-  mode ← mode_read o
-  stratum ← unsigned_decoder o 8 8
-  poll ← signed_decoder o 8 8
-  precision ← signed_decoder o 8 8
-  root_delay ← unsigned_decoder o 32 32
-  root_dispersion ← unsigned_decoder o 32 32
-  reference ← bytes_decoder o 4
-  updated ← ntp_timestamp_decoder o
-  origin ← ntp_timestamp_decoder o
-  received ← ntp_timestamp_decoder o
-  sent ← ntp_timestamp_decoder o
-  pure (record {
+-- the number of each case fits its bits, and decodes to that case
+pub mode_small : (it : Mode) → nat_lt (mode_number it) (2 ^ 3) ≡ true
+mode_small Reserved = refl
+mode_small Active = refl
+mode_small Passive = refl
+mode_small Client = refl
+mode_small Server = refl
+mode_small Broadcast = refl
+mode_small Control = refl
+mode_small Private = refl
+
+pub mode_again : (it : Mode) → mode_of (mode_number it) ≡ it
+mode_again Reserved = refl
+mode_again Active = refl
+mode_again Passive = refl
+mode_again Client = refl
+mode_again Server = refl
+mode_again Broadcast = refl
+mode_again Control = refl
+mode_again Private = refl
+
+-- the cases, by their numbers
+abbrev pub mode_cases : PlainFormat Mode
+mode_cases = cases 8 3 refl mode_of mode_number mode_small mode_again
+
+-- the lines, in order
+abbrev pub ntp_packet_lines : FormatParts NtpPacket NtpPacket (λ s. s)
+ntp_packet_lines = do
+  leap ← field leap_cases (λ s. s.leap)
+  version ← field (atom.unsigned 8 3 refl) (λ s. s.version)
+  mode ← field mode_cases (λ s. s.mode)
+  stratum ← field (atom.unsigned 8 8 refl) (λ s. s.stratum)
+  poll ← field (atom.signed 8 8 refl refl) (λ s. s.poll)
+  precision ← field (atom.signed 8 8 refl refl) (λ s. s.precision)
+  root_delay ← field (atom.unsigned 32 32 refl) (λ s. s.root_delay)
+  root_dispersion ← field (atom.unsigned 32 32 refl) (λ s. s.root_dispersion)
+  reference ← field (atom.bytes 4) (λ s. s.reference)
+  updated ← field ntp_timestamp_format (λ s. s.updated)
+  origin ← field ntp_timestamp_format (λ s. s.origin)
+  received ← field ntp_timestamp_format (λ s. s.received)
+  sent ← field ntp_timestamp_format (λ s. s.sent)
+  done (record {
     leap = leap;
     version = version;
     mode = mode;
@@ -83,23 +129,13 @@ ntp_packet_decoder o = do
     sent = sent;
   })
 
+-- the reads, in order
+abbrev pub ntp_packet_decoder : Order → Decoder NtpPacket
+ntp_packet_decoder o = ntp_packet_lines.read o
+
 -- the writes, in order
 abbrev pub ntp_packet_writes : Order → NtpPacket → List Encoder
-ntp_packet_writes o value =
-    unsigned o 8 2 (leap_number value.leap)
-    ∷ unsigned o 8 3 value.version
-    ∷ unsigned o 8 3 (mode_number value.mode)
-    ∷ unsigned o 8 8 value.stratum
-    ∷ signed o 8 8 value.poll
-    ∷ signed o 8 8 value.precision
-    ∷ unsigned o 32 32 value.root_delay
-    ∷ unsigned o 32 32 value.root_dispersion
-    ∷ buffer o value.reference
-    ∷ ntp_timestamp_writes o value.updated
-    ++ (ntp_timestamp_writes o value.origin
-    ++ (ntp_timestamp_writes o value.received
-    ++ (ntp_timestamp_writes o value.sent
-    ++ [])))
+ntp_packet_writes o value = ntp_packet_lines.write o value
 
 -- each field fits its bits
 pub record Fits (value : NtpPacket) : Type 0 where
@@ -119,6 +155,12 @@ pub record Fits (value : NtpPacket) : Type 0 where
 -- the number of bits
 abbrev pub ntp_packet_size : Order → NtpPacket → ℕ
 ntp_packet_size o value = 384
+
+-- the format, with the facts that must fit by name
+abbrev pub ntp_packet_format : PlainFormat NtpPacket
+ntp_packet_format = named Fits (format ntp_packet_lines (λ s. refl {a = s}))
+    (λ s fits. fits.version & fits.stratum & fits.poll & fits.precision & fits.root_delay & fits.root_dispersion &
+    fits.reference_count & fits.reference & fits.updated & fits.origin & fits.received & fits.sent)
 
 -- the bits of all fields, up to a whole byte
 unfoldable pub ntp_packet_bits : NtpPacket → List Bool

@@ -2,9 +2,13 @@
 use Rattle.protocols.specs.declared.quic_long_header.QuicLongHeader.{QuicLongHeader}
 use Rattle.protocols.specs.declared.quic_long_header.QuicError.{QuicError}
 use Rattle.protocols.specs.declared.quic_long_header.QuicError.TheVariants.{Reader, ShortHeader}
-use Rattle.std.specs.Prelude.{◌≡◌, ◌^◌, ◌<◌, ◌+◌, ◌*◌, ◌++◌, ◌∷◌, [], if◌then◌else◌, ℕ, Bool, List, Result, Ok, Err, length}
+use Rattle.std.proofs.Common.{refl}
+use Rattle.bitstream_format.specs.Format.{◌>>=◌, Own as OwnFormat, Parts as FormatParts, format, named, field, const, ◌&◌, own_done}
+use Rattle.bitstream_format.specs.Lists.{byte_list}
+use Rattle.std.specs.Prelude.{◌≡◌, ◌^◌, ◌<◌, ◌++◌, ◌∷◌, [], ℕ, Bool, List, Result, Ok, length}
 use Rattle.std.specs.List.{All}
-use Rattle.bitstream_io.specs.Callers.{◌>>=◌, Decoder, Encoder, pure, Error, Order, High, word, bit_decoder, unsigned_decoder, const_decoder, vec_decoder, plain, bit, unsigned, buffer, align, write_sequence}
+use Rattle.bitstream_io.specs.Callers.{Decoder, Encoder, Error, Order, High, align, write_sequence}
+use Rattle.bitstream_format.specs.Atoms as atom
 
 -- Made by `./format` from formats/quic_long_header.fields: edit that file and make this one anew.
 
@@ -12,18 +16,19 @@ use Rattle.bitstream_io.specs.Callers.{◌>>=◌, Decoder, Encoder, pure, Error,
 abbrev pub becomes_quic_long_header : Error → QuicError → Type 0
 becomes_quic_long_header error own = own ≡ Reader error
 
--- the reads, in order, after 1 that may be refused
-abbrev pub quic_long_header_decoder_1 : Order → Decoder (Result QuicLongHeader QuicError)
-quic_long_header_decoder_1 o = do
-  fixed ← bit_decoder
-  kind ← unsigned_decoder o 8 2
-  specific ← unsigned_decoder o 8 4
-  version ← unsigned_decoder o 32 32
-  target_count ← unsigned_decoder o 64 8
-  target ← vec_decoder o target_count
-  source_count ← unsigned_decoder o 64 8
-  source ← vec_decoder o source_count
-  pure (Ok (record {
+-- the lines, in order
+abbrev pub quic_long_header_lines : FormatParts QuicLongHeader (Result QuicLongHeader QuicError) (λ s. Ok s)
+quic_long_header_lines = do
+  constant_0 ← const 1 1 refl ShortHeader
+  fixed ← field atom.bool (λ s. s.fixed)
+  kind ← field (atom.unsigned 8 2 refl) (λ s. s.kind)
+  specific ← field (atom.unsigned 8 4 refl) (λ s. s.specific)
+  version ← field (atom.unsigned 32 32 refl) (λ s. s.version)
+  target_count ← field (atom.unsigned 64 8 refl) (λ s. length s.target)
+  target ← byte_list target_count (λ s. s.target)
+  source_count ← field (atom.unsigned 64 8 refl) (λ s. length s.source)
+  source ← byte_list source_count (λ s. s.source)
+  own_done (record {
     fixed = fixed;
     kind = kind;
     specific = specific;
@@ -31,27 +36,15 @@ quic_long_header_decoder_1 o = do
     target = target;
     source =
         source;
-  }))
+  })
 
 -- the reads, in order
 abbrev pub quic_long_header_decoder : Order → Decoder (Result QuicLongHeader QuicError)
-quic_long_header_decoder o = do
-  is_0 ← const_decoder o 1 1
-  if is_0 then quic_long_header_decoder_1 o else pure (Err ShortHeader)
+quic_long_header_decoder o = quic_long_header_lines.read o
 
 -- the writes, in order
 abbrev pub quic_long_header_writes : Order → QuicLongHeader → List Encoder
-quic_long_header_writes o value =
-    plain (word o 1 1)
-    ∷ bit value.fixed
-    ∷ unsigned o 8 2 value.kind
-    ∷ unsigned o 8 4 value.specific
-    ∷ unsigned o 32 32 value.version
-    ∷ unsigned o 64 8 (length value.target)
-    ∷ buffer o value.target
-    ∷ unsigned o 64 8 (length value.source)
-    ∷ buffer o value.source
-    ∷ []
+quic_long_header_writes o value = quic_long_header_lines.write o value
 
 -- each field fits its bits
 pub record Fits (value : QuicLongHeader) : Type 0 where
@@ -65,7 +58,13 @@ pub record Fits (value : QuicLongHeader) : Type 0 where
 
 -- the number of bits
 abbrev pub quic_long_header_size : Order → QuicLongHeader → ℕ
-quic_long_header_size o value = 56 + 8 * length value.target + 8 * length value.source
+quic_long_header_size o value = quic_long_header_lines.size value
+
+-- the format, with the facts that must fit by name
+abbrev pub quic_long_header_format : OwnFormat QuicError QuicLongHeader
+quic_long_header_format = named Fits (format quic_long_header_lines (λ s. (refl, (refl, refl {a = s}))))
+    (λ s fits. fits.kind & fits.specific & fits.version & fits.target_count & fits.target & fits.source_count &
+    fits.source)
 
 -- the bits of all fields, up to a whole byte
 unfoldable pub quic_long_header_bits : QuicLongHeader → List Bool

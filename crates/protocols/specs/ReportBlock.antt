@@ -1,7 +1,10 @@
 -- A receiver's report on one source of RTP (RFC 3550, section 6.4.1).
 use Rattle.protocols.specs.declared.report_block.ReportBlock.{ReportBlock}
+use Rattle.std.proofs.Common.{refl}
+use Rattle.bitstream_format.specs.Format.{◌>>=◌, Plain as PlainFormat, Parts as FormatParts, format, renamed, field, ◌&◌, done}
 use Rattle.std.specs.Prelude.{◌^◌, ◌<◌, ◌++◌, ◌∷◌, [], ℕ, Bool, List, take, drop}
-use Rattle.bitstream_io.specs.Callers.{◌>>=◌, Decoder, Encoder, pure, Order, High, number, signed_number, FitsSignedBits, unsigned_decoder, signed_decoder, unsigned, signed, align, write_sequence}
+use Rattle.bitstream_io.specs.Callers.{Decoder, Encoder, Order, High, number, signed_number, FitsSignedBits, align, write_sequence}
+use Rattle.bitstream_format.specs.Atoms as atom
 
 -- Made by `./format` from formats/report_block.fields: edit that file and make this one anew.
 
@@ -9,17 +12,17 @@ use Rattle.bitstream_io.specs.Callers.{◌>>=◌, Decoder, Encoder, pure, Order,
 abbrev pub bits_at : ℕ → ℕ → List Bool → List Bool
 bits_at k n bits = take n (drop k bits)
 
--- the reads, in order
-abbrev pub report_block_decoder : Order → Decoder ReportBlock
-report_block_decoder o = do
-  ssrc ← unsigned_decoder o 32 32
-  fraction_lost ← unsigned_decoder o 8 8
-  lost ← signed_decoder o 32 24
-  highest ← unsigned_decoder o 32 32
-  jitter ← unsigned_decoder o 32 32
-  last_report ← unsigned_decoder o 32 32
-  delay ← unsigned_decoder o 32 32
-  pure (record {
+-- the lines, in order
+abbrev pub report_block_lines : FormatParts ReportBlock ReportBlock (λ s. s)
+report_block_lines = do
+  ssrc ← field (atom.unsigned 32 32 refl) (λ s. s.ssrc)
+  fraction_lost ← field (atom.unsigned 8 8 refl) (λ s. s.fraction_lost)
+  lost ← field (atom.signed 32 24 refl refl) (λ s. s.lost)
+  highest ← field (atom.unsigned 32 32 refl) (λ s. s.highest)
+  jitter ← field (atom.unsigned 32 32 refl) (λ s. s.jitter)
+  last_report ← field (atom.unsigned 32 32 refl) (λ s. s.last_report)
+  delay ← field (atom.unsigned 32 32 refl) (λ s. s.delay)
+  done (record {
     ssrc = ssrc;
     fraction_lost = fraction_lost;
     lost = lost;
@@ -29,17 +32,13 @@ report_block_decoder o = do
     delay = delay;
   })
 
+-- the reads, in order
+abbrev pub report_block_decoder : Order → Decoder ReportBlock
+report_block_decoder o = report_block_lines.read o
+
 -- the writes, in order
 abbrev pub report_block_writes : Order → ReportBlock → List Encoder
-report_block_writes o value =
-    unsigned o 32 32 value.ssrc
-    ∷ unsigned o 8 8 value.fraction_lost
-    ∷ signed o 32 24 value.lost
-    ∷ unsigned o 32 32 value.highest
-    ∷ unsigned o 32 32 value.jitter
-    ∷ unsigned o 32 32 value.last_report
-    ∷ unsigned o 32 32 value.delay
-    ∷ []
+report_block_writes o value = report_block_lines.write o value
 
 -- each field fits its bits
 pub record Fits (value : ReportBlock) : Type 0 where
@@ -54,6 +53,21 @@ pub record Fits (value : ReportBlock) : Type 0 where
 -- the number of bits
 abbrev pub report_block_size : Order → ReportBlock → ℕ
 report_block_size o value = 192
+
+-- the format, with the facts that must fit by name
+abbrev pub report_block_format : PlainFormat ReportBlock
+report_block_format = renamed Fits (format report_block_lines (λ s. refl {a = s}))
+    (λ s fits. fits.ssrc & fits.fraction_lost & fits.lost & fits.highest & fits.jitter & fits.last_report & fits.delay)
+    (λ s facts. record {
+      ssrc = facts.0;
+      fraction_lost = facts.1.0;
+      lost = facts.1.1.0;
+      highest = facts.1.1.1.0;
+      jitter
+          = facts.1.1.1.1.0;
+      last_report = facts.1.1.1.1.1.0;
+      delay = facts.1.1.1.1.1.1;
+    })
 
 -- the bits of all fields, up to a whole byte
 unfoldable pub report_block_bits : ReportBlock → List Bool

@@ -2,9 +2,12 @@
 use Rattle.protocols.specs.declared.rtcp_sender_report.RtcpSenderReport.{RtcpSenderReport}
 use Rattle.protocols.specs.declared.rtcp_sender_report.RtcpError.{RtcpError}
 use Rattle.protocols.specs.declared.rtcp_sender_report.RtcpError.TheVariants.{Reader, OtherVersion, OtherPacket}
-use Rattle.protocols.specs.NtpTimestamp.{ntp_timestamp_decoder, ntp_timestamp_writes, Fits as NtpTimestampFits}
-use Rattle.std.specs.Prelude.{◌≡◌, ◌^◌, ◌<◌, ◌++◌, ◌∷◌, [], if◌then◌else◌, ℕ, Bool, List, Result, Ok, Err, length, take, drop}
-use Rattle.bitstream_io.specs.Callers.{◌>>=◌, Decoder, Encoder, pure, Error, Order, High, number, word, first_bit, bit_decoder, unsigned_decoder, const_decoder, plain, bit, unsigned, align, write_sequence}
+use Rattle.protocols.specs.NtpTimestamp.{ntp_timestamp_format, Fits as NtpTimestampFits}
+use Rattle.std.proofs.Common.{refl}
+use Rattle.bitstream_format.specs.Format.{◌>>=◌, Own as OwnFormat, Parts as FormatParts, format, renamed, field, const, ◌&◌, own_done}
+use Rattle.std.specs.Prelude.{◌≡◌, ◌^◌, ◌<◌, ◌++◌, ◌∷◌, [], ℕ, Bool, List, Result, Ok, length, take, drop}
+use Rattle.bitstream_io.specs.Callers.{Decoder, Encoder, Error, Order, High, number, first_bit, align, write_sequence}
+use Rattle.bitstream_format.specs.Atoms as atom
 
 -- Made by `./format` from formats/rtcp_sender_report.fields: edit that file and make this one anew.
 
@@ -24,16 +27,20 @@ const_at_0 bits = number High (bits_at 0 2 bits)
 abbrev pub const_at_8 : List Bool → ℕ
 const_at_8 bits = number High (bits_at 8 8 bits)
 
--- the reads, in order, after 2 that may be refused
-abbrev pub rtcp_sender_report_decoder_2 : Order → Bool → ℕ → Decoder (Result RtcpSenderReport RtcpError)
-rtcp_sender_report_decoder_2 o padding reports = do
-  length ← unsigned_decoder o 16 16
-  ssrc ← unsigned_decoder o 32 32
-  sent ← ntp_timestamp_decoder o
-  timestamp ← unsigned_decoder o 32 32
-  packets ← unsigned_decoder o 32 32
-  octets ← unsigned_decoder o 32 32
-  pure (Ok (record {
+-- the lines, in order
+abbrev pub rtcp_sender_report_lines : FormatParts RtcpSenderReport (Result RtcpSenderReport RtcpError) (λ s. Ok s)
+rtcp_sender_report_lines = do
+  constant_0 ← const 2 2 refl OtherVersion
+  padding ← field atom.bool (λ s. s.padding)
+  reports ← field (atom.unsigned 8 5 refl) (λ s. s.reports)
+  constant_3 ← const 8 200 refl OtherPacket
+  length ← field (atom.unsigned 16 16 refl) (λ s. s.length)
+  ssrc ← field (atom.unsigned 32 32 refl) (λ s. s.ssrc)
+  sent ← field ntp_timestamp_format (λ s. s.sent)
+  timestamp ← field (atom.unsigned 32 32 refl) (λ s. s.timestamp)
+  packets ← field (atom.unsigned 32 32 refl) (λ s. s.packets)
+  octets ← field (atom.unsigned 32 32 refl) (λ s. s.octets)
+  own_done (record {
     padding = padding;
     reports = reports;
     length = length;
@@ -43,36 +50,15 @@ rtcp_sender_report_decoder_2 o padding reports = do
         timestamp;
     packets = packets;
     octets = octets;
-  }))
-
--- the reads, in order, after 1 that may be refused
-abbrev pub rtcp_sender_report_decoder_1 : Order → Decoder (Result RtcpSenderReport RtcpError)
-rtcp_sender_report_decoder_1 o = do
-  padding ← bit_decoder
-  reports ← unsigned_decoder o 8 5
-  is_3 ← const_decoder o 8 200
-  if is_3 then rtcp_sender_report_decoder_2 o padding reports else pure (Err OtherPacket)
+  })
 
 -- the reads, in order
 abbrev pub rtcp_sender_report_decoder : Order → Decoder (Result RtcpSenderReport RtcpError)
-rtcp_sender_report_decoder o = do
-  is_0 ← const_decoder o 2 2
-  if is_0 then rtcp_sender_report_decoder_1 o else pure (Err OtherVersion)
+rtcp_sender_report_decoder o = rtcp_sender_report_lines.read o
 
 -- the writes, in order
 abbrev pub rtcp_sender_report_writes : Order → RtcpSenderReport → List Encoder
-rtcp_sender_report_writes o value =
-    plain (word o 2 2)
-    ∷ bit value.padding
-    ∷ unsigned o 8 5 value.reports
-    ∷ plain (word o 8 200)
-    ∷ unsigned o 16 16 value.length
-    ∷ unsigned o 32 32 value.ssrc
-    ∷ ntp_timestamp_writes o value.sent
-    ++ unsigned o 32 32 value.timestamp
-    ∷ unsigned o 32 32 value.packets
-    ∷ unsigned o 32 32 value.octets
-    ∷ []
+rtcp_sender_report_writes o value = rtcp_sender_report_lines.write o value
 
 -- each field fits its bits
 pub record Fits (value : RtcpSenderReport) : Type 0 where
@@ -87,6 +73,21 @@ pub record Fits (value : RtcpSenderReport) : Type 0 where
 -- the number of bits
 abbrev pub rtcp_sender_report_size : Order → RtcpSenderReport → ℕ
 rtcp_sender_report_size o value = 224
+
+-- the format, with the facts that must fit by name
+abbrev pub rtcp_sender_report_format : OwnFormat RtcpError RtcpSenderReport
+rtcp_sender_report_format = renamed Fits (format rtcp_sender_report_lines (λ s. refl {a = s}))
+    (λ s fits. fits.reports & fits.length & fits.ssrc & fits.sent & fits.timestamp & fits.packets & fits.octets)
+    (λ s facts. record {
+      reports = facts.0;
+      length = facts.1.0;
+      ssrc = facts.1.1.0;
+      sent = facts.1.1.1.0;
+      timestamp =
+          facts.1.1.1.1.0;
+      packets = facts.1.1.1.1.1.0;
+      octets = facts.1.1.1.1.1.1;
+    })
 
 -- the bits of all fields, up to a whole byte
 unfoldable pub rtcp_sender_report_bits : RtcpSenderReport → List Bool

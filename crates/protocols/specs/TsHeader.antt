@@ -4,8 +4,12 @@ use Rattle.protocols.specs.declared.ts_header.TsError.{TsError}
 use Rattle.protocols.specs.declared.ts_header.TsError.TheVariants.{Reader, NoSync, NoAdaptation}
 use Rattle.protocols.specs.declared.ts_header.Adaptation.{Adaptation}
 use Rattle.protocols.specs.declared.ts_header.Adaptation.TheVariants.{Payload, Field, Both}
-use Rattle.std.specs.Prelude.{◌≡◌, ◌^◌, ◌<◌, ◌++◌, ◌∷◌, [], ◌==◌, if◌then◌else◌, ℕ, Bool, List, Result, Ok, Err, take, drop}
-use Rattle.bitstream_io.specs.Callers.{◌>>=◌, Decoder, Encoder, pure, Error, Order, High, number, and_then, word, first_bit, bit_decoder, unsigned_decoder, const_decoder, plain, bit, unsigned, align, write_sequence, part_then}
+use Rattle.std.proofs.Common.{refl, true}
+use Rattle.bitstream_format.specs.Format.{◌>>=◌, Own as OwnFormat, Parts as FormatParts, format, renamed, field, own_field, const, ◌&◌, own_done}
+use Rattle.bitstream_format.specs.Cases.{cases}
+use Rattle.std.specs.Prelude.{◌≡◌, ◌^◌, ◌<◌, ◌++◌, ◌∷◌, [], ◌==◌, if◌then◌else◌, ℕ, Bool, List, Result, Ok, Err, take, drop, nat_lt}
+use Rattle.bitstream_io.specs.Callers.{Decoder, Encoder, pure, Error, Order, High, number, and_then, first_bit, unsigned_decoder, align, write_sequence}
+use Rattle.bitstream_format.specs.Atoms as atom
 
 -- Made by `./format` from formats/ts_header.fields: edit that file and make this one anew.
 
@@ -36,11 +40,33 @@ adaptation_number Both = 3
 abbrev pub adaptation_read : Order → Decoder (Result Adaptation TsError)
 adaptation_read o = and_then (unsigned_decoder o 8 2) (λ v. pure (adaptation_of v))
 
--- the reads, in order, after 2 that may be refused
-abbrev pub ts_header_decoder_2 : Order → Bool → Bool → Bool → ℕ → ℕ → Adaptation → Decoder (Result TsHeader TsError)
-ts_header_decoder_2 o damaged starts priority pid scrambling adaptation = do
-  continuity ← unsigned_decoder o 8 4
-  pure (Ok (record {
+-- the number of each case fits its bits, and decodes to that case
+pub adaptation_small : (it : Adaptation) → nat_lt (adaptation_number it) (2 ^ 2) ≡ true
+adaptation_small Payload = refl
+adaptation_small Field = refl
+adaptation_small Both = refl
+
+pub adaptation_again : (it : Adaptation) → adaptation_of (adaptation_number it) ≡ Ok it
+adaptation_again Payload = refl
+adaptation_again Field = refl
+adaptation_again Both = refl
+
+-- the cases, by their numbers
+abbrev pub adaptation_cases : OwnFormat TsError Adaptation
+adaptation_cases = cases 8 2 refl adaptation_of adaptation_number adaptation_small adaptation_again
+
+-- the lines, in order
+abbrev pub ts_header_lines : FormatParts TsHeader (Result TsHeader TsError) (λ s. Ok s)
+ts_header_lines = do
+  constant_0 ← const 8 71 refl NoSync
+  damaged ← field atom.bool (λ s. s.damaged)
+  starts ← field atom.bool (λ s. s.starts)
+  priority ← field atom.bool (λ s. s.priority)
+  pid ← field (atom.unsigned 16 13 refl) (λ s. s.pid)
+  scrambling ← field (atom.unsigned 8 2 refl) (λ s. s.scrambling)
+  adaptation ← own_field adaptation_cases (λ s. s.adaptation)
+  continuity ← field (atom.unsigned 8 4 refl) (λ s. s.continuity)
+  own_done (record {
     damaged = damaged;
     starts = starts;
     priority = priority;
@@ -48,37 +74,15 @@ ts_header_decoder_2 o damaged starts priority pid scrambling adaptation = do
     scrambling = scrambling;
     adaptation = adaptation;
     continuity = continuity;
-  }))
-
--- the reads, in order, after 1 that may be refused
-abbrev pub ts_header_decoder_1 : Order → Decoder (Result TsHeader TsError)
-ts_header_decoder_1 o = do
-  damaged ← bit_decoder
-  starts ← bit_decoder
-  priority ← bit_decoder
-  pid ← unsigned_decoder o 16 13
-  scrambling ← unsigned_decoder o 8 2
-  and_then (adaptation_read o) (part_then (λ adaptation. ts_header_decoder_2 o damaged starts priority pid scrambling
-      adaptation))
+  })
 
 -- the reads, in order
 abbrev pub ts_header_decoder : Order → Decoder (Result TsHeader TsError)
-ts_header_decoder o = do
-  is_0 ← const_decoder o 8 71
-  if is_0 then ts_header_decoder_1 o else pure (Err NoSync)
+ts_header_decoder o = ts_header_lines.read o
 
 -- the writes, in order
 abbrev pub ts_header_writes : Order → TsHeader → List Encoder
-ts_header_writes o value =
-    plain (word o 8 71)
-    ∷ bit value.damaged
-    ∷ bit value.starts
-    ∷ bit value.priority
-    ∷ unsigned o 16 13 value.pid
-    ∷ unsigned o 8 2 value.scrambling
-    ∷ unsigned o 8 2 (adaptation_number value.adaptation)
-    ∷ unsigned o 8 4 value.continuity
-    ∷ []
+ts_header_writes o value = ts_header_lines.write o value
 
 -- each field fits its bits
 pub record Fits (value : TsHeader) : Type 0 where
@@ -89,6 +93,12 @@ pub record Fits (value : TsHeader) : Type 0 where
 -- the number of bits
 abbrev pub ts_header_size : Order → TsHeader → ℕ
 ts_header_size o value = 32
+
+-- the format, with the facts that must fit by name
+abbrev pub ts_header_format : OwnFormat TsError TsHeader
+ts_header_format = renamed Fits (format ts_header_lines (λ s. refl {a = s}))
+    (λ s fits. fits.pid & fits.scrambling & fits.continuity)
+    (λ s facts. record { pid = facts.0; scrambling = facts.1.0; continuity = facts.1.1 })
 
 -- the bits of all fields, up to a whole byte
 unfoldable pub ts_header_bits : TsHeader → List Bool

@@ -71,8 +71,7 @@ impl AdsbMessage {
     ///
     /// # Errors
     ///
-    /// `OtherFormat`.
-    /// The refused bits are read then.
+    /// `OtherFormat`, after the rejected bits have been read.
     /// Otherwise the reader's errors, after which it has failed.
     pub fn read<R: BitRead>(reader: &mut R) -> Result<AdsbMessage, AdsbError>
         ensures { ReadsOwn R.source becomes_adsb_message (adsb_message_decoder R.source.order) reader.old result reader.new }
@@ -96,7 +95,8 @@ impl AdsbMessage {
     ///
     /// # Errors
     ///
-    /// `OtherFormat`, `Reader(EndOfInput)` for fewer than 14 bytes.
+    /// `OtherFormat` if bits are rejected.
+    /// `Reader(EndOfInput)` for fewer than 14 bytes.
     pub fn parse(packet: &[u8]) -> Result<AdsbMessage, AdsbError>
         ensures answer { OwnAnswer becomes_adsb_message (λ answer. answer)
             (sure_answer ((adsb_message_decoder High).reads 0 (bits High packet.now))) result }
@@ -118,7 +118,7 @@ impl AdsbMessage {
     ///
     /// # Errors
     ///
-    /// `Checked` for a field that does not fit its bits. The fields before it are written then.
+    /// `Checked` for a field that does not fit its bits. The fields before it have been written.
     /// Otherwise the sink's errors.
     pub fn write<W: BitWrite>(&self, writer: &mut W) -> Result<(), Error>
         ensures { WritesAll W.sink (adsb_message_writes W.sink.order self.now) writer.old result writer.new }
@@ -139,7 +139,7 @@ impl AdsbMessage {
     ///
     /// `Checked` for the first field that does not fit its bits, however long the buffer is.
     /// `Stream(WriteZero)` if all fields fit, and the buffer has fewer than 14 bytes.
-    /// The first bytes of the buffer may be changed then.
+    /// After an error, the first bytes of the buffer may have changed.
     pub fn pack_into<'a>(&self, buffer: &'a mut [u8]) -> Result<SliceMut<'a>, Error>
         ensures packed { IfOk result (λ packed. bits High (written_bytes packed) ≡ adsb_message_bits self.now) }
         ensures first { IfOk result (HoldsFirst buffer.entry.ghost_name buffer.old) }

@@ -81,11 +81,11 @@ impl From<Error> for ArpError {
 /// The operation: a request for an address, or a reply.
 #[derive(Clone, Copy, Debug, PartialEq)]
 pub enum Operation {
-    /// 1.
+    /// Encoded as 1.
     Request,
-    /// 2.
+    /// Encoded as 2.
     Reply,
-    /// Another number.
+    /// Any other number.
     Other(u16),
 }
 
@@ -131,8 +131,7 @@ impl ArpPacket {
     ///
     /// # Errors
     ///
-    /// `OtherHardware`, `OtherProtocol`, `OtherHardwareLength`, `OtherProtocolLength`.
-    /// The refused bits are read then.
+    /// `OtherHardware`, `OtherProtocol`, `OtherHardwareLength` or `OtherProtocolLength`, after the rejected bits have been read.
     /// Otherwise the reader's errors, after which it has failed.
     pub fn read<R: BitRead>(reader: &mut R) -> Result<ArpPacket, ArpError>
         ensures { ReadsOwn R.source becomes_arp_packet (arp_packet_decoder R.source.order) reader.old result reader.new }
@@ -159,7 +158,8 @@ impl ArpPacket {
     ///
     /// # Errors
     ///
-    /// `OtherHardware`, `OtherProtocol`, `OtherHardwareLength`, `OtherProtocolLength`, `Reader(EndOfInput)` for fewer than 28 bytes.
+    /// `OtherHardware`, `OtherProtocol`, `OtherHardwareLength` or `OtherProtocolLength` if bits are rejected.
+    /// `Reader(EndOfInput)` for fewer than 28 bytes.
     pub fn parse(packet: &[u8]) -> Result<ArpPacket, ArpError>
         ensures answer { OwnAnswer becomes_arp_packet (λ answer. answer)
             (sure_answer ((arp_packet_decoder High).reads 0 (bits High packet.now))) result }
@@ -195,7 +195,7 @@ impl ArpPacket {
     ///
     /// # Errors
     ///
-    /// `Checked` for a field that does not fit its bits. The fields before it are written then.
+    /// `Checked` for a field that does not fit its bits. The fields before it have been written.
     /// Otherwise the sink's errors.
     pub fn write<W: BitWrite>(&self, writer: &mut W) -> Result<(), Error>
         ensures { WritesAll W.sink (arp_packet_writes W.sink.order self.now) writer.old result writer.new }
@@ -219,7 +219,7 @@ impl ArpPacket {
     ///
     /// `Checked` for the first field that does not fit its bits, however long the buffer is.
     /// `Stream(WriteZero)` if all fields fit, and the buffer has fewer than 28 bytes.
-    /// The first bytes of the buffer may be changed then.
+    /// After an error, the first bytes of the buffer may have changed.
     pub fn pack_into<'a>(&self, buffer: &'a mut [u8]) -> Result<SliceMut<'a>, Error>
         ensures packed { IfOk result (λ packed. bits High (written_bytes packed) ≡ arp_packet_bits self.now) }
         ensures first { IfOk result (HoldsFirst buffer.entry.ghost_name buffer.old) }

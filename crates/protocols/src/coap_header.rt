@@ -78,13 +78,13 @@ impl From<Error> for CoapError {
 /// The kind of the message.
 #[derive(Clone, Copy, Debug, PartialEq)]
 pub enum Message {
-    /// 0.
+    /// Encoded as 0.
     Confirmable,
-    /// 1.
+    /// Encoded as 1.
     NonConfirmable,
-    /// 2.
+    /// Encoded as 2.
     Acknowledgement,
-    /// 3.
+    /// Encoded as 3.
     Reset,
 }
 
@@ -134,9 +134,9 @@ impl CoapHeader {
     ///
     /// # Errors
     ///
-    /// `OtherVersion`.
-    /// The refused bits are read then.
-    /// `Reader(OutOfMemory)` if the allocation for a list fails, after the items before.
+    /// `OtherVersion`, after the rejected bits have been read.
+    /// `Reader(OutOfMemory)` if an allocation for a list fails. The items before the failure
+    /// have been read.
     /// Otherwise the reader's errors, after which it has failed.
     pub fn read<R: BitRead>(reader: &mut R, alloc: Global) -> Result<CoapHeader, CoapError>
         ensures { GrowsOwn R.source becomes_coap_header (coap_header_decoder R.source.order) reader.old result reader.new }
@@ -161,7 +161,8 @@ impl CoapHeader {
     ///
     /// # Errors
     ///
-    /// `OtherVersion`, `Reader(EndOfInput)` if the bytes end before the fields do.
+    /// `OtherVersion` if bits are rejected.
+    /// `Reader(EndOfInput)` if the bytes end before the fields do.
     /// `Reader(OutOfMemory)` if the allocation for an item of a list fails.
     pub fn parse(packet: &[u8], alloc: Global) -> Result<CoapHeader, CoapError>
         ensures answer { (OwnAnswer becomes_coap_header (λ answer. answer)
@@ -181,7 +182,7 @@ impl CoapHeader {
     ///
     /// # Errors
     ///
-    /// `Checked` for a field that does not fit its bits. The fields before it are written then.
+    /// `Checked` for a field that does not fit its bits. The fields before it have been written.
     /// Otherwise the sink's errors.
     pub fn write<W: BitWrite>(&self, writer: &mut W) -> Result<(), Error>
         ensures { WritesAll W.sink (coap_header_writes W.sink.order self.now) writer.old result writer.new }
@@ -203,7 +204,7 @@ impl CoapHeader {
     ///
     /// `Checked` for the first field that does not fit its bits, however long the buffer is.
     /// `Stream(WriteZero)` if all fields fit, and the buffer is too short for the bits.
-    /// The first bytes of the buffer may be changed then.
+    /// After an error, the first bytes of the buffer may have changed.
     pub fn pack_into<'a>(&self, buffer: &'a mut [u8]) -> Result<SliceMut<'a>, Error>
         ensures packed { IfOk result (λ packed. bits High (written_bytes packed) ≡ coap_header_bits self.now) }
         ensures first { IfOk result (HoldsFirst buffer.entry.ghost_name buffer.old) }

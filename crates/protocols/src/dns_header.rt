@@ -82,19 +82,19 @@ impl From<Error> for DnsHeaderError {
 /// The result.
 #[derive(Clone, Copy, Debug, PartialEq)]
 pub enum Code {
-    /// 0.
+    /// Encoded as 0.
     NoError,
-    /// 1.
+    /// Encoded as 1.
     FormatError,
-    /// 2.
+    /// Encoded as 2.
     ServerFailure,
-    /// 3.
+    /// Encoded as 3.
     NoSuchName,
-    /// 4.
+    /// Encoded as 4.
     NotImplemented,
-    /// 5.
+    /// Encoded as 5.
     Refuses,
-    /// Another number.
+    /// Any other number.
     Other(u8),
 }
 
@@ -156,8 +156,7 @@ impl DnsHeader {
     ///
     /// # Errors
     ///
-    /// `ReservedSet`.
-    /// The refused bits are read then.
+    /// `ReservedSet`, after the rejected bits have been read.
     /// Otherwise the reader's errors, after which it has failed.
     pub fn read<R: BitRead>(reader: &mut R) -> Result<DnsHeader, DnsHeaderError>
         ensures { ReadsOwn R.source becomes_dns_header (dns_header_decoder R.source.order) reader.old result reader.new }
@@ -199,7 +198,8 @@ impl DnsHeader {
     ///
     /// # Errors
     ///
-    /// `ReservedSet`, `Reader(EndOfInput)` for fewer than 12 bytes.
+    /// `ReservedSet` if bits are rejected.
+    /// `Reader(EndOfInput)` for fewer than 12 bytes.
     pub fn parse(packet: &[u8]) -> Result<DnsHeader, DnsHeaderError>
         ensures answer { OwnAnswer becomes_dns_header (λ answer. answer)
             (sure_answer ((dns_header_decoder High).reads 0 (bits High packet.now))) result }
@@ -221,7 +221,7 @@ impl DnsHeader {
     ///
     /// # Errors
     ///
-    /// `Checked` for a field that does not fit its bits. The fields before it are written then.
+    /// `Checked` for a field that does not fit its bits. The fields before it have been written.
     /// Otherwise the sink's errors.
     pub fn write<W: BitWrite>(&self, writer: &mut W) -> Result<(), Error>
         ensures { WritesAll W.sink (dns_header_writes W.sink.order self.now) writer.old result writer.new }
@@ -251,7 +251,7 @@ impl DnsHeader {
     ///
     /// `Checked` for the first field that does not fit its bits, however long the buffer is.
     /// `Stream(WriteZero)` if all fields fit, and the buffer has fewer than 12 bytes.
-    /// The first bytes of the buffer may be changed then.
+    /// After an error, the first bytes of the buffer may have changed.
     pub fn pack_into<'a>(&self, buffer: &'a mut [u8]) -> Result<SliceMut<'a>, Error>
         ensures packed { IfOk result (λ packed. bits High (written_bytes packed) ≡ dns_header_bits self.now) }
         ensures first { IfOk result (HoldsFirst buffer.entry.ghost_name buffer.old) }

@@ -47,15 +47,15 @@ pub struct EthernetHeader {
 /// The EtherType of what follows.
 #[derive(Clone, Copy, Debug, PartialEq)]
 pub enum EtherType {
-    /// 2048.
+    /// Encoded as 2048.
     Ipv4,
-    /// 2054.
+    /// Encoded as 2054.
     Arp,
-    /// 33024.
+    /// Encoded as 33024.
     Vlan,
-    /// 34525.
+    /// Encoded as 34525.
     Ipv6,
-    /// Another number.
+    /// Any other number.
     Other(u16),
 }
 
@@ -163,7 +163,7 @@ impl EthernetHeader {
     ///
     /// # Errors
     ///
-    /// `Checked` for a field that does not fit its bits. The fields before it are written then.
+    /// `Checked` for a field that does not fit its bits. The fields before it have been written.
     /// Otherwise the sink's errors.
     pub fn write<W: BitWrite>(&self, writer: &mut W) -> Result<(), Error>
         ensures { WritesAll W.sink (ethernet_header_writes W.sink.order self.now) writer.old result writer.new }
@@ -182,7 +182,7 @@ impl EthernetHeader {
     ///
     /// `Checked` for the first field that does not fit its bits, however long the buffer is.
     /// `Stream(WriteZero)` if all fields fit, and the buffer is too short for the bits.
-    /// The first bytes of the buffer may be changed then.
+    /// After an error, the first bytes of the buffer may have changed.
     pub fn pack_into<'a>(&self, buffer: &'a mut [u8]) -> Result<SliceMut<'a>, Error>
         ensures packed { IfOk result (λ packed. bits High (written_bytes packed) ≡ ethernet_header_bits self.now) }
         ensures first { IfOk result (HoldsFirst buffer.entry.ghost_name buffer.old) }

@@ -35,7 +35,7 @@ pub struct IcmpEcho {
     pub checksum: u16,
     /// The number that a reply shares with its request.
     pub identifier: u16,
-    /// The number of the request among those of its sender.
+    /// The number of the request among its sender's requests.
     pub sequence: u16,
 }
 
@@ -64,9 +64,9 @@ impl From<Error> for IcmpEchoError {
 /// The kind of the message: a request or a reply.
 #[derive(Clone, Copy, Debug, PartialEq)]
 pub enum EchoKind {
-    /// 8.
+    /// Encoded as 8.
     Request,
-    /// 0.
+    /// Encoded as 0.
     Reply,
 }
 
@@ -111,8 +111,7 @@ impl IcmpEcho {
     ///
     /// # Errors
     ///
-    /// `NoEchoKind`, `OtherCode`.
-    /// The refused bits are read then.
+    /// `NoEchoKind` or `OtherCode`, after the rejected bits have been read.
     /// Otherwise the reader's errors, after which it has failed.
     pub fn read<R: BitRead>(reader: &mut R) -> Result<IcmpEcho, IcmpEchoError>
         ensures { ReadsOwn R.source becomes_icmp_echo (icmp_echo_decoder R.source.order) reader.old result reader.new }
@@ -134,7 +133,8 @@ impl IcmpEcho {
     ///
     /// # Errors
     ///
-    /// `NoEchoKind`, `OtherCode`, `Reader(EndOfInput)` for fewer than 8 bytes.
+    /// `NoEchoKind` or `OtherCode` if bits are rejected.
+    /// `Reader(EndOfInput)` for fewer than 8 bytes.
     pub fn parse(packet: &[u8]) -> Result<IcmpEcho, IcmpEchoError>
         ensures answer { OwnAnswer becomes_icmp_echo (λ answer. answer)
             (sure_answer ((icmp_echo_decoder High).reads 0 (bits High packet.now))) result }
@@ -163,7 +163,7 @@ impl IcmpEcho {
     ///
     /// # Errors
     ///
-    /// `Checked` for a field that does not fit its bits. The fields before it are written then.
+    /// `Checked` for a field that does not fit its bits. The fields before it have been written.
     /// Otherwise the sink's errors.
     pub fn write<W: BitWrite>(&self, writer: &mut W) -> Result<(), Error>
         ensures { WritesAll W.sink (icmp_echo_writes W.sink.order self.now) writer.old result writer.new }
@@ -183,7 +183,7 @@ impl IcmpEcho {
     ///
     /// `Checked` for the first field that does not fit its bits, however long the buffer is.
     /// `Stream(WriteZero)` if all fields fit, and the buffer has fewer than 8 bytes.
-    /// The first bytes of the buffer may be changed then.
+    /// After an error, the first bytes of the buffer may have changed.
     pub fn pack_into<'a>(&self, buffer: &'a mut [u8]) -> Result<SliceMut<'a>, Error>
         ensures packed { IfOk result (λ packed. bits High (written_bytes packed) ≡ icmp_echo_bits self.now) }
         ensures first { IfOk result (HoldsFirst buffer.entry.ghost_name buffer.old) }

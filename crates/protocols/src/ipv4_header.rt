@@ -34,7 +34,7 @@ use bitstream_io::{
 /// ```
 #[derive(Clone, Copy, Debug, PartialEq)]
 pub struct Ipv4Header {
-    /// The 32-bit words of the header, of which those after the fifth are options. Below 2^4.
+    /// The 32-bit words of the header; the words after the fifth are options. Below 2^4.
     pub words: u8,
     /// The differentiated services code point (RFC 2474). Below 2^6.
     pub dscp: u8,
@@ -87,13 +87,13 @@ impl From<Error> for Ipv4Error {
 /// The congestion mark of the path (RFC 3168).
 #[derive(Clone, Copy, Debug, PartialEq)]
 pub enum Ecn {
-    /// 0.
+    /// Encoded as 0.
     NotCapable,
-    /// 1.
+    /// Encoded as 1.
     Ect1,
-    /// 2.
+    /// Encoded as 2.
     Ect0,
-    /// 3.
+    /// Encoded as 3.
     Congested,
 }
 
@@ -138,13 +138,13 @@ impl Ecn {
 /// The protocol of the payload.
 #[derive(Clone, Copy, Debug, PartialEq)]
 pub enum Protocol {
-    /// 1.
+    /// Encoded as 1.
     Icmp,
-    /// 6.
+    /// Encoded as 6.
     Tcp,
-    /// 17.
+    /// Encoded as 17.
     Udp,
-    /// Another number.
+    /// Any other number.
     Other(u8),
 }
 
@@ -194,8 +194,7 @@ impl Ipv4Header {
     ///
     /// # Errors
     ///
-    /// `OtherVersion`, `ReservedSet`.
-    /// The refused bits are read then.
+    /// `OtherVersion` or `ReservedSet`, after the rejected bits have been read.
     /// Otherwise the reader's errors, after which it has failed.
     pub fn read<R: BitRead>(reader: &mut R) -> Result<Ipv4Header, Ipv4Error>
         ensures { ReadsOwn R.source becomes_ipv4_header (ipv4_header_decoder R.source.order) reader.old result reader.new }
@@ -236,7 +235,8 @@ impl Ipv4Header {
     ///
     /// # Errors
     ///
-    /// `OtherVersion`, `ReservedSet`, `Reader(EndOfInput)` for fewer than 20 bytes.
+    /// `OtherVersion` or `ReservedSet` if bits are rejected.
+    /// `Reader(EndOfInput)` for fewer than 20 bytes.
     pub fn parse(packet: &[u8]) -> Result<Ipv4Header, Ipv4Error>
         ensures answer { OwnAnswer becomes_ipv4_header (λ answer. answer)
             (sure_answer ((ipv4_header_decoder High).reads 0 (bits High packet.now))) result }
@@ -262,7 +262,7 @@ impl Ipv4Header {
     ///
     /// # Errors
     ///
-    /// `Checked` for a field that does not fit its bits. The fields before it are written then.
+    /// `Checked` for a field that does not fit its bits. The fields before it have been written.
     /// Otherwise the sink's errors.
     pub fn write<W: BitWrite>(&self, writer: &mut W) -> Result<(), Error>
         ensures { WritesAll W.sink (ipv4_header_writes W.sink.order self.now) writer.old result writer.new }
@@ -292,7 +292,7 @@ impl Ipv4Header {
     ///
     /// `Checked` for the first field that does not fit its bits, however long the buffer is.
     /// `Stream(WriteZero)` if all fields fit, and the buffer has fewer than 20 bytes.
-    /// The first bytes of the buffer may be changed then.
+    /// After an error, the first bytes of the buffer may have changed.
     pub fn pack_into<'a>(&self, buffer: &'a mut [u8]) -> Result<SliceMut<'a>, Error>
         ensures packed { IfOk result (λ packed. bits High (written_bytes packed) ≡ ipv4_header_bits self.now) }
         ensures first { IfOk result (HoldsFirst buffer.entry.ghost_name buffer.old) }

@@ -38,7 +38,7 @@ pub struct Ipv6Header {
     pub ecn: Ecn,
     /// The flow that the packet belongs to. Below 2^20.
     pub flow: u32,
-    /// The bytes after this header, with those of extension headers.
+    /// The bytes after this header, including extension headers.
     pub payload_size: u16,
     /// The header that follows.
     pub following: Following,
@@ -72,13 +72,13 @@ impl From<Error> for Ipv6Error {
 /// The congestion mark of the path (RFC 3168).
 #[derive(Clone, Copy, Debug, PartialEq)]
 pub enum Ecn {
-    /// 0.
+    /// Encoded as 0.
     NotCapable,
-    /// 1.
+    /// Encoded as 1.
     Ect1,
-    /// 2.
+    /// Encoded as 2.
     Ect0,
-    /// 3.
+    /// Encoded as 3.
     Congested,
 }
 
@@ -123,19 +123,19 @@ impl Ecn {
 /// The header that follows.
 #[derive(Clone, Copy, Debug, PartialEq)]
 pub enum Following {
-    /// 0.
+    /// Encoded as 0.
     HopByHop,
-    /// 6.
+    /// Encoded as 6.
     Tcp,
-    /// 17.
+    /// Encoded as 17.
     Udp,
-    /// 43.
+    /// Encoded as 43.
     Routing,
-    /// 44.
+    /// Encoded as 44.
     Fragment,
-    /// 58.
+    /// Encoded as 58.
     Icmp,
-    /// Another number.
+    /// Any other number.
     Other(u8),
 }
 
@@ -197,8 +197,7 @@ impl Ipv6Header {
     ///
     /// # Errors
     ///
-    /// `OtherVersion`.
-    /// The refused bits are read then.
+    /// `OtherVersion`, after the rejected bits have been read.
     /// Otherwise the reader's errors, after which it has failed.
     pub fn read<R: BitRead>(reader: &mut R) -> Result<Ipv6Header, Ipv6Error>
         ensures { ReadsOwn R.source becomes_ipv6_header (ipv6_header_decoder R.source.order) reader.old result reader.new }
@@ -228,7 +227,8 @@ impl Ipv6Header {
     ///
     /// # Errors
     ///
-    /// `OtherVersion`, `Reader(EndOfInput)` for fewer than 40 bytes.
+    /// `OtherVersion` if bits are rejected.
+    /// `Reader(EndOfInput)` for fewer than 40 bytes.
     pub fn parse(packet: &[u8]) -> Result<Ipv6Header, Ipv6Error>
         ensures answer { OwnAnswer becomes_ipv6_header (λ answer. answer)
             (sure_answer ((ipv6_header_decoder High).reads 0 (bits High packet.now))) result }
@@ -250,7 +250,7 @@ impl Ipv6Header {
     ///
     /// # Errors
     ///
-    /// `Checked` for a field that does not fit its bits. The fields before it are written then.
+    /// `Checked` for a field that does not fit its bits. The fields before it have been written.
     /// Otherwise the sink's errors.
     pub fn write<W: BitWrite>(&self, writer: &mut W) -> Result<(), Error>
         ensures { WritesAll W.sink (ipv6_header_writes W.sink.order self.now) writer.old result writer.new }
@@ -274,7 +274,7 @@ impl Ipv6Header {
     ///
     /// `Checked` for the first field that does not fit its bits, however long the buffer is.
     /// `Stream(WriteZero)` if all fields fit, and the buffer has fewer than 40 bytes.
-    /// The first bytes of the buffer may be changed then.
+    /// After an error, the first bytes of the buffer may have changed.
     pub fn pack_into<'a>(&self, buffer: &'a mut [u8]) -> Result<SliceMut<'a>, Error>
         ensures packed { IfOk result (λ packed. bits High (written_bytes packed) ≡ ipv6_header_bits self.now) }
         ensures first { IfOk result (HoldsFirst buffer.entry.ghost_name buffer.old) }

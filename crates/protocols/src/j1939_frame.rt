@@ -76,8 +76,7 @@ impl J1939Frame {
     ///
     /// # Errors
     ///
-    /// `OtherFrame`, `OtherSize`.
-    /// The refused bits are read then.
+    /// `OtherFrame` or `OtherSize`, after the rejected bits have been read.
     /// Otherwise the reader's errors, after which it has failed.
     pub fn read<R: BitRead>(reader: &mut R) -> Result<J1939Frame, J1939Error>
         ensures { ReadsOwn R.source becomes_j1939_frame (j1939_frame_decoder R.source.order) reader.old result reader.new }
@@ -107,7 +106,8 @@ impl J1939Frame {
     ///
     /// # Errors
     ///
-    /// `OtherFrame`, `OtherSize`, `Reader(EndOfInput)` for fewer than 16 bytes.
+    /// `OtherFrame` or `OtherSize` if bits are rejected.
+    /// `Reader(EndOfInput)` for fewer than 16 bytes.
     pub fn parse(packet: &[u8]) -> Result<J1939Frame, J1939Error>
         ensures answer { OwnAnswer becomes_j1939_frame (λ answer. answer)
             (sure_answer ((j1939_frame_decoder High).reads 0 (bits High packet.now))) result }
@@ -133,7 +133,7 @@ impl J1939Frame {
     ///
     /// # Errors
     ///
-    /// `Checked` for a field that does not fit its bits. The fields before it are written then.
+    /// `Checked` for a field that does not fit its bits. The fields before it have been written.
     /// Otherwise the sink's errors.
     pub fn write<W: BitWrite>(&self, writer: &mut W) -> Result<(), Error>
         ensures { WritesAll W.sink (j1939_frame_writes W.sink.order self.now) writer.old result writer.new }
@@ -158,7 +158,7 @@ impl J1939Frame {
     ///
     /// `Checked` for the first field that does not fit its bits, however long the buffer is.
     /// `Stream(WriteZero)` if all fields fit, and the buffer has fewer than 16 bytes.
-    /// The first bytes of the buffer may be changed then.
+    /// After an error, the first bytes of the buffer may have changed.
     pub fn pack_into<'a>(&self, buffer: &'a mut [u8]) -> Result<SliceMut<'a>, Error>
         ensures packed { IfOk result (λ packed. bits High (written_bytes packed) ≡ j1939_frame_bits self.now) }
         ensures first { IfOk result (HoldsFirst buffer.entry.ghost_name buffer.old) }

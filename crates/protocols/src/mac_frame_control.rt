@@ -49,21 +49,21 @@ pub struct MacFrameControl {
 /// The type of the frame.
 #[derive(Clone, Copy, Debug, PartialEq)]
 pub enum FrameKind {
-    /// 0.
+    /// Encoded as 0.
     Beacon,
-    /// 1.
+    /// Encoded as 1.
     Data,
-    /// 2.
+    /// Encoded as 2.
     Ack,
-    /// 3.
+    /// Encoded as 3.
     Command,
-    /// 4.
+    /// Encoded as 4.
     Unused,
-    /// 5.
+    /// Encoded as 5.
     Multipurpose,
-    /// 6.
+    /// Encoded as 6.
     Fragment,
-    /// 7.
+    /// Encoded as 7.
     Further,
 }
 
@@ -124,13 +124,13 @@ impl FrameKind {
 /// The kind of the receiver's address.
 #[derive(Clone, Copy, Debug, PartialEq)]
 pub enum AddressMode {
-    /// 0.
+    /// Encoded as 0.
     Absent,
-    /// 1.
+    /// Encoded as 1.
     Reserved,
-    /// 2.
+    /// Encoded as 2.
     Short,
-    /// 3.
+    /// Encoded as 3.
     Extended,
 }
 
@@ -230,7 +230,7 @@ impl MacFrameControl {
     ///
     /// # Errors
     ///
-    /// `Checked` for a field that does not fit its bits. The fields before it are written then.
+    /// `Checked` for a field that does not fit its bits. The fields before it have been written.
     /// Otherwise the sink's errors.
     pub fn write<W: BitWrite>(&self, writer: &mut W) -> Result<(), Error>
         ensures { WritesAll W.sink (mac_frame_control_writes W.sink.order self.now) writer.old result writer.new }
@@ -256,7 +256,7 @@ impl MacFrameControl {
     ///
     /// `Checked` for the first field that does not fit its bits, however long the buffer is.
     /// `Stream(WriteZero)` if all fields fit, and the buffer has fewer than 2 bytes.
-    /// The first bytes of the buffer may be changed then.
+    /// After an error, the first bytes of the buffer may have changed.
     pub fn pack_into<'a>(&self, buffer: &'a mut [u8]) -> Result<SliceMut<'a>, Error>
         ensures packed { IfOk result (λ packed. bits Low (written_bytes packed) ≡ mac_frame_control_bits self.now) }
         ensures first { IfOk result (HoldsFirst buffer.entry.ghost_name buffer.old) }

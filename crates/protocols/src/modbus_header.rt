@@ -67,8 +67,7 @@ impl ModbusHeader {
     ///
     /// # Errors
     ///
-    /// `OtherProtocol`.
-    /// The refused bits are read then.
+    /// `OtherProtocol`, after the rejected bits have been read.
     /// Otherwise the reader's errors, after which it has failed.
     pub fn read<R: BitRead>(reader: &mut R) -> Result<ModbusHeader, ModbusError>
         ensures { ReadsOwn R.source becomes_modbus_header (modbus_header_decoder R.source.order) reader.old result reader.new }
@@ -92,7 +91,8 @@ impl ModbusHeader {
     ///
     /// # Errors
     ///
-    /// `OtherProtocol`, `Reader(EndOfInput)` for fewer than 8 bytes.
+    /// `OtherProtocol` if bits are rejected.
+    /// `Reader(EndOfInput)` for fewer than 8 bytes.
     pub fn parse(packet: &[u8]) -> Result<ModbusHeader, ModbusError>
         ensures answer { OwnAnswer becomes_modbus_header (λ answer. answer)
             (sure_answer ((modbus_header_decoder High).reads 0 (bits High packet.now))) result }
@@ -114,7 +114,7 @@ impl ModbusHeader {
     ///
     /// # Errors
     ///
-    /// `Checked` for a field that does not fit its bits. The fields before it are written then.
+    /// `Checked` for a field that does not fit its bits. The fields before it have been written.
     /// Otherwise the sink's errors.
     pub fn write<W: BitWrite>(&self, writer: &mut W) -> Result<(), Error>
         ensures { WritesAll W.sink (modbus_header_writes W.sink.order self.now) writer.old result writer.new }
@@ -135,7 +135,7 @@ impl ModbusHeader {
     ///
     /// `Checked` for the first field that does not fit its bits, however long the buffer is.
     /// `Stream(WriteZero)` if all fields fit, and the buffer has fewer than 8 bytes.
-    /// The first bytes of the buffer may be changed then.
+    /// After an error, the first bytes of the buffer may have changed.
     pub fn pack_into<'a>(&self, buffer: &'a mut [u8]) -> Result<SliceMut<'a>, Error>
         ensures packed { IfOk result (λ packed. bits High (written_bytes packed) ≡ modbus_header_bits self.now) }
         ensures first { IfOk result (HoldsFirst buffer.entry.ghost_name buffer.old) }

@@ -44,7 +44,7 @@ pub struct Mp3Header {
     pub private: bool,
     /// The mode of the channels.
     pub mode: ChannelMode,
-    /// Which bands are joint, if the mode is joint stereo. Below 2^2.
+    /// The bands that are joint, if the mode is joint stereo. Below 2^2.
     pub extension: u8,
     /// True if the work is protected by copyright.
     pub copyright: bool,
@@ -82,11 +82,11 @@ impl From<Error> for Mp3Error {
 /// The version of MPEG.
 #[derive(Clone, Copy, Debug, PartialEq)]
 pub enum Version {
-    /// 0.
+    /// Encoded as 0.
     Mpeg25,
-    /// 2.
+    /// Encoded as 2.
     Mpeg2,
-    /// 3.
+    /// Encoded as 3.
     Mpeg1,
 }
 
@@ -130,11 +130,11 @@ impl Version {
 /// The layer.
 #[derive(Clone, Copy, Debug, PartialEq)]
 pub enum Layer {
-    /// 1.
+    /// Encoded as 1.
     LayerThree,
-    /// 2.
+    /// Encoded as 2.
     LayerTwo,
-    /// 3.
+    /// Encoded as 3.
     LayerOne,
 }
 
@@ -178,13 +178,13 @@ impl Layer {
 /// The mode of the channels.
 #[derive(Clone, Copy, Debug, PartialEq)]
 pub enum ChannelMode {
-    /// 0.
+    /// Encoded as 0.
     Stereo,
-    /// 1.
+    /// Encoded as 1.
     JointStereo,
-    /// 2.
+    /// Encoded as 2.
     DualChannel,
-    /// 3.
+    /// Encoded as 3.
     Mono,
 }
 
@@ -234,8 +234,7 @@ impl Mp3Header {
     ///
     /// # Errors
     ///
-    /// `NoSync`, `NoVersion`, `NoLayer`.
-    /// The refused bits are read then.
+    /// `NoSync`, `NoVersion` or `NoLayer`, after the rejected bits have been read.
     /// Otherwise the reader's errors, after which it has failed.
     pub fn read<R: BitRead>(reader: &mut R) -> Result<Mp3Header, Mp3Error>
         ensures { ReadsOwn R.source becomes_mp3_header (mp3_header_decoder R.source.order) reader.old result reader.new }
@@ -273,7 +272,8 @@ impl Mp3Header {
     ///
     /// # Errors
     ///
-    /// `NoSync`, `NoVersion`, `NoLayer`, `Reader(EndOfInput)` for fewer than 4 bytes.
+    /// `NoSync`, `NoVersion` or `NoLayer` if bits are rejected.
+    /// `Reader(EndOfInput)` for fewer than 4 bytes.
     pub fn parse(packet: &[u8]) -> Result<Mp3Header, Mp3Error>
         ensures answer { OwnAnswer becomes_mp3_header (λ answer. answer)
             (sure_answer ((mp3_header_decoder High).reads 0 (bits High packet.now))) result }
@@ -308,7 +308,7 @@ impl Mp3Header {
     ///
     /// # Errors
     ///
-    /// `Checked` for a field that does not fit its bits. The fields before it are written then.
+    /// `Checked` for a field that does not fit its bits. The fields before it have been written.
     /// Otherwise the sink's errors.
     pub fn write<W: BitWrite>(&self, writer: &mut W) -> Result<(), Error>
         ensures { WritesAll W.sink (mp3_header_writes W.sink.order self.now) writer.old result writer.new }
@@ -336,7 +336,7 @@ impl Mp3Header {
     ///
     /// `Checked` for the first field that does not fit its bits, however long the buffer is.
     /// `Stream(WriteZero)` if all fields fit, and the buffer has fewer than 4 bytes.
-    /// The first bytes of the buffer may be changed then.
+    /// After an error, the first bytes of the buffer may have changed.
     pub fn pack_into<'a>(&self, buffer: &'a mut [u8]) -> Result<SliceMut<'a>, Error>
         ensures packed { IfOk result (λ packed. bits High (written_bytes packed) ≡ mp3_header_bits self.now) }
         ensures first { IfOk result (HoldsFirst buffer.entry.ghost_name buffer.old) }

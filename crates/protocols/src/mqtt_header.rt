@@ -60,35 +60,35 @@ impl From<Error> for MqttError {
 /// The kind of the packet.
 #[derive(Clone, Copy, Debug, PartialEq)]
 pub enum Packet {
-    /// 1.
+    /// Encoded as 1.
     Connect,
-    /// 2.
+    /// Encoded as 2.
     ConnAck,
-    /// 3.
+    /// Encoded as 3.
     Publish,
-    /// 4.
+    /// Encoded as 4.
     PubAck,
-    /// 5.
+    /// Encoded as 5.
     PubRec,
-    /// 6.
+    /// Encoded as 6.
     PubRel,
-    /// 7.
+    /// Encoded as 7.
     PubComp,
-    /// 8.
+    /// Encoded as 8.
     Subscribe,
-    /// 9.
+    /// Encoded as 9.
     SubAck,
-    /// 10.
+    /// Encoded as 10.
     Unsubscribe,
-    /// 11.
+    /// Encoded as 11.
     UnsubAck,
-    /// 12.
+    /// Encoded as 12.
     PingReq,
-    /// 13.
+    /// Encoded as 13.
     PingResp,
-    /// 14.
+    /// Encoded as 14.
     Disconnect,
-    /// 15.
+    /// Encoded as 15.
     Auth,
 }
 
@@ -185,8 +185,7 @@ impl MqttHeader {
     ///
     /// # Errors
     ///
-    /// `NoPacket`.
-    /// The refused bits are read then.
+    /// `NoPacket`, after the rejected bits have been read.
     /// Otherwise the reader's errors, after which it has failed.
     pub fn read<R: BitRead>(reader: &mut R) -> Result<MqttHeader, MqttError>
         ensures { ReadsOwn R.source becomes_mqtt_header (mqtt_header_decoder R.source.order) reader.old result reader.new }
@@ -209,7 +208,8 @@ impl MqttHeader {
     ///
     /// # Errors
     ///
-    /// `NoPacket`, `Reader(EndOfInput)` if the bytes end before the fields do.
+    /// `NoPacket` if bits are rejected.
+    /// `Reader(EndOfInput)` if the bytes end before the fields do.
     /// `Reader(VariableWidthOverflow)` if a number of variable width has more bits than its type.
     pub fn parse(packet: &[u8]) -> Result<MqttHeader, MqttError>
         ensures answer { OwnAnswer becomes_mqtt_header (λ answer. answer)
@@ -225,7 +225,7 @@ impl MqttHeader {
     ///
     /// # Errors
     ///
-    /// `Checked` for a field that does not fit its bits. The fields before it are written then.
+    /// `Checked` for a field that does not fit its bits. The fields before it have been written.
     /// Otherwise the sink's errors.
     pub fn write<W: BitWrite>(&self, writer: &mut W) -> Result<(), Error>
         ensures { WritesAll W.sink (mqtt_header_writes W.sink.order self.now) writer.old result writer.new }
@@ -245,7 +245,7 @@ impl MqttHeader {
     ///
     /// `Checked` for the first field that does not fit its bits, however long the buffer is.
     /// `Stream(WriteZero)` if all fields fit, and the buffer is too short for the bits.
-    /// The first bytes of the buffer may be changed then.
+    /// After an error, the first bytes of the buffer may have changed.
     pub fn pack_into<'a>(&self, buffer: &'a mut [u8]) -> Result<SliceMut<'a>, Error>
         ensures packed { IfOk result (λ packed. bits High (written_bytes packed) ≡ mqtt_header_bits self.now) }
         ensures first { IfOk result (HoldsFirst buffer.entry.ghost_name buffer.old) }

@@ -57,26 +57,26 @@ pub struct NtpPacket {
     pub root_dispersion: u32,
     /// The server or the clock that the sender follows.
     pub reference: [u8; 4],
-    /// When the sender's clock was set last.
+    /// The time at which the sender's clock was last set.
     pub updated: NtpTimestamp,
-    /// When the request left the client.
+    /// The time at which the request left the client.
     pub origin: NtpTimestamp,
-    /// When the request reached the server.
+    /// The time at which the request reached the server.
     pub received: NtpTimestamp,
-    /// When the packet left the sender.
+    /// The time at which the packet left the sender.
     pub sent: NtpTimestamp,
 }
 
 /// The leap second that is due.
 #[derive(Clone, Copy, Debug, PartialEq)]
 pub enum Leap {
-    /// 0.
+    /// Encoded as 0.
     NoWarning,
-    /// 1.
+    /// Encoded as 1.
     LongMinute,
-    /// 2.
+    /// Encoded as 2.
     ShortMinute,
-    /// 3.
+    /// Encoded as 3.
     Unsynchronized,
 }
 
@@ -121,21 +121,21 @@ impl Leap {
 /// The role of the sender.
 #[derive(Clone, Copy, Debug, PartialEq)]
 pub enum Mode {
-    /// 0.
+    /// Encoded as 0.
     Reserved,
-    /// 1.
+    /// Encoded as 1.
     Active,
-    /// 2.
+    /// Encoded as 2.
     Passive,
-    /// 3.
+    /// Encoded as 3.
     Client,
-    /// 4.
+    /// Encoded as 4.
     Server,
-    /// 5.
+    /// Encoded as 5.
     Broadcast,
-    /// 6.
+    /// Encoded as 6.
     Control,
-    /// 7.
+    /// Encoded as 7.
     Private,
 }
 
@@ -256,7 +256,7 @@ impl NtpPacket {
     ///
     /// # Errors
     ///
-    /// `Checked` for a field that does not fit its bits. The fields before it are written then.
+    /// `Checked` for a field that does not fit its bits. The fields before it have been written.
     /// Otherwise the sink's errors.
     pub fn write<W: BitWrite>(&self, writer: &mut W) -> Result<(), Error>
         ensures { WritesAll W.sink (ntp_packet_writes W.sink.order self.now) writer.old result writer.new }
@@ -284,7 +284,7 @@ impl NtpPacket {
     ///
     /// `Checked` for the first field that does not fit its bits, however long the buffer is.
     /// `Stream(WriteZero)` if all fields fit, and the buffer has fewer than 48 bytes.
-    /// The first bytes of the buffer may be changed then.
+    /// After an error, the first bytes of the buffer may have changed.
     pub fn pack_into<'a>(&self, buffer: &'a mut [u8]) -> Result<SliceMut<'a>, Error>
         ensures packed { IfOk result (λ packed. bits High (written_bytes packed) ≡ ntp_packet_bits self.now) }
         ensures first { IfOk result (HoldsFirst buffer.entry.ghost_name buffer.old) }

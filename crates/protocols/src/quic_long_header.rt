@@ -89,9 +89,9 @@ impl QuicLongHeader {
     ///
     /// # Errors
     ///
-    /// `ShortHeader`.
-    /// The refused bits are read then.
-    /// `Reader(OutOfMemory)` if the allocation for a list fails, after the items before.
+    /// `ShortHeader`, after the rejected bits have been read.
+    /// `Reader(OutOfMemory)` if an allocation for a list fails. The items before the failure
+    /// have been read.
     /// Otherwise the reader's errors, after which it has failed.
     pub fn read<R: BitRead>(reader: &mut R, alloc: Global) -> Result<QuicLongHeader, QuicError>
         ensures { GrowsOwn R.source becomes_quic_long_header (quic_long_header_decoder R.source.order) reader.old result reader.new }
@@ -119,7 +119,8 @@ impl QuicLongHeader {
     ///
     /// # Errors
     ///
-    /// `ShortHeader`, `Reader(EndOfInput)` if the bytes end before the fields do.
+    /// `ShortHeader` if bits are rejected.
+    /// `Reader(EndOfInput)` if the bytes end before the fields do.
     /// `Reader(OutOfMemory)` if the allocation for an item of a list fails.
     pub fn parse(packet: &[u8], alloc: Global) -> Result<QuicLongHeader, QuicError>
         ensures answer { (OwnAnswer becomes_quic_long_header (λ answer. answer)
@@ -139,7 +140,7 @@ impl QuicLongHeader {
     ///
     /// # Errors
     ///
-    /// `Checked` for a field that does not fit its bits. The fields before it are written then.
+    /// `Checked` for a field that does not fit its bits. The fields before it have been written.
     /// Otherwise the sink's errors.
     pub fn write<W: BitWrite>(&self, writer: &mut W) -> Result<(), Error>
         ensures { WritesAll W.sink (quic_long_header_writes W.sink.order self.now) writer.old result writer.new }
@@ -163,7 +164,7 @@ impl QuicLongHeader {
     ///
     /// `Checked` for the first field that does not fit its bits, however long the buffer is.
     /// `Stream(WriteZero)` if all fields fit, and the buffer is too short for the bits.
-    /// The first bytes of the buffer may be changed then.
+    /// After an error, the first bytes of the buffer may have changed.
     pub fn pack_into<'a>(&self, buffer: &'a mut [u8]) -> Result<SliceMut<'a>, Error>
         ensures packed { IfOk result (λ packed. bits High (written_bytes packed) ≡ quic_long_header_bits self.now) }
         ensures first { IfOk result (HoldsFirst buffer.entry.ghost_name buffer.old) }

@@ -45,7 +45,7 @@ pub struct RtcpSenderReport {
     pub length: u16,
     /// The sender.
     pub ssrc: u32,
-    /// When the report was sent.
+    /// The time at which the report was sent.
     pub sent: NtpTimestamp,
     /// The same time, in units of the RTP timestamp.
     pub timestamp: u32,
@@ -85,8 +85,7 @@ impl RtcpSenderReport {
     ///
     /// # Errors
     ///
-    /// `OtherVersion`, `OtherPacket`.
-    /// The refused bits are read then.
+    /// `OtherVersion` or `OtherPacket`, after the rejected bits have been read.
     /// Otherwise the reader's errors, after which it has failed.
     pub fn read<R: BitRead>(reader: &mut R) -> Result<RtcpSenderReport, RtcpError>
         ensures { ReadsOwn R.source becomes_rtcp_sender_report (rtcp_sender_report_decoder R.source.order) reader.old result reader.new }
@@ -117,7 +116,8 @@ impl RtcpSenderReport {
     ///
     /// # Errors
     ///
-    /// `OtherVersion`, `OtherPacket`, `Reader(EndOfInput)` for fewer than 28 bytes.
+    /// `OtherVersion` or `OtherPacket` if bits are rejected.
+    /// `Reader(EndOfInput)` for fewer than 28 bytes.
     pub fn parse(packet: &[u8]) -> Result<RtcpSenderReport, RtcpError>
         ensures answer { OwnAnswer becomes_rtcp_sender_report (λ answer. answer)
             (sure_answer ((rtcp_sender_report_decoder High).reads 0 (bits High packet.now))) result }
@@ -143,7 +143,7 @@ impl RtcpSenderReport {
     ///
     /// # Errors
     ///
-    /// `Checked` for a field that does not fit its bits. The fields before it are written then.
+    /// `Checked` for a field that does not fit its bits. The fields before it have been written.
     /// Otherwise the sink's errors.
     pub fn write<W: BitWrite>(&self, writer: &mut W) -> Result<(), Error>
         ensures { WritesAll W.sink (rtcp_sender_report_writes W.sink.order self.now) writer.old result writer.new }
@@ -168,7 +168,7 @@ impl RtcpSenderReport {
     ///
     /// `Checked` for the first field that does not fit its bits, however long the buffer is.
     /// `Stream(WriteZero)` if all fields fit, and the buffer has fewer than 28 bytes.
-    /// The first bytes of the buffer may be changed then.
+    /// After an error, the first bytes of the buffer may have changed.
     pub fn pack_into<'a>(&self, buffer: &'a mut [u8]) -> Result<SliceMut<'a>, Error>
         ensures packed { IfOk result (λ packed. bits High (written_bytes packed) ≡ rtcp_sender_report_bits self.now) }
         ensures first { IfOk result (HoldsFirst buffer.entry.ghost_name buffer.old) }

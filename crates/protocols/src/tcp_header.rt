@@ -40,7 +40,7 @@ pub struct TcpHeader {
     pub sequence: u32,
     /// The number of the byte that the sender expects next.
     pub acknowledged: u32,
-    /// The 32-bit words of the header, of which those after the fifth are options. Below 2^4.
+    /// The 32-bit words of the header; the words after the fifth are options. Below 2^4.
     pub data_offset: u8,
     /// True if the sender reduced its congestion window.
     pub cwr: bool,
@@ -208,7 +208,7 @@ impl TcpHeader {
     ///
     /// # Errors
     ///
-    /// `Checked` for a field that does not fit its bits. The fields before it are written then.
+    /// `Checked` for a field that does not fit its bits. The fields before it have been written.
     /// Otherwise the sink's errors.
     pub fn write<W: BitWrite>(&self, writer: &mut W) -> Result<(), Error>
         ensures { WritesAll W.sink (tcp_header_writes W.sink.order self.now) writer.old result writer.new }
@@ -256,7 +256,7 @@ impl TcpHeader {
     ///
     /// `Checked` for the first field that does not fit its bits, however long the buffer is.
     /// `Stream(WriteZero)` if all fields fit, and the buffer has fewer than 20 bytes.
-    /// The first bytes of the buffer may be changed then.
+    /// After an error, the first bytes of the buffer may have changed.
     pub fn pack_into<'a>(&self, buffer: &'a mut [u8]) -> Result<SliceMut<'a>, Error>
         ensures packed { IfOk result (λ packed. bits High (written_bytes packed) ≡ tcp_header_bits self.now) }
         ensures first { IfOk result (HoldsFirst buffer.entry.ghost_name buffer.old) }

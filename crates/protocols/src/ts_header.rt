@@ -39,7 +39,7 @@ pub struct TsHeader {
     pub scrambling: u8,
     /// The parts that follow: an adaptation field, a payload or both.
     pub adaptation: Adaptation,
-    /// The number of the packet among those with a payload. Below 2^4.
+    /// The number of the packet among the packets with a payload. Below 2^4.
     pub continuity: u8,
 }
 
@@ -68,11 +68,11 @@ impl From<Error> for TsError {
 /// The parts that follow: an adaptation field, a payload or both.
 #[derive(Clone, Copy, Debug, PartialEq)]
 pub enum Adaptation {
-    /// 1.
+    /// Encoded as 1.
     Payload,
-    /// 2.
+    /// Encoded as 2.
     Field,
-    /// 3.
+    /// Encoded as 3.
     Both,
 }
 
@@ -121,8 +121,7 @@ impl TsHeader {
     ///
     /// # Errors
     ///
-    /// `NoSync`, `NoAdaptation`.
-    /// The refused bits are read then.
+    /// `NoSync` or `NoAdaptation`, after the rejected bits have been read.
     /// Otherwise the reader's errors, after which it has failed.
     pub fn read<R: BitRead>(reader: &mut R) -> Result<TsHeader, TsError>
         ensures { ReadsOwn R.source becomes_ts_header (ts_header_decoder R.source.order) reader.old result reader.new }
@@ -150,7 +149,8 @@ impl TsHeader {
     ///
     /// # Errors
     ///
-    /// `NoSync`, `NoAdaptation`, `Reader(EndOfInput)` for fewer than 4 bytes.
+    /// `NoSync` or `NoAdaptation` if bits are rejected.
+    /// `Reader(EndOfInput)` for fewer than 4 bytes.
     pub fn parse(packet: &[u8]) -> Result<TsHeader, TsError>
         ensures answer { OwnAnswer becomes_ts_header (λ answer. answer)
             (sure_answer ((ts_header_decoder High).reads 0 (bits High packet.now))) result }
@@ -178,7 +178,7 @@ impl TsHeader {
     ///
     /// # Errors
     ///
-    /// `Checked` for a field that does not fit its bits. The fields before it are written then.
+    /// `Checked` for a field that does not fit its bits. The fields before it have been written.
     /// Otherwise the sink's errors.
     pub fn write<W: BitWrite>(&self, writer: &mut W) -> Result<(), Error>
         ensures { WritesAll W.sink (ts_header_writes W.sink.order self.now) writer.old result writer.new }
@@ -201,7 +201,7 @@ impl TsHeader {
     ///
     /// `Checked` for the first field that does not fit its bits, however long the buffer is.
     /// `Stream(WriteZero)` if all fields fit, and the buffer has fewer than 4 bytes.
-    /// The first bytes of the buffer may be changed then.
+    /// After an error, the first bytes of the buffer may have changed.
     pub fn pack_into<'a>(&self, buffer: &'a mut [u8]) -> Result<SliceMut<'a>, Error>
         ensures packed { IfOk result (λ packed. bits High (written_bytes packed) ≡ ts_header_bits self.now) }
         ensures first { IfOk result (HoldsFirst buffer.entry.ghost_name buffer.old) }
