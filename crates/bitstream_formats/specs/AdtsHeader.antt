@@ -2,8 +2,11 @@
 use Rattle.bitstream_formats.specs.declared.adts_header.AdtsHeader.{AdtsHeader}
 use Rattle.bitstream_formats.specs.declared.adts_header.AdtsHeaderError.{AdtsHeaderError}
 use Rattle.bitstream_formats.specs.declared.adts_header.AdtsHeaderError.TheVariants.{Reader, NoSync, UnknownLayer}
-use Rattle.std.specs.Prelude.{◌≡◌, ◌^◌, ◌<◌, ◌++◌, ◌∷◌, [], if◌then◌else◌, ℕ, Bool, List, Result, Ok, Err, take, drop}
-use Rattle.bitstream_io.specs.Callers.{◌>>=◌, Decoder, Encoder, pure, Error, Order, High, number, word, first_bit, bit_decoder, unsigned_decoder, const_decoder, plain, bit, unsigned, align, write_sequence}
+use Rattle.std.proofs.Common.{refl}
+use Rattle.bitstream_format.specs.Format.{◌>>=◌, Own as OwnFormat, Parts as FormatParts, format, renamed, field, const, ◌&◌, own_done}
+use Rattle.std.specs.Prelude.{◌≡◌, ◌^◌, ◌<◌, ◌++◌, ◌∷◌, [], ℕ, Bool, List, Result, Ok, take, drop}
+use Rattle.bitstream_io.specs.Callers.{Decoder, Encoder, Error, Order, High, number, first_bit, align, write_sequence}
+use Rattle.bitstream_format.specs.Atoms as atom
 
 -- Made by `./format` from formats/adts_header.fields: edit that file and make this one anew.
 
@@ -23,22 +26,25 @@ const_at_0 bits = number High (bits_at 0 12 bits)
 abbrev pub const_at_13 : List Bool → ℕ
 const_at_13 bits = number High (bits_at 13 2 bits)
 
--- the reads, in order, after 2 that may be refused
-abbrev pub adts_header_decoder_2 : Order → Bool → Decoder (Result AdtsHeader AdtsHeaderError)
-adts_header_decoder_2 o mpeg_2 = do
-  protection_absent ← bit_decoder
-  profile ← unsigned_decoder o 8 2
-  frequency ← unsigned_decoder o 8 4
-  private ← bit_decoder
-  channels ← unsigned_decoder o 8 3
-  original ← bit_decoder
-  home ← bit_decoder
-  copyright_id ← bit_decoder
-  copyright_start ← bit_decoder
-  frame_length ← unsigned_decoder o 16 13
-  fullness ← unsigned_decoder o 16 11
-  blocks ← unsigned_decoder o 8 2
-  pure (Ok (record {
+-- the lines, in order
+abbrev pub adts_header_lines : FormatParts AdtsHeader (Result AdtsHeader AdtsHeaderError) (λ s. Ok s)
+adts_header_lines = do
+  constant_0 ← const 12 4095 refl NoSync
+  mpeg_2 ← field atom.bool (λ s. s.mpeg_2)
+  constant_2 ← const 2 0 refl UnknownLayer
+  protection_absent ← field atom.bool (λ s. s.protection_absent)
+  profile ← field (atom.unsigned 8 2 refl) (λ s. s.profile)
+  frequency ← field (atom.unsigned 8 4 refl) (λ s. s.frequency)
+  private ← field atom.bool (λ s. s.private)
+  channels ← field (atom.unsigned 8 3 refl) (λ s. s.channels)
+  original ← field atom.bool (λ s. s.original)
+  home ← field atom.bool (λ s. s.home)
+  copyright_id ← field atom.bool (λ s. s.copyright_id)
+  copyright_start ← field atom.bool (λ s. s.copyright_start)
+  frame_length ← field (atom.unsigned 16 13 refl) (λ s. s.frame_length)
+  fullness ← field (atom.unsigned 16 11 refl) (λ s. s.fullness)
+  blocks ← field (atom.unsigned 8 2 refl) (λ s. s.blocks)
+  own_done (record {
     mpeg_2 = mpeg_2;
     protection_absent = protection_absent;
     profile = profile;
@@ -52,40 +58,15 @@ adts_header_decoder_2 o mpeg_2 = do
     frame_length = frame_length;
     fullness = fullness;
     blocks = blocks;
-  }))
-
--- the reads, in order, after 1 that may be refused
-abbrev pub adts_header_decoder_1 : Order → Decoder (Result AdtsHeader AdtsHeaderError)
-adts_header_decoder_1 o = do
-  mpeg_2 ← bit_decoder
-  is_2 ← const_decoder o 2 0
-  if is_2 then adts_header_decoder_2 o mpeg_2 else pure (Err UnknownLayer)
+  })
 
 -- the reads, in order
 abbrev pub adts_header_decoder : Order → Decoder (Result AdtsHeader AdtsHeaderError)
-adts_header_decoder o = do
-  is_0 ← const_decoder o 12 4095
-  if is_0 then adts_header_decoder_1 o else pure (Err NoSync)
+adts_header_decoder o = adts_header_lines.read o
 
 -- the writes, in order
 abbrev pub adts_header_writes : Order → AdtsHeader → List Encoder
-adts_header_writes o value =
-    plain (word o 12 4095)
-    ∷ bit value.mpeg_2
-    ∷ plain (word o 2 0)
-    ∷ bit value.protection_absent
-    ∷ unsigned o 8 2 value.profile
-    ∷ unsigned o 8 4 value.frequency
-    ∷ bit value.private
-    ∷ unsigned o 8 3 value.channels
-    ∷ bit value.original
-    ∷ bit value.home
-    ∷ bit value.copyright_id
-    ∷ bit value.copyright_start
-    ∷ unsigned o 16 13 value.frame_length
-    ∷ unsigned o 16 11 value.fullness
-    ∷ unsigned o 8 2 value.blocks
-    ∷ []
+adts_header_writes o value = adts_header_lines.write o value
 
 -- each field fits its bits
 pub record Fits (value : AdtsHeader) : Type 0 where
@@ -99,6 +80,19 @@ pub record Fits (value : AdtsHeader) : Type 0 where
 -- the number of bits
 abbrev pub adts_header_size : Order → AdtsHeader → ℕ
 adts_header_size o value = 56
+
+-- the format, with the facts that must fit by name
+abbrev pub adts_header_format : OwnFormat AdtsHeaderError AdtsHeader
+adts_header_format = renamed Fits (format adts_header_lines (λ s. refl {a = s}))
+    (λ s fits. fits.profile & fits.frequency & fits.channels & fits.frame_length & fits.fullness & fits.blocks)
+    (λ s facts. record {
+      profile = facts.0;
+      frequency = facts.1.0;
+      channels = facts.1.1.0;
+      frame_length = facts.1.1.1.0;
+      fullness = facts.1.1.1.1.0;
+      blocks = facts.1.1.1.1.1;
+    })
 
 -- the bits of all fields, up to a whole byte
 unfoldable pub adts_header_bits : AdtsHeader → List Bool

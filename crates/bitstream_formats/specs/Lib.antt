@@ -5,4 +5,7 @@ pub mod Emulation
 pub mod Frames
 pub mod Leb128
 pub mod Rice
+pub mod RiffChunk
 pub mod ScalingLists
+pub mod Summed
+pub mod WavFormat

@@ -86,8 +86,7 @@ impl AdtsHeader {
     ///
     /// # Errors
     ///
-    /// `NoSync`, `UnknownLayer`.
-    /// The refused bits are read then.
+    /// `NoSync` or `UnknownLayer`, after the rejected bits have been read.
     /// Otherwise the reader's errors, after which it has failed.
     pub fn read<R: BitRead>(reader: &mut R) -> Result<AdtsHeader, AdtsHeaderError>
         ensures { ReadsOwn R.source becomes_adts_header (adts_header_decoder R.source.order) reader.old result reader.new }
@@ -128,7 +127,8 @@ impl AdtsHeader {
     ///
     /// # Errors
     ///
-    /// `NoSync`, `UnknownLayer`, `Reader(EndOfInput)` for fewer than 7 bytes.
+    /// `NoSync` or `UnknownLayer` if bits are rejected.
+    /// `Reader(EndOfInput)` for fewer than 7 bytes.
     pub fn parse(packet: &[u8]) -> Result<AdtsHeader, AdtsHeaderError>
         ensures answer { OwnAnswer becomes_adts_header (λ answer. answer)
             (sure_answer ((adts_header_decoder High).reads 0 (bits High packet.now))) result }
@@ -154,7 +154,7 @@ impl AdtsHeader {
     ///
     /// # Errors
     ///
-    /// `Checked` for a field that does not fit its bits. The fields before it are written then.
+    /// `Checked` for a field that does not fit its bits. The fields before it have been written.
     /// Otherwise the sink's errors.
     pub fn write<W: BitWrite>(&self, writer: &mut W) -> Result<(), Error>
         ensures { WritesAll W.sink (adts_header_writes W.sink.order self.now) writer.old result writer.new }
@@ -184,7 +184,7 @@ impl AdtsHeader {
     ///
     /// `Checked` for the first field that does not fit its bits, however long the buffer is.
     /// `Stream(WriteZero)` if all fields fit, and the buffer has fewer than 7 bytes.
-    /// The first bytes of the buffer may be changed then.
+    /// After an error, the first bytes of the buffer may have changed.
     pub fn pack_into<'a>(&self, buffer: &'a mut [u8]) -> Result<SliceMut<'a>, Error>
         ensures packed { IfOk result (λ packed. bits High (written_bytes packed) ≡ adts_header_bits self.now) }
         ensures first { IfOk result (HoldsFirst buffer.entry.ghost_name buffer.old) }

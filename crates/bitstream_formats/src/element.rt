@@ -1,4 +1,4 @@
-//! Elements of a format, read one by one.
+//! Reads the elements of a format one by one.
 ghost use Rattle.std.specs.Prelude.{◌<◌, ◌^◌, IfOk};
 
 use bitstream_io::{BitRead, BitReadExt, Endianness, Error, SliceReader};

@@ -119,7 +119,7 @@ pub enum Unit {
 ///
 /// # Errors
 ///
-/// The errors of [`H264Error`]. `sets` is unchanged then, and the elements read before the error are appended.
+/// The errors of [`H264Error`]. After an error `sets` is unchanged, and the elements read before it are appended.
 pub fn read_unit(
     alloc: Global,
     sets: &mut ParameterSets,

@@ -87,7 +87,7 @@ pub enum H265Error {
     /// A set has a palette, and no bit depth of its own.
     #[error("a palette without the bit depth of its samples: not supported")]
     PaletteDepth,
-    /// A set maps the colors of one layer to those of another.
+    /// A set maps the colors of one layer to the colors of another.
     #[error("a table that maps colors: not supported")]
     ColorMapping,
     /// A set has an extension for pictures with depth, of 3D-HEVC.
@@ -136,7 +136,7 @@ type Nal<'r, 'a, 'b> = Syntax<'r, 'a, 'b, BE>;
 ///
 /// # Errors
 ///
-/// The errors of [`H265Error`]. `sets` is unchanged then, and the elements read before the error are appended.
+/// The errors of [`H265Error`]. After an error `sets` is unchanged, and the elements read before it are appended.
 pub fn read_unit(
     alloc: Global,
     sets: &mut ParameterSets,

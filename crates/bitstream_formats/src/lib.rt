@@ -3,7 +3,7 @@
 //!
 //! If the bytes are faulty, a function returns an error of the format's own, with the bit at which the
 //! reader was ([`at::At`]). Any bytes are accepted as input. A length or a count in them allocates no
-//! memory beyond what the bytes that are there fill.
+//! memory that the input does not fill.
 //!
 //! [`flac`] and [`deflate`] decode. The others read headers, element by element ([`element::Element`]).
 //!
@@ -12,13 +12,15 @@
 //! - [`at`]: the places of errors
 //! - [`av1`]: AV1: the headers of OBUs, and sequence headers
 //! - [`deflate`]: DEFLATE, and the files of gzip
-//! - [`element`]: elements of a format, read one by one
+//! - [`element`]: reads the elements of a format one by one
 //! - [`flac`]: FLAC: the metadata of a file, and its samples
 //! - [`h264`]: H.264: the units of a byte stream, and its parameter sets
 //! - [`h265`]: H.265: the units of a byte stream, and its parameter sets
-//! - [`nal`]: NAL units and bytes against emulation, for H.264 and H.265
+//! - [`nal`]: NAL units and emulation prevention bytes, for H.264 and H.265
 //! - [`ogg`]: Ogg: pages and packets, and the first byte of a packet of Opus
+//! - [`riff_chunk`] and [`wav_format`]: parts of WAV files, printed by `./format`
 //! - [`ts`]: MPEG transport streams: packets, the tables of programs, and the headers of PES packets
+//! - [`wav`]: WAV: the format of the samples, and their bytes
 #![tactic(auto)]
 
 pub mod adts;
@@ -33,4 +35,7 @@ pub mod h264;
 pub mod h265;
 pub mod nal;
 pub mod ogg;
+pub mod riff_chunk;
 pub mod ts;
+pub mod wav;
+pub mod wav_format;

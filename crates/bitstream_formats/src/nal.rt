@@ -20,7 +20,7 @@ pub use units::Units;
 /// The reason why a unit is refused, whatever its contents are.
 #[derive(Debug, Drop, thiserror::Error)]
 pub enum UnitError {
-    /// The bits were not read, or memory was refused.
+    /// The bits were not read, or an allocation failed.
     #[error("{0}")]
     Reader(Error),
     /// The stream has no start code.

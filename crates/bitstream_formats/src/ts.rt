@@ -36,7 +36,7 @@ pub enum TsError {
     /// A packet before this one is missing, so a section is not whole.
     #[error("a packet is missing, and a section is not whole")]
     MissingPacket,
-    /// A section begins before the one before it ends.
+    /// A section begins before the previous section ends.
     #[error("a section begins before the last one ends")]
     SectionCut,
 }

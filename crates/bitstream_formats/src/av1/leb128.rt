@@ -11,8 +11,8 @@ use bitstream_io::{BitRead, BitReadExt, Bits};
 ///
 /// # Errors
 ///
-/// `TooLarge` for a number of 2^32 or more, after reading it, and if the eighth byte announces a ninth,
-/// after reading eight bytes. Otherwise the errors of the reader.
+/// `TooLarge` for a number of 2^32 or more, after it has been read, and if the eighth byte announces a
+/// ninth, after eight bytes have been read. Otherwise the errors of the reader.
 pub fn read_leb128<R: BitRead>(reader: &mut R) -> Result<u32, Av1Error>
     ensures { ReadsOwn R.source becomes_av1 (leb128_decoder R.source.order) reader.old result reader.new }
 {

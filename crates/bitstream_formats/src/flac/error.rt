@@ -6,7 +6,7 @@ use std::alloc::{AllocError, AllocFailed};
 /// The reasons that a file is not decoded.
 #[derive(Debug, Drop, thiserror::Error)]
 pub enum FlacError {
-    /// The bits were not read, or memory was refused.
+    /// The bits were not read, or an allocation failed.
     #[error("{0}")]
     Reader(Error),
     /// The file does not begin with `fLaC`.
@@ -48,7 +48,7 @@ pub enum FlacError {
     /// The type of the subframe is reserved.
     #[error("the type of the subframe is reserved")]
     ReservedSubframe,
-    /// All bits of the samples are wasted, or more.
+    /// The number of wasted bits is not below the number of bits of a sample.
     #[error("too many wasted bits")]
     TooManyWastedBits,
     /// The precision of the coefficients is reserved.

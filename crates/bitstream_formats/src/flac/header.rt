@@ -10,13 +10,13 @@ use bitstream_io::{BitRead, BitReadExt, Bits};
 /// The coding of the channels of a frame.
 #[derive(Clone, Copy, Debug, PartialEq, Eq)]
 pub enum Channels {
-    /// This number of channels, each by itself.
+    /// This number of independent channels.
     Independent(u8),
     /// The left channel, and left minus right.
     LeftSide,
     /// Left minus right, and the right channel.
     SideRight,
-    /// Half of the sum, and left minus right.
+    /// Half of the sum of left and right, and left minus right.
     MidSide,
 }
 

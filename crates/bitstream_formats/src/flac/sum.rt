@@ -25,7 +25,7 @@ impl SampleSum {
     ///
     /// # Errors
     ///
-    /// An allocation failed. Nothing is added then.
+    /// An allocation failed, so nothing is added.
     pub(super) fn add(&mut self, frame: &Frame) -> Result<(), AllocError> {
         self.bytes.clear();
         frame.append_pcm(&mut self.bytes)?;

@@ -97,7 +97,7 @@ impl Prediction {
         }
     }
 
-    /// Returns the distances of the pictures before (equation 7-61).
+    /// Returns the distances of the earlier pictures (equation 7-61).
     fn all_before(&self) -> Result<Distances, H265Error> {
         let mut distances = Distances::new();
         for at in (0..self.set.after.count).rev() {
@@ -110,7 +110,7 @@ impl Prediction {
         Ok(distances)
     }
 
-    /// Returns the distances of the pictures after (equation 7-62).
+    /// Returns the distances of the later pictures (equation 7-62).
     fn all_after(&self) -> Result<Distances, H265Error> {
         let mut distances = Distances::new();
         for at in (0..self.set.before.count).rev() {
@@ -172,7 +172,7 @@ fn read_set(syntax: &mut Nal<'_, '_, '_>) -> Result<ReferenceSet, H265Error> {
     })
 }
 
-/// Reads the distances of the pictures before.
+/// Reads the distances of the earlier pictures.
 fn read_before(syntax: &mut Nal<'_, '_, '_>, count: u32) -> Result<Distances, H265Error> {
     let mut distances = Distances::new();
     let mut distance = 0i64;
@@ -186,7 +186,7 @@ fn read_before(syntax: &mut Nal<'_, '_, '_>, count: u32) -> Result<Distances, H2
     Ok(distances)
 }
 
-/// Reads the distances of the pictures after.
+/// Reads the distances of the later pictures.
 fn read_after(syntax: &mut Nal<'_, '_, '_>, count: u32) -> Result<Distances, H265Error> {
     let mut distances = Distances::new();
     let mut distance = 0i64;

@@ -1,4 +1,4 @@
-//! A byte stream, read unit by unit.
+//! Reads a byte stream unit by unit.
 
 use super::sets::ParameterSets;
 use super::{H265Error, Unit, read_unit};

@@ -66,7 +66,7 @@ impl<'a> Units<'a> {
         self.rest.unwrap_or(&[])
     }
 
-    /// Returns the number of units returned.
+    /// Returns how many units `next_unit` has returned.
     pub fn taken(&self) -> u64 {
         self.taken
     }

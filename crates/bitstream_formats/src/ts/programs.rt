@@ -21,8 +21,8 @@ pub fn section_checksum(section: &[u8]) -> u32 {
     crc
 }
 
-/// Reads a whole section of a PID, and appends its elements, with their places in the section. Of a
-/// table that is not a table of programs, it reads only the start.
+/// Reads a whole section of a PID, and appends its elements, with their places in the section. If the
+/// section is not of a table of programs, it reads only the start.
 ///
 /// # Errors
 ///

@@ -6,12 +6,12 @@ use std::alloc::{AllocError, Global};
 /// The number of bytes of a section up to and including its length.
 const HEAD: usize = 3;
 
-/// The relation of a packet to the one before it of the same PID.
+/// The relation of a packet to the previous packet of the same PID.
 #[derive(Clone, Copy, Debug, PartialEq, Eq)]
 pub(super) enum Follows {
     /// It is the next packet, or the first one.
     Next,
-    /// It is a copy of the one before it.
+    /// It is a copy of the previous packet.
     Copy,
     /// Packets between them are missing.
     Gap,
@@ -62,8 +62,8 @@ impl Section {
         !self.bytes.is_empty()
     }
 
-    /// Returns the number of bytes that are missing: up to the length if it did not come yet, otherwise
-    /// up to the end.
+    /// Returns the number of missing bytes: up to and including the length if that has not come yet,
+    /// otherwise up to the end.
     fn missing(&self) -> usize {
         let have = self.bytes.len();
         match self.bytes.as_slice() {
