@@ -1,8 +1,9 @@
 //! The work of the program on a file.
 
+use crate::encode::encode;
 use crate::options::Style;
 use crate::print::Printer;
-use crate::readers::audio::{AdtsUnits, FlacUnits};
+use crate::readers::audio::{AdtsUnits, FlacUnits, Output};
 use crate::readers::compressed::GzipUnits;
 use crate::readers::containers::{OggUnits, TsUnits};
 use crate::readers::h265::H265Units;
@@ -20,6 +21,12 @@ use std::io::Write;
 pub enum Command {
     /// Writes the samples of a FLAC file.
     Flac,
+    /// Encodes the samples of a WAV file as FLAC.
+    FlacEncode,
+    /// Checks the frames of a FLAC file, and writes nothing.
+    FlacTest,
+    /// Writes the samples of a FLAC file as WAV.
+    FlacWav,
     /// Prints the metadata and the headers of the frames of a FLAC file.
     FlacHeaders,
     /// Writes the bytes of a gzip file.
@@ -45,6 +52,9 @@ impl Command {
     pub fn of(word: &str) -> Option<Command> {
         match word {
             "flac" => Some(Command::Flac),
+            "flac-encode" => Some(Command::FlacEncode),
+            "flac-test" => Some(Command::FlacTest),
+            "flac-wav" => Some(Command::FlacWav),
             "flac-headers" => Some(Command::FlacHeaders),
             "gunzip" => Some(Command::Gunzip),
             "gzip-headers" => Some(Command::GzipHeaders),
@@ -58,9 +68,13 @@ impl Command {
         }
     }
 
-    /// Returns true if the command writes the contents of a file, and prints no elements.
+    /// Returns true if the command writes bytes or samples, and prints no elements.
     pub fn decodes(self) -> bool {
-        matches!(self, Command::Flac | Command::Gunzip)
+        match self {
+            Command::Flac | Command::FlacTest | Command::FlacWav => true,
+            Command::FlacEncode | Command::Gunzip => true,
+            _ => false,
+        }
     }
 }
 
@@ -76,9 +90,18 @@ pub fn play<W: Write, P: Write>(
 ) -> Result<Status, Error> {
     match command {
         Command::Flac => {
-            let mut units = FlacUnits::over(file, true);
+            let mut units = FlacUnits::over(file, Output::Samples);
             decode(alloc, name, &mut units, out, report)
         }
+        Command::FlacTest => {
+            let mut units = FlacUnits::over(file, Output::Nothing);
+            decode(alloc, name, &mut units, out, report)
+        }
+        Command::FlacWav => {
+            let mut units = FlacUnits::over(file, Output::Wav);
+            decode(alloc, name, &mut units, out, report)
+        }
+        Command::FlacEncode => encode(alloc, name, file, out, report),
         Command::Gunzip => {
             let mut units = GzipUnits::over(alloc, file)?;
             decode(alloc, name, &mut units, out, report)
@@ -88,7 +111,7 @@ pub fn play<W: Write, P: Write>(
             show(alloc, name, &mut units, printer, out, report)
         }
         Command::FlacHeaders => {
-            let mut units = FlacUnits::over(file, false);
+            let mut units = FlacUnits::over(file, Output::Nothing);
             show(alloc, name, &mut units, printer, out, report)
         }
         Command::H264 => {

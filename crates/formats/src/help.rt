@@ -19,6 +19,9 @@ usage: formats COMMAND [OPTION..] FILE..     FILE is - for standard input
   flac-headers   metadata and frame headers of FLAC
   gzip-headers   headers and trailers of the members of gzip
   flac           writes the samples of FLAC, as whole bytes with a sign, the lowest byte first
+  flac-wav       writes the samples of FLAC as a WAV file
+  flac-test      checks FLAC, and writes nothing
+  flac-encode    writes the samples of a WAV file as FLAC
   gunzip         writes the bytes of gzip
 
   --json         prints a JSON object for each unit, on a line of its own
@@ -102,6 +105,23 @@ e.g.   formats gzip-headers --json FILE | jq .elements.ISIZE
 usage: formats flac FILE..
 
 Writes the samples of FLAC to standard output, as whole bytes with a sign, the lowest byte first.
+",
+        Command::FlacTest => "\
+usage: formats flac-test FILE..
+
+Decodes FLAC, and compares all checksums, the number of samples and their MD5. Nothing is written.
+",
+        Command::FlacWav => "\
+usage: formats flac-wav FILE..
+
+Writes the samples of FLAC to standard output as a WAV file. A sample of other than whole bytes fills its highest bits.
+",
+        Command::FlacEncode => "\
+usage: formats flac-encode FILE..
+
+Writes the samples of a WAV file, of one to eight channels and at most 32 bits, to standard output as FLAC. The encoder
+of its frames is proved lossless.
+e.g.   formats flac-encode sound.wav > sound.flac && flac -t sound.flac
 ",
         Command::Gunzip => "\
 usage: formats gunzip FILE..

@@ -3,6 +3,7 @@
 
 mod command;
 mod damaged;
+mod encode;
 mod help;
 mod options;
 mod print;

@@ -1,6 +1,7 @@
 //! The reports on standard error: progress, and refused units.
 
 use crate::unit::{Fault, Unit};
+use anyhow::Error;
 use std::io;
 use std::io::{Read, Write};
 
@@ -75,6 +76,12 @@ impl<P: Write> Report<P> {
             fault.bit,
             fault.text.as_str()
         );
+    }
+
+    /// Reports the error of a file.
+    pub fn refuse(&mut self, file: &str, error: &Error) {
+        self.clear();
+        let _ = writeln!(self.out, "formats: {file}: {error}");
     }
 
     /// Returns the writer.

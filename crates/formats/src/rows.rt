@@ -118,7 +118,8 @@ struct Case {
 /// rows or of bytes. After the word `json`, the units are printed as JSON. After the word `refused`,
 /// the file has an error, which is printed. After the word `errors`, the line has a command, a
 /// directory, and a file of the errors of the directory's files. After the word `damaged`, the line has
-/// a command, and a file whose damaged copies are counted.
+/// a command, and a file whose damaged copies are counted. After the word `encoded`, the line has a WAV file that is
+/// encoded as FLAC, and a file of the samples that are then decoded.
 pub fn play_rows(rt: &HostRuntime, list: &str) -> Result<(), Error> {
     let text = fs::read_to_string(rt, list)?;
     for line in text.as_str().lines() {
@@ -140,6 +141,7 @@ pub fn play_rows(rt: &HostRuntime, list: &str) -> Result<(), Error> {
             bail!("{list}: {line}");
         };
         match (word, words.next()) {
+            ("encoded", _) => compare_encoded(rt, path, other)?,
             ("damaged", _) => play_damaged(rt, command_of(path)?, other)?,
             ("errors", Some(rows)) => compare_errors(rt, command_of(path)?, other, rows)?,
             _ => compare(rt, command_of(word)?, path, other, case)?,
@@ -190,6 +192,23 @@ fn compare(
     if case.refused {
         println!(rt; "{path}: {}", written.first_error())?;
     }
+    Ok(())
+}
+
+/// Encodes a WAV file as FLAC, and compares what is decoded with a file of samples.
+fn compare_encoded(rt: &HostRuntime, path: &str, other: &str) -> Result<(), Error> {
+    let file = fs::read(rt, path)?;
+    let wanted = fs::read(rt, other)?;
+    let alloc = rt.alloc();
+    let encoded = outcome_of(alloc, Command::FlacEncode, Style::Rows, file.as_slice())?;
+    if encoded.status != Status::Read {
+        bail!("{path}: {:?}: {}", encoded.status, encoded.first_error());
+    }
+    let decoded = outcome_of(alloc, Command::Flac, Style::Rows, encoded.out.as_slice())?;
+    if decoded.status != Status::Read || decoded.out.as_slice() != wanted.as_slice() {
+        bail!("{path}: the samples are not those of {other}");
+    }
+    println!(rt; "{path}: {} bytes of samples, the same", decoded.out.len())?;
     Ok(())
 }
 

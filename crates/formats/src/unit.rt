@@ -16,7 +16,8 @@ pub enum NoteValue {
     Text(String),
 }
 
-/// A fact about a unit that is not an element of the format's specification. It follows from elements, or is a text.
+/// A fact about a unit that is not an element of the format's specification: a text, or a value that follows from
+/// elements.
 #[derive(Drop)]
 pub struct Note {
     /// The name.

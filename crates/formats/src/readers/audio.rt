@@ -4,6 +4,8 @@ use crate::unit::{Fault, ReadUnits, Step, Unit};
 use anyhow::Error;
 use bitstream_formats::adts;
 use bitstream_formats::flac::{Block, Blocks, Channels, Decoder, Frame};
+use bitstream_formats::wav::wav_start;
+use bitstream_formats::wav_format::{Coding, WavFormat};
 use flac_codec::stream_info::StreamInfo;
 use std::alloc::{AllocError, Global};
 use std::io::Write;
@@ -104,12 +106,22 @@ impl ReadUnits for AdtsUnits<'_> {
     }
 }
 
+/// The output that the frames of a FLAC file become.
+#[derive(Clone, Copy, Debug, PartialEq, Eq)]
+pub enum Output {
+    /// Nothing: the file is only checked.
+    Nothing,
+    /// The samples, as whole bytes with a sign, the lowest byte first.
+    Samples,
+    /// A WAV file.
+    Wav,
+}
+
 /// The blocks of metadata of a FLAC file, and then its frames, which are decoded.
 #[derive(Drop)]
 pub struct FlacUnits<'a> {
     file: &'a [u8],
-    // True if the samples are written.
-    writes: bool,
+    output: Output,
     at: usize,
     blocks: Option<Blocks<'a>>,
     decoder: Option<Decoder<'a>>,
@@ -117,11 +129,11 @@ pub struct FlacUnits<'a> {
 }
 
 impl<'a> FlacUnits<'a> {
-    /// Returns the units of a file. Writes their samples if `writes` is true.
-    pub fn over(file: &'a [u8], writes: bool) -> FlacUnits<'a> {
+    /// Returns the units of a file, of which `output` is written.
+    pub fn over(file: &'a [u8], output: Output) -> FlacUnits<'a> {
         FlacUnits {
             file,
-            writes,
+            output,
             at: 0,
             blocks: None,
             decoder: None,
@@ -129,7 +141,7 @@ impl<'a> FlacUnits<'a> {
         }
     }
 
-    /// Begins with the blocks of metadata.
+    /// Starts at the metadata blocks.
     fn begin<W: Write>(
         &mut self,
         alloc: Global,
@@ -173,6 +185,9 @@ impl<'a> FlacUnits<'a> {
                 self.blocks = None;
                 match Decoder::with_md5(alloc, self.file) {
                     Ok(decoder) => {
+                        if self.output == Output::Wav {
+                            out.write_all(&start_of(decoder.stream_info())?)?;
+                        }
                         self.decoder = Some(decoder);
                         self.read_frame(alloc, unit, out)
                     }
@@ -208,9 +223,8 @@ impl<'a> FlacUnits<'a> {
         match read {
             Ok(Some(frame)) => {
                 note_frame(alloc, unit, (start as u64).saturating_mul(8), &frame)?;
-                if self.writes {
-                    let mut bytes = Vec::new(alloc);
-                    frame.append_pcm(&mut bytes)?;
+                if self.output != Output::Nothing {
+                    let bytes = bytes_of(alloc, frame, self.output)?;
                     out.write_all(bytes.as_slice())?;
                 }
                 Ok(Step::Read)
@@ -246,6 +260,45 @@ impl ReadUnits for FlacUnits<'_> {
     fn bytes_done(&self) -> u64 {
         self.at as u64
     }
+}
+
+/// Returns the first 44 bytes of a WAV file with the samples of a FLAC file.
+fn start_of(info: &StreamInfo) -> Result<[u8; 44], Error> {
+    let bytes = info.bits_per_sample.get().div_ceil(8) as u16;
+    let channels = info.channels.get() as u16;
+    let block_size = channels.saturating_mul(bytes);
+    let size = info.total_samples.saturating_mul(block_size as u64);
+    let format = WavFormat {
+        coding: Coding::Pcm,
+        channels,
+        sample_rate: info.sample_rate,
+        byte_rate: info.sample_rate.saturating_mul(block_size as u32),
+        block_size,
+        bits_per_sample: bytes.saturating_mul(8),
+    };
+    let is_known = size > 0 && size < 0xffff_ff00;
+    Ok(wav_start(&format, if is_known { size as u32 } else { u32::MAX })?)
+}
+
+/// Returns the samples of a frame as bytes. In WAV, a sample fills the highest bits of its bytes, and a single byte has no
+/// sign.
+fn bytes_of(alloc: Global, mut frame: Frame, output: Output) -> Result<Vec<u8>, Error> {
+    let mut bytes = Vec::new(alloc);
+    let more = 7 - (frame.bits_per_sample as u32 + 7) % 8;
+    if output == Output::Wav && more > 0 {
+        for channel in &mut frame.channels {
+            for sample in channel {
+                *sample = sample.wrapping_shl(more);
+            }
+        }
+    }
+    frame.append_pcm(&mut bytes)?;
+    if output == Output::Wav && frame.bits_per_sample <= 8 {
+        for byte in &mut bytes {
+            *byte ^= 0x80;
+        }
+    }
+    Ok(bytes)
 }
 
 /// Returns the number that some bytes spell, highest byte first, or 0 if there are too few bytes.
