@@ -74,7 +74,7 @@ fn signed_in<O: Endianness>(bytes: &[u8], skipped: u32, width: u32) -> i64
     }
 }
 
-/// Returns the bytes after the first ones.
+/// Returns the bytes after the first `first` bytes.
 #[inline(always)]
 fn from_byte(bytes: &[u8], first: usize) -> &[u8]
     requires { first ≤ length bytes.now }

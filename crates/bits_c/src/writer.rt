@@ -20,7 +20,7 @@ pub struct BitsWriter<'a> {
     pub at: u64,
 }
 
-/// Puts a number in place of the bits of a byte after its first `skipped` ones.
+/// Replaces `width` bits of a byte, after its first `skipped` bits, by a number.
 #[inline(always)]
 fn put_in<O: Endianness>(byte: u8, skipped: u32, width: u32, part: u8) -> u8
     requires within { skipped + width ≤ 8 }
@@ -36,7 +36,7 @@ fn put_in<O: Endianness>(byte: u8, skipped: u32, width: u32, part: u8) -> u8
     O::put(O::put(before, skipped, part, width), end, after, 8 - end)
 }
 
-/// Puts a number in place of the bits from a place on, byte by byte.
+/// Replaces `width` bits of the bytes, from the bit `at` on, by a number, byte by byte.
 fn put<O: Endianness>(bytes: &mut [u8], at: u64, width: u32, value: u64)
     requires few { width ≤ 64 }
     requires there { at + width ≤ 8 * length bytes.old }

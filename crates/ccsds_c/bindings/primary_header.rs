@@ -68,15 +68,25 @@ fn done(status: i32) -> Result<(), PrimaryHeaderError> {
 #[repr(C)]
 #[derive(Clone, Copy)]
 pub(crate) struct PrimaryHeaderC {
-    telecommand: u8,
-    secondary: u8,
-    apid: u16,
-    sequence: u8,
-    count: u16,
-    length: u16,
+    pub(crate) telecommand: u8,
+    pub(crate) secondary: u8,
+    pub(crate) apid: u16,
+    pub(crate) sequence: u8,
+    pub(crate) count: u16,
+    pub(crate) length: u16,
 }
 
 impl PrimaryHeaderC {
+    #[allow(dead_code)]
+    pub(crate) const ZERO: PrimaryHeaderC = PrimaryHeaderC {
+        telecommand: 0,
+        secondary: 0,
+        apid: 0,
+        sequence: 0,
+        count: 0,
+        length: 0,
+    };
+
     pub(crate) fn new(value: &PrimaryHeader) -> PrimaryHeaderC {
         PrimaryHeaderC {
             telecommand: u8::from(value.telecommand),
@@ -138,13 +148,13 @@ impl PrimaryHeader {
         parsed.value.fields().ok_or(PrimaryHeaderError::DoesNotFit)
     }
 
-    /// Writes the fields to the first 6 bytes of a buffer, and returns 6. The other bytes
-    /// stay as they were. After an error all bytes are as before.
+    /// Writes the fields to the first 6 bytes of a buffer, and returns 6. The other bytes stay as
+    /// they were. After an error all bytes are as before.
     ///
     /// # Errors
     ///
-    /// `DoesNotFit` if a field has a value that the format does not allow; else `NoRoom` for fewer than
-    /// 6 bytes.
+    /// `DoesNotFit` if a field has a value that the format does not allow; else `NoRoom` for fewer
+    /// than 6 bytes.
     pub fn pack_into(&self, buffer: &mut [u8]) -> Result<usize, PrimaryHeaderError> {
         let value = PrimaryHeaderC::new(self);
         // SAFETY: the pointer and the length are a slice's, which is borrowed mutably.

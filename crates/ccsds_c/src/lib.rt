@@ -1,6 +1,6 @@
-//! What C, Rust and Python call of the library `ccsds`, a module for each format.
+//! The functions of the library `ccsds` that C, Rust and Python call: a module for each format.
 //!
-//! Each function is proved to do what its contract says, in each call that meets what the header asks for.
+//! Each function is proved to do what its contract says, in each call that meets the conditions in the header.
 #![tactic(auto)]
 
 mod primary_header;

@@ -56,7 +56,7 @@ impl PrimaryHeaderC {
         }
     }
 
-    /// Returns the fields, or `None` if a number of C is no value of its field.
+    /// Returns the fields, or `None` if a number of C is not a value of its field.
     #[inline(always)]
     pub(crate) fn fields(&self) -> Option<PrimaryHeader>
         ensures { result ≡ primary_header_from_c self.now }

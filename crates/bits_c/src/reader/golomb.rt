@@ -9,7 +9,7 @@ use super::{BitsReader, Signed, Unsigned, has};
 use crate::numbers::{bit_at, number_at};
 use bitstream_io::{BE, Endianness, LE};
 
-/// Returns the greatest number of bits that are left.
+/// Returns the number of bits left that the reader can still count.
 #[inline(always)]
 fn all_left(reader: &BitsReader) -> u64
     requires { HasLeft reader.now 0 }

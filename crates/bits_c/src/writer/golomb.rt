@@ -8,7 +8,7 @@ ghost use Rattle.bits_c.specs.Writer.{HasRoom, IsSameWriter, Wrote, WritesBits};
 use super::{BitsWriter, append, has_room};
 use bitstream_io::{BE, Endianness, LE};
 
-/// Returns the number whose bits are `width` bits that are not the stop bit.
+/// Returns the number that consists of `width` bits, none of which is the stop bit.
 #[inline(always)]
 fn others(width: u32, stop: bool) -> u64
     requires { width ≤ 64 }
@@ -136,7 +136,7 @@ pub extern "C" fn proved_bits_write_ue(writer: &mut BitsWriter, value: u32) -> i
     write_ue::<BE>(writer, value)
 }
 
-/// Writes an exponential Golomb number, whose last bits are its lowest ones, the lowest first.
+/// Writes an exponential Golomb number. The bits after its stop bit are written lowest first.
 #[unsafe(no_mangle)]
 pub extern "C" fn proved_bits_write_ue_le(writer: &mut BitsWriter, value: u32) -> i32
     ensures there { value < 2 ^ 32 - 1

@@ -1,0 +1,376 @@
+/* Calls the library with the rows of standard input, on each line the name of a format and bytes in hex, and with random
+ * values. Plain shifts say what is right. Prints the number of calls. */
+#include "coap_header.h"
+#include "ethernet_header.h"
+#include "mqtt_header.h"
+
+#include <stdio.h>
+#include <stdlib.h>
+#include <string.h>
+
+enum { MOST = 24 }; /* the bytes of the longest buffer */
+
+static unsigned long calls;
+
+/* Ends the test if a fact is not so. */
+static void holds(int is, const char *what, int line)
+{
+    if (!is) {
+        printf("test_protocols.c:%d: not so: %s\n", line, what);
+        exit(1);
+    }
+}
+#define HOLDS(what) holds(what, #what, __LINE__)
+
+/* The next number of a generator. */
+static uint64_t state = 1;
+static uint64_t next(void)
+{
+    state ^= state << 13;
+    state ^= state >> 7;
+    state ^= state << 17;
+    return state;
+}
+
+/* Bytes at the end of a block of just their length. */
+static uint8_t *block(const uint8_t *bytes, size_t length)
+{
+    uint8_t *found = calloc(length ? length : 1, 1);
+    HOLDS(found != NULL);
+    if (length)
+        memcpy(found, bytes, length);
+    return found;
+}
+
+/* What a pack into a buffer of each length up to MOST is to do: it is called with the fields `it`. */
+typedef int packer(const void *it, uint8_t *buffer, size_t length, size_t *written);
+
+static void packs(packer *pack, const void *it, const uint8_t *bytes, size_t size, int fits)
+{
+    for (size_t length = 0; length <= MOST; length++) {
+        uint8_t before[MOST], *buffer;
+        size_t written = 99;
+        int status = !fits ? 3 : length < size ? 2 : 0;
+        for (size_t i = 0; i < MOST; i++)
+            before[i] = (uint8_t)next();
+        buffer = block(before, length);
+        HOLDS(pack(it, buffer, length, &written) == status);
+        HOLDS(written == (status ? 0 : size));
+        if (!status)
+            memcpy(before, bytes, size);
+        HOLDS(!memcmp(buffer, before, length));
+        calls++;
+        free(buffer);
+    }
+}
+
+/* ---- MQTT */
+
+static int mqtt_pack(const void *it, uint8_t *buffer, size_t length, size_t *written)
+{
+    return mqtt_header_pack(it, buffer, length, written);
+}
+
+/* The bytes of fields. */
+static size_t mqtt_bytes(const struct mqtt_header *it, uint8_t *bytes)
+{
+    uint32_t left = it->remaining;
+    size_t size = 1;
+    bytes[0] = (uint8_t)(it->kind << 4 | it->again << 3 | it->quality << 1 | it->retain);
+    for (; left > 127; left >>= 7)
+        bytes[size++] = (uint8_t)(left | 128);
+    bytes[size++] = (uint8_t)left;
+    return size;
+}
+
+static int mqtt_wanted(const uint8_t *b, size_t length, struct mqtt_header *it, size_t *taken)
+{
+    uint64_t sum = 0;
+    unsigned place = 0;
+    if (!length)
+        return MQTT_HEADER_END_OF_INPUT;
+    if (!(b[0] >> 4))
+        return MQTT_HEADER_NO_PACKET;
+    for (size_t i = 1; i < length; i++) {
+        sum |= (uint64_t)(b[i] & 127) << place;
+        if (b[i] < 128) {
+            if (sum >> 32)
+                return MQTT_HEADER_BAD_NUMBER;
+            it->kind = b[0] >> 4;
+            it->again = b[0] >> 3 & 1;
+            it->quality = b[0] >> 1 & 3;
+            it->retain = b[0] & 1;
+            it->remaining = (uint32_t)sum;
+            *taken = i + 1;
+            return MQTT_HEADER_OK;
+        }
+        place += 7;
+        if (place >= 32)
+            return MQTT_HEADER_BAD_NUMBER;
+    }
+    return MQTT_HEADER_END_OF_INPUT;
+}
+
+static int same_mqtt(const struct mqtt_header *a, const struct mqtt_header *b)
+{
+    return a->kind == b->kind && a->again == b->again && a->quality == b->quality && a->retain == b->retain
+        && a->remaining == b->remaining;
+}
+
+/* Parses bytes. */
+static void mqtt_parses(const uint8_t *bytes, size_t length)
+{
+    struct mqtt_header it, before, right;
+    uint8_t packed[MOST], *part = block(bytes, length);
+    size_t taken = 99, size = 0;
+    int status = mqtt_wanted(bytes, length, &right, &size);
+    memset(&it, 0xA5, sizeof it);
+    memcpy(&before, &it, sizeof it);
+    HOLDS((int)mqtt_header_parse(part, length, &it, &taken) == status);
+    HOLDS(taken == size);
+    calls++;
+    if (status)
+        HOLDS(!memcmp(&it, &before, sizeof it));
+    else {
+        HOLDS(same_mqtt(&it, &right));
+        size = mqtt_bytes(&it, packed);
+        packs(mqtt_pack, &it, packed, size, 1);
+    }
+    free(part);
+}
+
+/* Packs random fields, some of which do not fit, and parses them again. */
+static void random_mqtt(void)
+{
+    struct mqtt_header it = {0, 0, 0, 0, 0}, again;
+    uint8_t b[MOST];
+    size_t size, taken;
+    it.kind = next() % 17;
+    it.again = next() & 1;
+    it.quality = next() % 16 ? next() & 3 : 4 + (next() & 3);
+    it.retain = next() & 1;
+    it.remaining = (uint32_t)(next() >> (32 + next() % 32));
+    size = mqtt_bytes(&it, b);
+    if (it.kind == 0 || it.kind > 15 || it.quality > 3) {
+        packs(mqtt_pack, &it, b, size, 0);
+        return;
+    }
+    packs(mqtt_pack, &it, b, size, 1);
+    HOLDS(mqtt_header_parse(b, MOST, &again, &taken) == MQTT_HEADER_OK && taken == size && same_mqtt(&it, &again));
+    calls++;
+}
+
+/* ---- Ethernet */
+
+static int ethernet_pack(const void *it, uint8_t *buffer, size_t length, size_t *written)
+{
+    return ethernet_header_pack(it, buffer, length, written);
+}
+
+/* The bytes of fields. */
+static size_t ethernet_bytes(const struct ethernet_header *it, uint8_t *b)
+{
+    memcpy(b, it->target, 6);
+    memcpy(b + 6, it->source, 6);
+    b[12] = (uint8_t)(it->kind >> 8);
+    b[13] = (uint8_t)it->kind;
+    if (!it->has_tag)
+        return 14;
+    b[14] = (uint8_t)(it->tag.priority << 5 | it->tag.drop_eligible << 4 | it->tag.vlan >> 8);
+    b[15] = (uint8_t)it->tag.vlan;
+    b[16] = (uint8_t)(it->tag.kind >> 8);
+    b[17] = (uint8_t)it->tag.kind;
+    return 18;
+}
+
+/* Parses bytes. */
+static void ethernet_parses(const uint8_t *bytes, size_t length)
+{
+    struct ethernet_header it, before;
+    uint8_t packed[MOST], *part = block(bytes, length);
+    size_t taken = 99, size = length > 13 && bytes[12] == 0x81 && !bytes[13] ? 18 : 14;
+    int status = length < size ? ETHERNET_HEADER_END_OF_INPUT : ETHERNET_HEADER_OK;
+    memset(&it, 0xA5, sizeof it);
+    memcpy(&before, &it, sizeof it);
+    HOLDS((int)ethernet_header_parse(part, length, &it, &taken) == status);
+    HOLDS(taken == (status ? 0 : size));
+    calls++;
+    if (status)
+        HOLDS(!memcmp(&it, &before, sizeof it));
+    else {
+        HOLDS(ethernet_bytes(&it, packed) == size && !memcmp(packed, bytes, size));
+        packs(ethernet_pack, &it, packed, size, 1);
+    }
+    free(part);
+}
+
+/* Packs random fields, some of which do not fit, and parses them again. */
+static void random_ethernet(void)
+{
+    struct ethernet_header it, again;
+    uint8_t b[MOST] = {0};
+    size_t size, taken;
+    memset(&it, 0, sizeof it);
+    for (int i = 0; i < 6; i++) {
+        it.target[i] = (uint8_t)next();
+        it.source[i] = (uint8_t)next();
+    }
+    it.kind = next() & 1 ? ETHERNET_HEADER_ETHER_TYPE_VLAN : (uint16_t)next();
+    it.has_tag = next() % 8 ? it.kind == ETHERNET_HEADER_ETHER_TYPE_VLAN : next() & 1;
+    it.tag.priority = next() % 16 ? next() & 7 : (uint8_t)next();
+    it.tag.drop_eligible = next() & 1;
+    it.tag.vlan = next() % 16 ? next() & 4095 : (uint16_t)next();
+    it.tag.kind = (uint16_t)next();
+    size = ethernet_bytes(&it, b);
+    if (it.has_tag != (it.kind == 0x8100) || (it.has_tag && (it.tag.priority > 7 || it.tag.vlan > 4095))) {
+        packs(ethernet_pack, &it, b, size, 0);
+        return;
+    }
+    packs(ethernet_pack, &it, b, size, 1);
+    HOLDS(ethernet_header_parse(b, MOST, &again, &taken) == ETHERNET_HEADER_OK && taken == size);
+    memset(b, 0, MOST);
+    HOLDS(ethernet_bytes(&it, b) == size && again.has_tag == it.has_tag && again.kind == it.kind);
+    calls++;
+}
+
+/* ---- CoAP, with a list */
+
+static int coap_pack(const void *it, uint8_t *buffer, size_t length, size_t *written)
+{
+    return coap_header_pack(it, buffer, length, written);
+}
+
+/* The bytes of fields. */
+static size_t coap_bytes(const struct coap_header *it, uint8_t *b)
+{
+    b[0] = (uint8_t)(1 << 6 | it->kind << 4 | it->token.length);
+    b[1] = (uint8_t)(it->class_ << 5 | it->detail);
+    b[2] = (uint8_t)(it->id >> 8);
+    b[3] = (uint8_t)it->id;
+    if (it->token.length)
+        memcpy(b + 4, it->token.items, it->token.length);
+    return 4 + it->token.length;
+}
+
+/* Parses bytes with room for each number of items, each storage at the end of its block. */
+static void coap_parses(const uint8_t *bytes, size_t length)
+{
+    size_t count = length ? bytes[0] & 15 : 0;
+    int status = length && bytes[0] >> 6 != 1 ? COAP_HEADER_OTHER_VERSION
+        : !length || length < 4 + count ? COAP_HEADER_END_OF_INPUT
+                                        : COAP_HEADER_OK;
+    for (size_t room = 0; room <= 16; room++) {
+        struct coap_header it, before;
+        uint8_t fill[16], packed[MOST], *part = block(bytes, length), *storage;
+        size_t taken = 99, wanted = status ? 0 : room < count ? count : 4 + count;
+        memset(fill, 0xEE, sizeof fill);
+        storage = block(fill, room);
+        memset(&it, 0xA5, sizeof it);
+        it.token.items = room ? storage : NULL;
+        it.token.capacity = room;
+        memcpy(&before, &it, sizeof it);
+        HOLDS((int)coap_header_parse(part, length, &it, &taken)
+            == (status ? status : room < count ? COAP_HEADER_NO_ROOM_TOKEN : COAP_HEADER_OK));
+        HOLDS(taken == wanted);
+        calls++;
+        if (status || room < count)
+            HOLDS(!memcmp(&it, &before, sizeof it));
+        else {
+            HOLDS(it.token.length == count && coap_bytes(&it, packed) == taken && !memcmp(packed, bytes, taken));
+            HOLDS(!memcmp(storage + count, fill, room - count));
+            packs(coap_pack, &it, packed, taken, 1);
+        }
+        free(part);
+        free(storage);
+    }
+}
+
+/* Packs random fields, some of which do not fit. */
+static void random_coap(void)
+{
+    uint8_t items[17], b[MOST];
+    struct coap_header it = {0, 0, 0, 0, {NULL, 0, 0}};
+    for (int i = 0; i < 17; i++)
+        items[i] = (uint8_t)next();
+    it.kind = next() & 3;
+    it.class_ = next() % 16 ? next() & 7 : (uint8_t)next();
+    it.detail = next() % 16 ? next() & 31 : (uint8_t)next();
+    it.id = (uint16_t)next();
+    it.token.items = items;
+    it.token.length = next() % 18;
+    packs(coap_pack, &it, b, coap_bytes(&it, b), it.class_ < 8 && it.detail < 32 && it.token.length < 16);
+}
+
+/* Null pointers. */
+static void coap_nulls(void)
+{
+    struct coap_header it = {0, 0, 1, 0, {NULL, 1, 1}};
+    uint8_t bytes[5] = {0x41, 1, 0, 0, 9};
+    size_t n = 99;
+    HOLDS(coap_header_parse(bytes, 5, &it, &n) == COAP_HEADER_NULL && n == 0);
+    HOLDS(coap_header_pack(&it, bytes, 5, &n) == COAP_HEADER_NULL && n == 0);
+    it.token.capacity = it.token.length = 0;
+    HOLDS(coap_header_parse(bytes, 5, &it, &n) == COAP_HEADER_NO_ROOM_TOKEN && n == 1);
+    HOLDS(coap_header_pack(&it, bytes, 5, &n) == COAP_HEADER_OK && n == 4 && bytes[4] == 9);
+    calls += 4;
+}
+
+/* Null pointers. */
+static void nulls(void)
+{
+    struct mqtt_header it = {3, true, 1, false, 5};
+    uint8_t bytes[4] = {0x30, 0, 0, 0};
+    size_t n = 99;
+    HOLDS(mqtt_header_parse(NULL, 0, &it, &n) == MQTT_HEADER_END_OF_INPUT && n == 0);
+    HOLDS(mqtt_header_parse(NULL, 2, &it, &n) == MQTT_HEADER_NULL && it.remaining == 5);
+    n = 99;
+    HOLDS(mqtt_header_parse(bytes, 2, NULL, &n) == MQTT_HEADER_NULL && n == 0);
+    HOLDS(mqtt_header_parse(bytes, 2, &it, NULL) == MQTT_HEADER_OK && it.remaining == 0);
+    HOLDS(mqtt_header_pack(&it, NULL, 0, &n) == MQTT_HEADER_NO_ROOM && n == 0);
+    HOLDS(mqtt_header_pack(&it, NULL, 2, &n) == MQTT_HEADER_NULL && n == 0);
+    HOLDS(mqtt_header_pack(NULL, bytes, 2, &n) == MQTT_HEADER_NULL && n == 0);
+    HOLDS(mqtt_header_pack(&it, bytes, 2, NULL) == MQTT_HEADER_OK && bytes[0] == 0x30);
+    HOLDS(!strcmp(mqtt_header_status_text(MQTT_HEADER_NO_ROOM), "the buffer is too short"));
+    calls += 9;
+}
+
+int main(void)
+{
+    char line[256];
+    while (fgets(line, sizeof line, stdin)) {
+        uint8_t bytes[64];
+        size_t length = 0;
+        unsigned one;
+        char *at = strchr(line, ' ');
+        HOLDS(at != NULL);
+        for (at++; sscanf(at, "%2x", &one) == 1; at += 2)
+            bytes[length++] = (uint8_t)one;
+        for (size_t part = 0; part <= length; part++) {
+            if (line[0] == 'm')
+                mqtt_parses(bytes, part);
+            else if (line[0] == 'e')
+                ethernet_parses(bytes, part);
+            else if (line[0] == 'c')
+                coap_parses(bytes, part);
+        }
+    }
+    for (unsigned k = 0; k < 10000; k++) {
+        uint8_t bytes[18];
+        for (unsigned i = 0; i < 18; i++)
+            bytes[i] = (uint8_t)next();
+        mqtt_parses(bytes, next() % 9);
+        bytes[12] = k % 2 ? bytes[12] : 0x81;
+        bytes[13] = k % 2 ? bytes[13] : 0;
+        ethernet_parses(bytes, 10 + next() % 9);
+        random_mqtt();
+        random_ethernet();
+        random_coap();
+        bytes[0] = (uint8_t)(k % 4 ? 0x40 | (bytes[0] & 63) : bytes[0]);
+        if (k % 8 == 0)
+            coap_parses(bytes, next() % 19);
+    }
+    nulls();
+    coap_nulls();
+    printf("%lu calls\n", calls);
+    return 0;
+}

@@ -1,0 +1,156 @@
+"""Calls the library with the rows of standard input, on each line the name of a format and bytes in hex, and with random
+values. Plain shifts say what is right. Prints the number of calls."""
+from __future__ import annotations
+
+import random
+import sys
+from typing import Callable
+
+from protocols import coap_header, ethernet_header, mqtt_header
+from protocols.coap_header import CoapHeader, Message
+from protocols.ethernet_header import EthernetHeader, EtherType
+from protocols.mqtt_header import MqttHeader, Packet
+from protocols.vlan_tag import VlanTag
+
+calls = 0
+Answer = tuple[object, int] | type[ValueError]
+
+
+def parsed(parse: Callable[[bytes], tuple[object, int]], data: bytes) -> Answer:
+    """Returns the fields and the number of their bytes, or the class of the exception."""
+    global calls
+    calls += 1
+    try:
+        return parse(data)
+    except ValueError as it:
+        return type(it)
+
+
+def packed(it: CoapHeader | MqttHeader | EthernetHeader) -> bytes | type[ValueError]:
+    """Returns the bytes, or the class of the exception."""
+    global calls
+    calls += 1
+    try:
+        return it.pack()
+    except ValueError as error:
+        return type(error)
+
+
+def mqtt_fields(b: bytes) -> Answer:
+    """Returns what a parse of an MQTT header is to return."""
+    if not b:
+        return mqtt_header.EndOfInput
+    if not b[0] >> 4:
+        return mqtt_header.NoPacket
+    found = 0
+    for k, one in enumerate(b[1:]):
+        found |= (one & 127) << 7 * k
+        if one < 128:
+            if found >> 32:
+                return mqtt_header.BadNumber
+            it = MqttHeader(Packet(b[0] >> 4), bool(b[0] & 8), b[0] >> 1 & 3, bool(b[0] & 1), found)
+            return it, k + 2
+        if k == 4:
+            return mqtt_header.BadNumber
+    return mqtt_header.EndOfInput
+
+
+def mqtt_bytes(it: MqttHeader) -> bytes:
+    """Returns the bytes of an MQTT header."""
+    out, left = [it.kind << 4 | it.again << 3 | it.quality << 1 | it.retain], it.remaining
+    while left > 127:
+        out.append(left & 127 | 128)
+        left >>= 7
+    return bytes([*out, left])
+
+
+def ethernet_fields(b: bytes) -> Answer:
+    """Returns what a parse of an Ethernet header is to return."""
+    size = 18 if b[12:14] == b"\x81\x00" else 14
+    if len(b) < size:
+        return ethernet_header.EndOfInput
+    kind, bits, tag = int.from_bytes(b[12:14], "big"), int.from_bytes(b[14:18], "big"), None
+    if size == 18:
+        tag = VlanTag(bits >> 29, bool(bits >> 28 & 1), bits >> 16 & 4095, bits & 65535)
+    return EthernetHeader(b[:6], b[6:12], EtherType(kind) if kind in list(EtherType) else kind, tag), size
+
+
+def coap_fields(b: bytes) -> Answer:
+    """Returns what a parse of a CoAP header is to return."""
+    if b and b[0] >> 6 != 1:
+        return coap_header.OtherVersion
+    size = 4 + (b[0] & 15) if b else 4
+    if len(b) < size:
+        return coap_header.EndOfInput
+    return CoapHeader(Message(b[0] >> 4 & 3), b[1] >> 5, b[1] & 31, b[2] << 8 | b[3], b[4:size]), size
+
+
+def check(name: str, data: bytes) -> None:
+    """Parses bytes, and packs their fields again."""
+    if name == "coap_header":
+        coap = parsed(CoapHeader.parse, data)
+        assert coap == coap_fields(data), data
+        if isinstance(coap, tuple) and isinstance(coap[0], CoapHeader):
+            assert packed(coap[0]) == data[: coap[1]], data
+    if name == "mqtt_header":
+        assert parsed(MqttHeader.parse, data) == mqtt_fields(data), data
+    if name == "ethernet_header":
+        found = parsed(EthernetHeader.parse, data)
+        assert found == ethernet_fields(data), data
+        if isinstance(found, tuple) and isinstance(found[0], EthernetHeader):
+            assert packed(found[0]) == data[: found[1]], data
+
+
+def check_mqtt() -> None:
+    """Packs random fields, some of which do not fit, and parses them again."""
+    it = MqttHeader(random.choice(list(Packet)), random.random() < 0.5, random.randint(0, 4), False, 0)
+    it.remaining = random.getrandbits(random.randint(1, 33))
+    data = packed(it)
+    if it.quality > 3 or it.remaining >> 32:
+        assert data is mqtt_header.DoesNotFit, it
+    else:
+        assert isinstance(data, bytes) and data == mqtt_bytes(it), it
+        assert parsed(MqttHeader.parse, data + b"\xff") == (it, len(data)), it
+
+
+def check_ethernet() -> None:
+    """Packs random fields, some of which do not fit, and parses them again."""
+    kind = random.choice([0x8100, EtherType.IPV4, 0x88CC])
+    tag = VlanTag(random.randint(0, 8), True, random.getrandbits(12), random.getrandbits(16))
+    it = EthernetHeader(random.randbytes(6), random.randbytes(6), kind, tag if random.random() < 0.5 else None)
+    data = packed(it)
+    if (kind == 0x8100) != (it.tag is not None) or it.tag and it.tag.priority > 7:
+        assert data is ethernet_header.DoesNotFit, it
+    else:
+        assert isinstance(data, bytes) and parsed(EthernetHeader.parse, data + b"\xff") == (it, len(data)), it
+
+
+def check_coap() -> None:
+    """Packs random fields, some of which do not fit, and parses them again."""
+    token = random.randbytes(random.randint(0, 16))
+    it = CoapHeader(random.choice(list(Message)), random.randint(0, 8), 3, random.getrandbits(16), token)
+    data = packed(it)
+    if it.class_ > 7 or len(token) > 15:
+        assert data is coap_header.DoesNotFit, it
+    else:
+        assert isinstance(data, bytes) and parsed(CoapHeader.parse, data + b"\xff") == (it, len(data)), it
+
+
+random.seed(1)
+for line in sys.stdin:
+    format_, digits = line.split()
+    row = bytes.fromhex(digits)
+    for length in range(len(row) + 1):
+        check(format_, row[:length])
+for _ in range(10000):
+    check("mqtt_header", random.randbytes(random.randint(0, 8)))
+    check("ethernet_header", random.randbytes(12) + random.choice([b"\x81\x00", b"\x08\x00"]) + random.randbytes(4))
+    check("coap_header", bytes([random.getrandbits(6) | 64, *random.randbytes(random.randint(0, 19))]))
+    check_mqtt()
+    check_ethernet()
+    check_coap()
+try:
+    EthernetHeader(bytes(6), bytes(6), 0x8100, VlanTag(8, True, 1, 1)).pack()
+except ethernet_header.DoesNotFit as it:
+    assert str(it) == "tag.priority: 8 is not from 0 to 7"
+print(calls, "calls")

@@ -1,0 +1,236 @@
+//! Calls the library with the rows of standard input, on each line the name of a format and bytes in hex, and with random
+//! values. Plain shifts say what is right. Prints the number of calls.
+
+use protocols::coap_header::{CoapError, CoapHeader, Message};
+use protocols::ethernet_header::{EtherType, EthernetHeader, EthernetHeaderError};
+use protocols::mqtt_header::{MqttError, MqttHeader, Packet};
+use protocols::vlan_tag::VlanTag;
+use std::io::BufRead;
+
+/// The numbers of a generator.
+struct Random(u64);
+
+impl Random {
+    fn next(&mut self) -> u64 {
+        self.0 ^= self.0 << 13;
+        self.0 ^= self.0 >> 7;
+        self.0 ^= self.0 << 17;
+        self.0
+    }
+}
+
+const PACKETS: [Packet; 15] = [
+    Packet::Connect,
+    Packet::ConnAck,
+    Packet::Publish,
+    Packet::PubAck,
+    Packet::PubRec,
+    Packet::PubRel,
+    Packet::PubComp,
+    Packet::Subscribe,
+    Packet::SubAck,
+    Packet::Unsubscribe,
+    Packet::UnsubAck,
+    Packet::PingReq,
+    Packet::PingResp,
+    Packet::Disconnect,
+    Packet::Auth,
+];
+
+/// What a parse of an MQTT header is to return.
+fn mqtt_wanted(b: &[u8]) -> Result<(MqttHeader, usize), MqttError> {
+    let first = *b.first().ok_or(MqttError::EndOfInput)?;
+    let kind = usize::from(first >> 4).checked_sub(1).ok_or(MqttError::NoPacket)?;
+    let mut sum = 0u64;
+    for (k, one) in b[1..].iter().enumerate() {
+        sum |= u64::from(one & 127) << (7 * k);
+        if *one < 128 {
+            let it = MqttHeader {
+                kind: PACKETS[kind],
+                again: first & 8 != 0,
+                quality: first >> 1 & 3,
+                retain: first & 1 != 0,
+                remaining: u32::try_from(sum).map_err(|_| MqttError::BadNumber)?,
+            };
+            return Ok((it, k + 2));
+        }
+        if k == 4 {
+            return Err(MqttError::BadNumber);
+        }
+    }
+    Err(MqttError::EndOfInput)
+}
+
+/// The bytes of an MQTT header.
+fn mqtt_bytes(it: &MqttHeader) -> Vec<u8> {
+    let flags = u8::from(it.again) << 3 | it.quality << 1 | u8::from(it.retain);
+    let mut bytes = vec![it.kind.number() << 4 | flags];
+    let mut left = it.remaining;
+    while left > 127 {
+        bytes.push(left as u8 | 128);
+        left >>= 7;
+    }
+    bytes.push(left as u8);
+    bytes
+}
+
+/// What a parse of an Ethernet header is to return.
+fn ethernet_wanted(b: &[u8]) -> Result<(EthernetHeader, usize), EthernetHeaderError> {
+    let tagged = b.len() > 13 && b[12..14] == [0x81, 0];
+    let size = if tagged { 18 } else { 14 };
+    if b.len() < size {
+        return Err(EthernetHeaderError::EndOfInput);
+    }
+    let number = |k: usize| u16::from(b[k]) << 8 | u16::from(b[k + 1]);
+    let it = EthernetHeader {
+        target: b[..6].try_into().unwrap(),
+        source: b[6..12].try_into().unwrap(),
+        kind: match number(12) {
+            0x0800 => EtherType::Ipv4,
+            0x0806 => EtherType::Arp,
+            0x8100 => EtherType::Vlan,
+            0x86DD => EtherType::Ipv6,
+            other => EtherType::Other(other),
+        },
+        tag: tagged.then(|| VlanTag {
+            priority: b[14] >> 5,
+            drop_eligible: b[14] >> 4 & 1 == 1,
+            vlan: number(14) & 4095,
+            kind: number(16),
+        }),
+    };
+    Ok((it, size))
+}
+
+/// What a parse of a CoAP header is to return.
+fn coap_wanted(b: &[u8]) -> Result<(CoapHeader, usize), CoapError> {
+    let first = *b.first().ok_or(CoapError::EndOfInput)?;
+    if first >> 6 != 1 {
+        return Err(CoapError::OtherVersion);
+    }
+    let size = 4 + usize::from(first & 15);
+    let it = CoapHeader {
+        kind: match first >> 4 & 3 {
+            0 => Message::Confirmable,
+            1 => Message::NonConfirmable,
+            2 => Message::Acknowledgement,
+            _ => Message::Reset,
+        },
+        token: b.get(4..size).ok_or(CoapError::EndOfInput)?.to_vec(),
+        class: b[1] >> 5,
+        detail: b[1] & 31,
+        id: u16::from(b[2]) << 8 | u16::from(b[3]),
+    };
+    Ok((it, size))
+}
+
+/// Tries a pack into buffers of all lengths up to 24.
+fn packs<E: PartialEq + std::fmt::Debug>(
+    pack: impl Fn(&mut [u8]) -> Result<usize, E>,
+    right: Result<&[u8], E>,
+    short: &E,
+) -> u64 {
+    for length in 0..=24 {
+        let mut buffer = vec![0xEE; length];
+        let mut after = buffer.clone();
+        let answer = pack(&mut buffer);
+        match &right {
+            Err(error) => assert_eq!(answer.as_ref(), Err(error)),
+            Ok(bytes) if length < bytes.len() => assert_eq!(answer.as_ref(), Err(short)),
+            Ok(bytes) => {
+                after[..bytes.len()].copy_from_slice(bytes);
+                assert_eq!(answer, Ok(bytes.len()));
+            }
+        }
+        assert_eq!(buffer, after);
+    }
+    25
+}
+
+/// Parses bytes, and packs their fields again.
+fn parses(name: &str, bytes: &[u8]) -> u64 {
+    if name == "mqtt_header" {
+        let found = MqttHeader::parse(bytes);
+        assert_eq!(found, mqtt_wanted(bytes));
+        return found.map_or(1, |(it, _)| {
+            1 + packs(|b| it.pack_into(b), Ok(&mqtt_bytes(&it)), &MqttError::NoRoom)
+        });
+    }
+    if name == "coap_header" {
+        let found = CoapHeader::parse(bytes);
+        assert_eq!(found, coap_wanted(bytes));
+        return found.map_or(1, |(it, size)| {
+            1 + packs(|b| it.pack_into(b), Ok(&bytes[..size]), &CoapError::NoRoom)
+        });
+    }
+    if name == "ethernet_header" {
+        let found = EthernetHeader::parse(bytes);
+        assert_eq!(found, ethernet_wanted(bytes));
+        return found.map_or(1, |(it, size)| {
+            1 + packs(|b| it.pack_into(b), Ok(&bytes[..size]), &EthernetHeaderError::NoRoom)
+        });
+    }
+    0
+}
+
+/// Packs random fields, some of which do not fit, and parses them again.
+fn random_fields(random: &mut Random) -> u64 {
+    let it = MqttHeader {
+        kind: PACKETS[(random.next() % 15) as usize],
+        again: random.next() & 1 == 1,
+        quality: (random.next() % 5) as u8,
+        retain: random.next() & 1 == 1,
+        remaining: (random.next() >> (32 + random.next() % 32)) as u32,
+    };
+    if it.quality > 3 {
+        return packs(|b| it.pack_into(b), Err(MqttError::DoesNotFit), &MqttError::NoRoom);
+    }
+    let bytes = it.pack().unwrap();
+    assert_eq!(bytes, mqtt_bytes(&it));
+    assert_eq!(MqttHeader::parse(&bytes), Ok((it, bytes.len())));
+    let other = EthernetHeader {
+        target: [1; 6],
+        source: [2; 6],
+        kind: EtherType::Arp,
+        tag: Some(VlanTag { priority: 0, drop_eligible: false, vlan: 1, kind: 2 }),
+    };
+    assert_eq!(other.pack(), Err(EthernetHeaderError::DoesNotFit));
+    let message = CoapHeader {
+        kind: Message::Reset,
+        class: 7,
+        detail: 31,
+        id: 1,
+        token: vec![3; (random.next() % 18) as usize],
+    };
+    match message.pack() {
+        Ok(bytes) => assert_eq!(CoapHeader::parse(&bytes), Ok((message, bytes.len()))),
+        Err(error) => assert!(error == CoapError::DoesNotFit && message.token.len() > 15),
+    }
+    5
+}
+
+fn main() {
+    let mut random = Random(1);
+    let mut calls = 0;
+    for line in std::io::stdin().lock().lines() {
+        let line = line.unwrap();
+        let (name, digits) = line.split_once(' ').unwrap();
+        let bytes: Vec<u8> = (0..digits.len() / 2)
+            .map(|k| u8::from_str_radix(&digits[2 * k..2 * k + 2], 16).unwrap())
+            .collect();
+        calls += (0..=bytes.len()).map(|length| parses(name, &bytes[..length])).sum::<u64>();
+    }
+    for k in 0..10000 {
+        let mut bytes = [random.next().to_be_bytes(), random.next().to_be_bytes(), random.next().to_be_bytes()].concat();
+        if k % 2 == 0 {
+            bytes[12..14].copy_from_slice(&[0x81, 0]);
+        }
+        let length = (random.next() % 20) as usize;
+        calls += parses("mqtt_header", &bytes[..length % 9]) + parses("ethernet_header", &bytes[..length]);
+        bytes[0] = 0x40 | bytes[0] & 63;
+        calls += parses("coap_header", &bytes[..length]) + random_fields(&mut random);
+    }
+    let error: Box<dyn std::error::Error> = Box::new(MqttError::NoPacket);
+    assert_eq!(error.to_string(), "`kind` is not the number of a case of `Packet`");
+    println!("{calls} calls");
+}

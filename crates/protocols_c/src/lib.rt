@@ -1,0 +1,11 @@
+//! What C, Rust and Python call of the library `protocols`, a module for each format.
+//!
+//! Each function is proved to do what its contract says, in each call that meets what the header asks for.
+#![tactic(auto)]
+
+mod coap_header;
+mod ethernet_header;
+mod mqtt_header;
+mod shared;
+mod status;
+mod vlan_tag;
