@@ -1,4 +1,4 @@
-//! The header of a FLAC file, read and written.
+//! Reads and writes the header of a FLAC file.
 
 use crate::memory::Memory;
 use crate::mix::{mixed, stepped};

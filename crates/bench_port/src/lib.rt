@@ -1,5 +1,5 @@
-//! Functions for C that read and write as a benchmark asks, over bytes in memory. Each returns its
-//! work on the items as one number, or 2^64 - 1 if a call is refused.
+//! Functions for C that read and write as a benchmark asks, over bytes in memory. Each returns one
+//! number computed from its items, or 2^64 - 1 if a call is refused.
 #![tactic(auto)]
 
 mod flac;

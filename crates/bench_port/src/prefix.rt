@@ -1,4 +1,4 @@
-//! A prefix code of five symbols, read and written. What takes memory asks the host for it.
+//! Reads and writes a prefix code of five symbols. Functions that need memory ask the host for it.
 
 use crate::memory::Memory;
 use crate::mix::{bytes_of, mixed, stepped};

@@ -1,4 +1,4 @@
-//! A counter, and a recorder that is played. What takes memory asks the host for it.
+//! A counter, and a recorder that is played. Functions that need memory ask the host for it.
 
 use crate::mix::{bytes_of, stepped};
 use bitstream_io::{

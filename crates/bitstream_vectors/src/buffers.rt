@@ -21,7 +21,7 @@ pub fn byte_at(index: usize) -> u8 {
 #[derive(Clone, Copy, Drop)]
 struct Place {
     order: Order,
-    /// The number of bits before, each of them 1.
+    /// The number of bits before the buffer, each of them 1.
     bits: u32,
     /// These bits as a number.
     lead: u8,

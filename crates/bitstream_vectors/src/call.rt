@@ -99,7 +99,7 @@ impl<'a> Call<'a> {
         }
     }
 
-    /// Returns true if the code word of the symbol that it writes has a bit.
+    /// Returns true if the call writes a symbol whose code word has at least one bit.
     fn has_bits(&self) -> bool {
         match self.form {
             Form::Limited(_, most) => match self.value.parse::<u32>() {
@@ -119,13 +119,13 @@ impl<'a> Call<'a> {
         }
     }
 
-    /// Returns true if it seeks, and so makes a request to the stream even after its reader has failed.
+    /// Returns true if the call seeks, and so makes a request to the stream even after its reader has failed.
     pub fn recovers(&self) -> bool {
         matches!(self.form, Form::Seek(Whence::Start | Whence::End))
     }
 
-    /// Returns true if a reader of `bits` bits in memory and a reader over a stream return the same: it
-    /// does not seek, it seeks to one of these bits or to their end, or it stays where it is.
+    /// Returns true if a reader of `bits` bits in memory and a reader over a stream return the same: the
+    /// call does not seek, it seeks to one of these bits or to their end, or it stays where it is.
     pub fn stays_within(&self, bits: u64) -> bool {
         match (self.form, self.answer) {
             (Form::Seek(Whence::Current), "Place" | "Failed") => true,
@@ -134,7 +134,7 @@ impl<'a> Call<'a> {
         }
     }
 
-    /// Returns the number of seek requests with which it begins.
+    /// Returns the number of seek requests with which the call begins.
     pub fn seeks(&self) -> u64 {
         match self.form {
             Form::Seek(Whence::Start) | Form::Place | Form::PlaceIs(_) => 1,

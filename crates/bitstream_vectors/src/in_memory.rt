@@ -11,7 +11,7 @@ use std::io::SeekFrom;
 /// The number of widths of words, from 0 on.
 const WIDTHS: u32 = 129;
 
-/// The number of lengths of runs, from 0 on: the longest is three words of 64 bits, and 8 bits.
+/// The number of run lengths, which begin at 0. The longest run is three 64-bit words and 8 bits.
 const RUNS: u32 = 201;
 
 /// The bits before the byte in which a word begins.

@@ -3,7 +3,7 @@
 //! The head of each file states what its rows and columns mean, and the source of the results. Each row
 //! is played over a slice or a vector, over a stream with short reads and writes of one byte, and over
 //! streams that fail from each of its requests on. Rows that read bits and go to no place after the end
-//! are played on a `SliceReader` too. Rows that seek nowhere are also played over the bytes cut off at
+//! are played on a `SliceReader` too. Rows without seeks are also played over the bytes cut off at
 //! each length. Rows that write are played on a counter and on a recorder too. Buffers of each length
 //! are written and read at each place in a byte. Words, runs and parts of bytes in memory are read at
 //! each place, too.

@@ -62,8 +62,8 @@ impl Fault {
         }
     }
 
-    /// Returns the result of a call after the failed one. On a reader or writer of bits, it is that it
-    /// has failed; a call that seeks gets the I/O error again. On a reader or writer of bytes, it is
+    /// Returns the result of a call after the failed one. On a reader or writer of bits, it is
+    /// `Failed`; a call that seeks gets the I/O error again. On a reader or writer of bytes, it is
     /// the I/O error again, unless the call makes no request.
     fn later_answer<'a>(self, row: &Row<'_>, call: &Call<'a>) -> &'a str {
         match row.layer {

@@ -70,7 +70,7 @@ fn align<R: BitRead>(reader: &mut R, want: &str) -> bool {
     want == "ok"
 }
 
-/// Returns true if a text is the result of asking a reader if it is at the end of a byte.
+/// Returns true if a text is the result of asking whether a reader is at the end of a byte.
 fn is_aligned<R: BitRead>(reader: &R, want: &str) -> bool {
     want == if reader.byte_aligned() { "yes" } else { "no" }
 }

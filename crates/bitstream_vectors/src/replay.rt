@@ -224,8 +224,8 @@ fn seeks_at(row: &Row<'_>, steps: &[Moved], call: usize, served: u64) -> bool {
     served.saturating_sub(before) < seeks
 }
 
-/// Returns the number of requests from the failed one on. For bits, they are the failed one and later
-/// seeks. For bytes, they are one for each later call that makes a request.
+/// Returns the number of requests from the failed one on. For bits, this counts the failed request and
+/// later seeks. For bytes, it also counts one request for each later call that makes one.
 fn refusals(row: &Row<'_>, fault: Fault) -> u64 {
     match row.layer {
         Layer::Bits => {

@@ -25,7 +25,7 @@ pub fn call_sink<W: BitWrite>(
     Ok(())
 }
 
-/// Makes calls on a recorder, with a stroke between them, and ignores their results.
+/// Makes the calls that a text spells, separated by strokes, on a recorder, and ignores their results.
 pub fn give<E: Endianness>(
     alloc: Global,
     recorder: &mut Recorder<E>,

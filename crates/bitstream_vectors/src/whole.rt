@@ -172,7 +172,7 @@ fn read_buffer<R: WholeRead>(
     }
 }
 
-/// Returns true if a text is the result of a call: the bytes of a vector, or the name of the error.
+/// Returns true if `want` is the result of a call: its bytes, or the name of its error.
 fn is_vector(want: &str, answer: Result<Vec<u8>, Error>) -> bool {
     match answer {
         Ok(bytes) => are_bytes(want, bytes.as_slice()),

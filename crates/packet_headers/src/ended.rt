@@ -38,7 +38,7 @@ pub enum Ended {
         number: u64,
         size: i128,
     },
-    /// The bytes after a record are a field that is no number of it.
+    /// The field that states the bytes to skip is not a number of the record.
     #[error("record {number}: the field of `--skip` is not a number of the record")]
     NoNumber {
         number: u64,

@@ -16,7 +16,7 @@ pub enum Unfit {
     /// A value does not fit: its path, and what is wrong.
     #[error("`{path}` {why}")]
     Field { path: String, why: String },
-    /// Memory was refused.
+    /// An allocation failed.
     #[error("out of memory")]
     Memory,
 }

@@ -33,7 +33,7 @@ status: 0 the input ended after a record; 2 the command or a file is refused; 3 
 fit the format; 4 the input ended inside a record, or before the next one. The records before are written.
 ";
 
-/// The bytes that are written at once.
+/// The number of bytes that are written at once.
 const OUT: usize = 65536;
 
 /// The command that the arguments name.

@@ -11,7 +11,7 @@ use std::alloc::Global;
 use std::io;
 use std::io::{ErrorKind, Read, Write};
 
-/// The bytes that are requested at once.
+/// The number of bytes that are requested at once.
 const CHUNK: usize = 65536;
 
 /// The number of the next record, the byte that comes next, and the bytes before the record: all, and those left.
@@ -24,7 +24,7 @@ struct Position {
 }
 
 impl Position {
-    /// Moves behind a record of `size` bytes, after which `skip` bytes are to be skipped.
+    /// Moves past a record of `size` bytes, after which `skip` bytes are to be skipped.
     fn pass(&mut self, size: usize, skip: u64) {
         self.number = self.number.saturating_add(1);
         self.byte = self.byte.saturating_add(size as u64);
@@ -32,7 +32,7 @@ impl Position {
         self.left = skip;
     }
 
-    /// Skips the bytes before the next record that are there, and returns the bytes after them.
+    /// Skips the bytes to skip that are in `bytes`, and returns the bytes after them.
     fn skip<'a>(&mut self, bytes: &'a [u8]) -> &'a [u8] {
         let count = self.left.min(bytes.len() as u64);
         self.byte = self.byte.saturating_add(count);
@@ -81,7 +81,7 @@ fn show_held<'a, W: Write>(
     Ok(rest)
 }
 
-/// Requests some bytes, and again after a signal.
+/// Requests some bytes. If a signal interrupts the request, requests them again.
 fn read_some<R: Read>(input: &mut R, chunk: &mut [u8]) -> io::Result<usize> {
     for _ in 0..u64::MAX {
         match input.read(chunk) {
@@ -125,7 +125,7 @@ pub fn show<R: Read, W: Write>(
     ended(at, held.len())
 }
 
-/// Returns whether an input ends after a record. `held` bytes of the next one are there.
+/// Returns an error unless the input ends after a record. `held` is the number of bytes of the next record.
 fn ended(at: Position, held: usize) -> Result<(), Ended> {
     if at.left > 0 {
         return Err(Ended::Short {

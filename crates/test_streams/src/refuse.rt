@@ -9,8 +9,8 @@ ghost use Rattle.std.specs.Io.Seek.{SeekMoves};
 use std::io;
 use std::io::{ErrorKind, Read, Seek, SeekFrom, Write};
 
-/// Serves `left` requests, refuses the next one, and refuses each later one too, or serves it if it
-/// refuses `once`. A refused request reaches no byte.
+/// Serves `left` requests and refuses the next one. Refuses each later one too, unless `once` is true.
+/// A refused request moves no byte.
 #[derive(Drop)]
 pub struct Refuse<S> {
     /// The stream that it wraps.

@@ -4,8 +4,12 @@ use Rattle.wav_header.specs.declared.header.HeaderError.{HeaderError}
 use Rattle.wav_header.specs.declared.header.HeaderError.TheVariants.{Reader, NoRiff, NoWave, NoFormat, LongFormat, NoData}
 use Rattle.wav_header.specs.declared.header.Coding.{Coding}
 use Rattle.wav_header.specs.declared.header.Coding.TheVariants.{Pcm, Float, ALaw, MuLaw, Other}
-use Rattle.std.specs.Prelude.{◌≡◌, ◌^◌, ◌<◌, ◌++◌, ◌∷◌, [], ◌==◌, if◌then◌else◌, ℕ, Bool, List, Result, Ok, Err, take, drop}
-use Rattle.bitstream_io.specs.Callers.{◌>>=◌, Decoder, Encoder, pure, Error, Order, Low, number, and_then, word, unsigned_decoder, const_decoder, plain, unsigned, align, write_sequence}
+use Rattle.std.proofs.Common.{refl}
+use Rattle.bitstream_format.specs.Format.{◌>>=◌, Plain as PlainFormat, Own as OwnFormat, Parts as FormatParts, format, named, field, const, ◌&◌, own_done}
+use Rattle.bitstream_format.specs.Cases.{open_cases}
+use Rattle.std.specs.Prelude.{◌≡◌, ◌^◌, ◌<◌, ◌++◌, ◌∷◌, [], ◌==◌, if◌then◌else◌, ℕ, Bool, List, Result, Ok, take, drop}
+use Rattle.bitstream_io.specs.Callers.{Decoder, Encoder, pure, Error, Order, Low, number, and_then, unsigned_decoder, align, write_sequence}
+use Rattle.bitstream_format.specs.Atoms as atom
 
 -- Made by `./format` from formats/header.fields: edit that file and make this one anew.
 
@@ -50,15 +54,31 @@ coding_number (Other n) = n
 abbrev pub coding_read : Order → Decoder Coding
 coding_read o = and_then (unsigned_decoder o 16 16) (λ v. pure (coding_of v))
 
+-- the cases, by their numbers
+abbrev pub coding_cases : PlainFormat Coding
+coding_cases = open_cases 16 16 refl coding_of coding_number
+
 -- the 32 bits at 288, which are 1635017060
 abbrev pub const_at_288 : List Bool → ℕ
 const_at_288 bits = number Low (bits_at 288 32 bits)
 
--- the reads, in order, after 5 that may be refused
-abbrev pub header_decoder_5 : Order → ℕ → Coding → ℕ → ℕ → ℕ → ℕ → ℕ → Decoder (Result Header HeaderError)
-header_decoder_5 o size coding channels sample_rate byte_rate block_size bits_per_sample = do
-  data_size ← unsigned_decoder o 32 32
-  pure (Ok (record {
+-- the lines, in order
+abbrev pub header_lines : FormatParts Header (Result Header HeaderError) (λ s. Ok s)
+header_lines = do
+  constant_0 ← const 32 1179011410 refl NoRiff
+  size ← field (atom.unsigned 32 32 refl) (λ s. s.size)
+  constant_2 ← const 32 1163280727 refl NoWave
+  constant_3 ← const 32 544501094 refl NoFormat
+  constant_4 ← const 32 16 refl LongFormat
+  coding ← field coding_cases (λ s. s.coding)
+  channels ← field (atom.unsigned 16 16 refl) (λ s. s.channels)
+  sample_rate ← field (atom.unsigned 32 32 refl) (λ s. s.sample_rate)
+  byte_rate ← field (atom.unsigned 32 32 refl) (λ s. s.byte_rate)
+  block_size ← field (atom.unsigned 16 16 refl) (λ s. s.block_size)
+  bits_per_sample ← field (atom.unsigned 16 16 refl) (λ s. s.bits_per_sample)
+  constant_11 ← const 32 1635017060 refl NoData
+  data_size ← field (atom.unsigned 32 32 refl) (λ s. s.data_size)
+  own_done (record {
     size = size;
     coding = coding;
     channels = channels;
@@ -68,63 +88,15 @@ header_decoder_5 o size coding channels sample_rate byte_rate block_size bits_pe
     block_size = block_size;
     bits_per_sample = bits_per_sample;
     data_size = data_size;
-  }))
-
--- the reads, in order, after 4 that may be refused
-abbrev pub header_decoder_4 : Order → ℕ → Decoder (Result Header HeaderError)
-header_decoder_4 o size = do
-  coding ← coding_read o
-  channels ← unsigned_decoder o 16 16
-  sample_rate ← unsigned_decoder o 32 32
-  byte_rate ← unsigned_decoder o 32 32
-  block_size ← unsigned_decoder o 16 16
-  bits_per_sample ← unsigned_decoder o 16 16
-  is_11 ← const_decoder o 32 1635017060
-  if is_11 then header_decoder_5 o size coding channels sample_rate byte_rate block_size bits_per_sample else pure (Err
-      NoData)
-
--- the reads, in order, after 3 that may be refused
-abbrev pub header_decoder_3 : Order → ℕ → Decoder (Result Header HeaderError)
-header_decoder_3 o size = do
-  is_4 ← const_decoder o 32 16
-  if is_4 then header_decoder_4 o size else pure (Err LongFormat)
-
--- the reads, in order, after 2 that may be refused
-abbrev pub header_decoder_2 : Order → ℕ → Decoder (Result Header HeaderError)
-header_decoder_2 o size = do
-  is_3 ← const_decoder o 32 544501094
-  if is_3 then header_decoder_3 o size else pure (Err NoFormat)
-
--- the reads, in order, after 1 that may be refused
-abbrev pub header_decoder_1 : Order → Decoder (Result Header HeaderError)
-header_decoder_1 o = do
-  size ← unsigned_decoder o 32 32
-  is_2 ← const_decoder o 32 1163280727
-  if is_2 then header_decoder_2 o size else pure (Err NoWave)
+  })
 
 -- the reads, in order
 abbrev pub header_decoder : Order → Decoder (Result Header HeaderError)
-header_decoder o = do
-  is_0 ← const_decoder o 32 1179011410
-  if is_0 then header_decoder_1 o else pure (Err NoRiff)
+header_decoder o = header_lines.read o
 
 -- the writes, in order
 abbrev pub header_writes : Order → Header → List Encoder
-header_writes o value =
-    plain (word o 32 1179011410)
-    ∷ unsigned o 32 32 value.size
-    ∷ plain (word o 32 1163280727)
-    ∷ plain (word o 32 544501094)
-    ∷ plain (word o 32 16)
-    ∷ unsigned o 16 16 (coding_number value.coding)
-    ∷ unsigned o 16 16 value.channels
-    ∷ unsigned o 32 32 value.sample_rate
-    ∷ unsigned o 32 32 value.byte_rate
-    ∷ unsigned o 16 16 value.block_size
-    ∷ unsigned o 16 16 value.bits_per_sample
-    ∷ plain (word o 32 1635017060)
-    ∷ unsigned o 32 32 value.data_size
-    ∷ []
+header_writes o value = header_lines.write o value
 
 -- each field fits its bits
 pub record Fits (value : Header) : Type 0 where
@@ -141,6 +113,12 @@ pub record Fits (value : Header) : Type 0 where
 -- the number of bits
 abbrev pub header_size : Order → Header → ℕ
 header_size o value = 352
+
+-- the format, with the facts that must fit by name
+abbrev pub header_format : OwnFormat HeaderError Header
+header_format = named Fits (format header_lines (λ s. refl {a = s}))
+    (λ s fits. fits.size & fits.coding & fits.coding_again & fits.channels & fits.sample_rate & fits.byte_rate &
+    fits.block_size & fits.bits_per_sample & fits.data_size)
 
 -- the bits of all fields, up to a whole byte
 unfoldable pub header_bits : Header → List Bool

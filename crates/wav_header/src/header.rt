@@ -98,15 +98,15 @@ impl From<Error> for HeaderError {
 /// The coding of samples.
 #[derive(Clone, Copy, Debug, PartialEq)]
 pub enum Coding {
-    /// 1.
+    /// Encoded as 1.
     Pcm,
-    /// 3.
+    /// Encoded as 3.
     Float,
-    /// 6.
+    /// Encoded as 6.
     ALaw,
-    /// 7.
+    /// Encoded as 7.
     MuLaw,
-    /// Another number.
+    /// Any other number.
     Other(u16),
 }
 
@@ -160,8 +160,7 @@ impl Header {
     ///
     /// # Errors
     ///
-    /// `NoRiff`, `NoWave`, `NoFormat`, `LongFormat`, `NoData`.
-    /// The refused bits are read then.
+    /// `NoRiff`, `NoWave`, `NoFormat`, `LongFormat` or `NoData`, after the rejected bits have been read.
     /// Otherwise the reader's errors, after which it has failed.
     pub fn read<R: BitRead>(reader: &mut R) -> Result<Header, HeaderError>
         ensures { ReadsOwn R.source becomes_header (header_decoder R.source.order) reader.old result reader.new }
@@ -195,7 +194,8 @@ impl Header {
     ///
     /// # Errors
     ///
-    /// `NoRiff`, `NoWave`, `NoFormat`, `LongFormat`, `NoData`, `Reader(EndOfInput)` for fewer than 44 bytes.
+    /// `NoRiff`, `NoWave`, `NoFormat`, `LongFormat` or `NoData` if bits are rejected.
+    /// `Reader(EndOfInput)` for fewer than 44 bytes.
     pub fn parse(packet: &[u8]) -> Result<Header, HeaderError>
         ensures answer { OwnAnswer becomes_header (λ answer. answer)
             (sure_answer ((header_decoder Low).reads 0 (bits Low packet.now))) result }
@@ -239,7 +239,7 @@ impl Header {
     ///
     /// # Errors
     ///
-    /// `Checked` for a field that does not fit its bits. The fields before it are written then.
+    /// `Checked` for a field that does not fit its bits. The fields before it have been written.
     /// Otherwise the sink's errors.
     pub fn write<W: BitWrite>(&self, writer: &mut W) -> Result<(), Error>
         ensures { WritesAll W.sink (header_writes W.sink.order self.now) writer.old result writer.new }
@@ -267,7 +267,7 @@ impl Header {
     ///
     /// `Checked` for the first field that does not fit its bits, however long the buffer is.
     /// `Stream(WriteZero)` if all fields fit, and the buffer has fewer than 44 bytes.
-    /// The first bytes of the buffer may be changed then.
+    /// After an error, the first bytes of the buffer may have changed.
     pub fn pack_into<'a>(&self, buffer: &'a mut [u8]) -> Result<SliceMut<'a>, Error>
         ensures packed { IfOk result (λ packed. bits Low (written_bytes packed) ≡ header_bits self.now) }
         ensures first { IfOk result (HoldsFirst buffer.entry.ghost_name buffer.old) }
