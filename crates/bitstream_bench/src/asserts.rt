@@ -1,5 +1,5 @@
-//! Assertions as functions, and the results of calls as truths. A test that is a list of calls with
-//! no branch takes a third of the time to prove that it takes with the macros and `?`.
+//! Assertions as functions, and the results of calls as truths. A test that is a list of calls without
+//! a branch is proved in a third of the time that it takes with the macros and `?`.
 use bitstream_io::Error;
 use std::fmt::Debug;
 use std::process::Abort;
@@ -39,12 +39,12 @@ pub(crate) fn gives<T: PartialEq + Drop, E: Drop>(answer: Result<T, E>, wanted: 
     }
 }
 
-/// Returns true if a call returns that the input has ended.
+/// Returns true if a call returns `EndOfInput`.
 pub(crate) fn ended<T: Drop>(answer: Result<T, Error>) -> bool {
     matches!(answer, Err(Error::EndOfInput))
 }
 
-/// Returns true if a call returns that its reader or writer has failed before.
+/// Returns true if a call returns `Failed`.
 pub(crate) fn failed<T: Drop>(answer: Result<T, Error>) -> bool {
     matches!(answer, Err(Error::Failed))
 }

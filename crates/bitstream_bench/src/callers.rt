@@ -1,7 +1,7 @@
-//! The facts that no clause of the callers states: callers without contracts, types of a user's own
-//! on their happy path, that memory is not called refused while it is left, and the kind of a write
-//! with no room. The other facts on the formats' bytes are proved: the test vectors of
-//! `bitstream_callers`.
+//! Tests of what no clause of the callers states: callers without contracts, a user's own types on
+//! their happy path, that no allocation is reported as failed while memory is left, and the error kind
+//! of a write without room. The other facts about the formats' bytes are proved, by the test vectors
+//! of `bitstream_callers`.
 use crate::asserts::{are, each_holds, ended, failed, gives, holds, same};
 use bitstream_callers::appending::append;
 use bitstream_callers::block_header::BlockHeader;
@@ -64,8 +64,8 @@ fn has_272_bits(block: &StreamInfo) -> bool {
         & matches!(block.bits::<u8>(), Err(Error::CounterOverflow))
 }
 
-/// The number of bytes of a block moved before each request that its fields make, and then all of
-/// them. A reader asks for the bytes that a field lacks, and a writer sends the bytes that it
+/// For each request that the fields of a block make, the number of bytes moved before it; then the
+/// number of all bytes. A reader asks for the bytes that a field lacks, and a writer sends the bytes that it
 /// fills; the 3 bits of the channels need none.
 const READ: [usize; 9] = [0, 2, 4, 7, 10, 13, 14, 18, 34];
 
@@ -146,7 +146,7 @@ fn parses_and_builds_a_stream_info(rt: HostRuntime) {
     builds_up_to_each(&rt, rt.alloc(), &block, &WRITTEN);
 }
 
-/// Returns true if a turn of a wheel is this byte.
+/// Returns true if these bytes are the turn of a wheel by -3, after 2 lost packets.
 fn turns(turn: &[u8]) -> bool {
     match parse_turn(turn) {
         Ok(turned) => (turned.lost == 2) & (turned.angle == -3),
@@ -200,7 +200,7 @@ fn options_say(
         & (options.selective == selective)
 }
 
-/// Returns true if options end before the last of them does.
+/// Returns true if the bytes end within the last option.
 fn options_end(bytes: &[u8]) -> bool {
     let mut options = TcpOptions {
         maximum_segment: None,
@@ -253,7 +253,7 @@ fn reads_samples(alloc: Global, packed: &[u8], wanted: &[u16]) -> bool {
     matches!(parse_samples(alloc, packed, 2), Ok(samples) if samples.as_slice() == wanted)
 }
 
-/// A body that always reports refused memory meets the contracts of these callers.
+/// A body that always reports a failed allocation meets the contracts of these callers.
 #[test]
 fn serves_while_memory_is_left(rt: HostRuntime) {
     let packed = [0xab, 0xcd, 0xef];
@@ -332,7 +332,7 @@ fn builds_port<W: ByteWrite>(writer: &mut W) -> bool {
         & gives(ToByteStreamUsing::bytes::<u8>(&port, 2), 4)
 }
 
-/// Returns true if a port is parsed with one byte of padding, and there is no other after it.
+/// Returns true if a port is parsed with one byte of padding, and the bytes end before a second port does.
 fn parses_port<R: ByteRead>(reader: &mut R) -> bool {
     let first: Result<PaddedPort, Error> = reader.parse_with(&1);
     let second: Result<PaddedPort, Error> = reader.parse_using(1);
@@ -348,7 +348,7 @@ fn builds_and_parses_a_padded_port(rt: HostRuntime) {
     holds(&rt, parses_port(&mut reader));
 }
 
-/// Returns true if a reading is written in the number of bits that its context says.
+/// Returns true if a reading is written in the number of bits that its context states.
 fn writes_reading(reading: Reading, bits: u32, bytes: &[u8]) -> bool {
     let mut built = [0; 4];
     let mut writer = BitWriter::<_, BE>::new(SliceMut::new(&mut built));
@@ -365,7 +365,7 @@ fn reads_reading(reading: Reading, bits: u32, bytes: &[u8]) -> bool {
         & gives(reader.parse_using::<Reading>(bits), reading)
 }
 
-/// Returns true if a missing reading is reported as missing, and a width that a value does not have
+/// Returns true if a missing reading is reported as missing, and a width that is too large for a value
 /// as the reader's error.
 fn misses_a_reading() -> bool {
     let mut reader = BitReader::<_, BE>::new(Slice::new(&[0x40]));

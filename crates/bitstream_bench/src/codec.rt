@@ -1,8 +1,11 @@
-//! Frames of FLAC, encoded and decoded. A body that always reports refused memory meets the contracts of the
+//! Frames and files of FLAC, encoded and decoded. A body that always reports a failed allocation meets the contracts of the
 //! codec, and fails these tests.
 use crate::asserts::holds;
 use bitstream_io::Error;
-use flac_codec::{Channels, FlacError, FrameHeader, decode_frame, encode_frame, is_frame};
+use flac_codec::{
+    Channels, FileHeader, FlacError, FrameHeader, decode_file, decode_frame, encode_file,
+    encode_frame, is_file, is_frame,
+};
 use std::alloc::Global;
 
 // The second frame of the second example of RFC 9639 (appendix D.2): three samples in two verbatim channels.
@@ -12,6 +15,10 @@ const VERBATIM: &[u8] =
 // A frame that `flac` wrote of known samples: the left channel and the difference.
 const LEFT_SIDE: &[u8] =
     b"\xff\xf8\x69\x88\x00\x0f\x3b\x14\x00\x00\x03\xe9\x00\x90\xa8\x85\x44\x42\xa2\x15\x10\x48\x00\x00\x00\x84\x93\xa3\x09\x0c\x54\x78\xd3\x81";
+
+// A file that `flac` wrote of the 19 samples of the second example of RFC 9639: two frames behind a comment.
+const FILE: &[u8] =
+    b"\x66\x4c\x61\x43\x00\x00\x00\x22\x00\x10\x00\x10\x00\x00\x17\x00\x00\x44\x0a\xc4\x42\xf0\x00\x00\x00\x13\xd5\xb0\x56\x49\x75\xe9\x8b\x8d\x8b\x93\x04\x22\x75\x7b\x81\x03\x84\x00\x00\x28\x20\x00\x00\x00\x72\x65\x66\x65\x72\x65\x6e\x63\x65\x20\x6c\x69\x62\x46\x4c\x41\x43\x20\x31\x2e\x34\x2e\x32\x20\x32\x30\x32\x32\x31\x30\x32\x32\x00\x00\x00\x00\xff\xf8\x69\x98\x00\x0f\x99\x12\x08\x67\x01\x62\x3d\x14\x42\x99\x8f\x5d\xf7\x0d\x6f\xe0\x0c\x17\xca\xeb\x21\x00\x0e\xe7\xa7\x7a\x24\xa1\x59\x0c\x12\x17\xb6\x03\x09\x7b\x78\x4f\xaa\x9a\x33\xd2\x85\xe0\x70\xad\x5b\x1b\x48\x51\xb4\x01\x0d\x99\xd2\xcd\x1a\x68\xf1\xe6\xb8\x10\xff\xf8\x69\x18\x01\x02\xa4\x02\xc3\x82\xc4\x0b\xc1\x4a\x03\xee\x48\xdd\x03\xb6\x7c\x13\x30";
 
 /// Returns `count` samples of at most 12 bits that are neither equal nor regular.
 fn samples(alloc: Global, count: usize, step: i64) -> Result<Vec<i64>, Error> {
@@ -65,6 +72,36 @@ fn frame_again(alloc: Global, coding: Channels) -> Result<bool, FlacError> {
     let bytes = encode_frame(alloc, 16, &header, channels.as_slice())?;
     let frame = decode_frame(alloc, 16, bytes.as_slice())?;
     Ok(are_same(frame.channels.as_slice(), channels.as_slice()) & (frame.size == bytes.len()))
+}
+
+/// Encodes a file of two channels in three frames, and returns true if the same is decoded.
+fn file_again(alloc: Global) -> Result<bool, FlacError> {
+    let channels = two(alloc, 40)?;
+    let header = FileHeader {
+        sample_rate: 44_100,
+        sample_size: 12,
+        checksum: [0x5a; 16],
+    };
+    if !is_file(&header, 16, channels.as_slice()) {
+        return Ok(false);
+    }
+    let bytes = encode_file(alloc, &header, 16, channels.as_slice())?;
+    let file = decode_file(alloc, bytes.as_slice())?;
+    Ok((file.header == header) & are_same(file.channels.as_slice(), channels.as_slice()))
+}
+
+/// Returns true if a file has two channels of these samples of 16 bits.
+fn file_decodes_to(alloc: Global, bytes: &[u8], left: &[i64], right: &[i64]) -> bool {
+    match decode_file(alloc, bytes) {
+        Ok(file) => {
+            (file.header.sample_rate == 44_100)
+                & (file.header.sample_size == 16)
+                & (file.channels.len() == 2)
+                & is_channel(file.channels.as_slice(), 0, left)
+                & is_channel(file.channels.as_slice(), 1, right)
+        }
+        Err(_) => false,
+    }
 }
 
 /// Returns true if a frame has these samples of two channels.
@@ -124,4 +161,45 @@ fn frames_from_outside_are_decoded(rt: HostRuntime) {
         15000,
     ];
     holds(&rt, decodes_to(alloc, LEFT_SIDE, &left, &right));
+}
+
+#[test]
+fn files_are_encoded_and_decoded(rt: HostRuntime) {
+    let alloc = rt.alloc();
+    holds(&rt, matches!(file_again(alloc), Ok(true)));
+    let left = [
+        10372, 18041, 14942, 17876, 15627, 17899, 16242, 18077, 16824, 18263, 17295, -14418,
+        -15201, -14508, -15195, -14818, -15486, -15349, -16054,
+    ];
+    let right = [
+        6070, 10545, 8743, 10449, 9143, 10463, 9502, 10569, 9840, 10680, 10113, -8428, -8895,
+        -8476, -8896, -8653, -9072, -8958, -9410,
+    ];
+    holds(&rt, file_decodes_to(alloc, FILE, &left, &right));
+}
+
+/// Returns true if a file of a thousand samples on a line has less than a tenth of their bytes.
+fn line_is_short(alloc: Global) -> Result<bool, FlacError> {
+    let mut samples = Vec::new(alloc);
+    for at in 0..1000i64 {
+        samples.push(at.wrapping_mul(7))?;
+    }
+    let mut channels = Vec::new(alloc);
+    channels.push(samples)?;
+    let header = FileHeader {
+        sample_rate: 8000,
+        sample_size: 16,
+        checksum: [0; 16],
+    };
+    if !is_file(&header, 1000, channels.as_slice()) {
+        return Ok(false);
+    }
+    let bytes = encode_file(alloc, &header, 1000, channels.as_slice())?;
+    Ok(bytes.len() < 200)
+}
+
+// An encoder that predicts nothing meets the contracts of the codec, and fails this test.
+#[test]
+fn regular_samples_become_short(rt: HostRuntime) {
+    holds(&rt, matches!(line_is_short(rt.alloc()), Ok(true)));
 }

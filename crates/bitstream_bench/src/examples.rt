@@ -48,6 +48,24 @@ fn example_of_signed_bit_count(rt: HostRuntime) {
 }
 
 #[test]
+fn example_of_crc32_more(rt: HostRuntime) {
+    use bitstream_format::checks::crc32_more;
+
+    let first = crc32_more(u32::MAX, b"1234");
+    same(&rt, crc32_more(first, b"56789") ^ u32::MAX, 0xcbf4_3926);
+}
+
+#[test]
+fn example_of_read_until(rt: HostRuntime) {
+    use bitstream_format::until::read_until;
+    use bitstream_io::{BE, BitReader};
+
+    let mut reader = BitReader::<_, BE>::over(b"boot\0next");
+    let name = read_until(&mut reader, rt.alloc(), 0).expect(&rt, "no error");
+    are(&rt, name.as_slice(), b"boot".as_slice());
+}
+
+#[test]
 fn example_of_read_varint(rt: HostRuntime) {
     use bitstream_format::varint::read_varint;
     use bitstream_io::{BE, BitReader};

@@ -68,8 +68,8 @@ fn a_refused_flush_fails_the_writer(rt: HostRuntime) {
     are(&rt, &writer.into_writer().inner, &[]);
 }
 
-/// A length that no stream has ends at the end of input. A reader of bits has failed then, and a reader
-/// of bytes returns the same for each call.
+/// A read of a length that no stream has meets the end of input. After it, a reader of bits has failed,
+/// and a reader of bytes returns the same error for each call.
 #[test]
 fn r14_hostile(rt: HostRuntime) {
     let bytes = [7; 10];

@@ -87,7 +87,7 @@ fn ended(answer: Result<VorbisComment, CommentError>) -> bool {
     matches!(answer, Err(CommentError::Reader(Error::EndOfInput)))
 }
 
-/// Reads a comment that is all there is.
+/// Reads a comment from bytes that hold only the comment.
 fn alone(alloc: Global, bytes: &[u8]) -> Result<VorbisComment, CommentError> {
     BitReader::<_, BE>::over(bytes).parse_using(alloc)
 }

@@ -1,7 +1,7 @@
 //! All tests: of the library's crates, with the examples of the doc comments, of its callers, and
-//! of `bitfields_core`. With them come a user's own prefix code, readers and a writer that keep the
+//! of `bitfields_core`. The tests use a user's own prefix code, readers and a writer that keep the
 //! traits' own bodies, and functions over bytes in memory whose contracts fix all their results.
-//! The crate has nothing else, so that nothing is proved twice.
+//! The crate has nothing else, so that nothing else is proved twice.
 #![tactic(auto)]
 
 #[cfg(test)]

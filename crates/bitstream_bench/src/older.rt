@@ -1,4 +1,4 @@
-//! The older names of the calls. A proof shows that each equals the call of today; the examples have two more rows.
+//! The older names of the calls. A proof shows that each equals the current call; the examples have two more rows.
 use crate::asserts::{gives, holds};
 use bitstream_io::{BE, BitRead2, BitReader, Bits, Slice};
 

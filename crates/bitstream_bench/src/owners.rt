@@ -31,7 +31,7 @@ fn texts_are(texts: &[Text], wanted: &[&str]) -> bool {
     same
 }
 
-/// Returns true if a comment is the comment of the file.
+/// Returns true if the result is the comment that the file holds.
 fn is_of_the_file(answer: Result<VorbisComment, CommentError>) -> bool {
     match answer {
         Ok(comment) => {

@@ -10,7 +10,7 @@ use std::io::ErrorKind;
 use std::process::Abort;
 use test_streams::{Count, Refuse, Short};
 
-/// The request of each stream that fails, if any, counted from 0. Each later request succeeds again.
+/// For each stream, the index (from 0) of the request that fails, if any. Each later request succeeds again.
 #[derive(Clone, Copy, Drop)]
 struct Refused {
     input: Option<u32>,
@@ -339,7 +339,7 @@ fn is_last(ended: &Ended, refusing: Refusing) -> Option<bool> {
     }
 }
 
-/// Returns true if a row ends as it should if a request fails. If the call makes it, the last line of
+/// Returns true if a row ends as it should when a request fails. If the call makes it, the last line of
 /// its faults is a stream fault, it makes no further request, and it writes only a prefix of the row's
 /// bytes. If the request is one of the input, it writes nothing. If the call does not make it, the row
 /// ends as usual.
@@ -357,7 +357,7 @@ fn ends_at(alloc: Global, row: &Row, refusing: Refusing) -> bool {
         & ended.faults.ends_with(b": stream fault\n")
 }
 
-/// Returns true if a row ends as it should if a request fails with this kind.
+/// Returns true if a row ends as it should when a request fails with this kind.
 fn ends_refused(
     alloc: Global,
     row: &Row,
@@ -376,7 +376,7 @@ fn ends_refused(
     }
 }
 
-/// Returns true if a row ends as it should if a request fails with either kind.
+/// Returns true if a row ends as it should, whichever kind of error the request fails with.
 fn ends_refused_by_each(alloc: Global, row: &Row, refusal: &Refusal) -> bool {
     let mut right = true;
     for (kind, reason) in KINDS {
@@ -404,8 +404,8 @@ fn asks_nothing_more_after_a_refusal(rt: HostRuntime) {
     are_refused(&rt, rt.alloc(), &REPACKED, &OF_REPACK);
 }
 
-/// Returns true if a row ends as it should if one of the first `requests` requests of its input or
-/// output fails, and if the next request would fail.
+/// Returns true if a row ends as it should when one of the first `requests` requests of its input or
+/// output fails, and when the next request would fail.
 fn ends_at_each(alloc: Global, row: &Row, requests: u64) -> bool {
     let mut right = true;
     for at in 0..=u32::try_from(requests).unwrap_or(0) {

@@ -544,5 +544,5 @@ pub(crate) const REPACKINGS: [Row; 34] = [
     ),
 ];
 
-/// 128 bits of 0, and then some bits that are not all 0.
+/// 128 zeros, and then some bits that are not all 0.
 const PAST_WORD: &[u8] = &[0, 0, 0, 0, 0, 0, 0, 0, 0, 0, 0, 0, 0, 0, 0, 0, 0x01];

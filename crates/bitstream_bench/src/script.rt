@@ -1,4 +1,4 @@
-//! Lists of calls as values, written and read.
+//! Writes and reads by lists of calls as values.
 use crate::asserts::{are, each_holds, holds, same};
 use bitstream_io::script::{Answer, ReadCall, WriteCall, read_calls, write_calls};
 use bitstream_io::{

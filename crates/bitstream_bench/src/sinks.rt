@@ -73,7 +73,7 @@ fn capacities_are_kept(rt: HostRuntime) {
     holds(&rt, taken & matches!(more, Err(Error::OutOfMemory)));
 }
 
-/// Of a recorder of one byte and a candidate that fails for lack of memory, the recorder is the better one.
+/// A recorder of one byte is better than a candidate that fails for lack of memory.
 #[test]
 fn failed_candidates_are_not_given(rt: HostRuntime) {
     let mut recorder: Refused = BitRecorder::new(RefuseMemory::new(rt.alloc(), 1));

@@ -93,8 +93,8 @@ fn long_bytes_go_in_pieces(rt: HostRuntime) {
     each_goes_in(&rt, rt.alloc(), &PIECES);
 }
 
-/// Returns true if a vector of 9000 bytes is read if memory serves its three growths, and a reader of
-/// bits fails otherwise.
+/// Returns true if a read of 9000 bytes into a vector succeeds when memory serves its three growths,
+/// and a reader of bits fails otherwise.
 fn bits_grow<R: BitRead>(alloc: Global, served: u32, reader: &mut R) -> bool {
     let answer = reader.read_to_vec(RefuseMemory::new(alloc, served), 9000);
     let failed = failed(reader.read_bit());
