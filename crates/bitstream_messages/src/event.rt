@@ -43,8 +43,8 @@ pub enum EventError {
     /// `kind` is not the number of a case of `Kind`.
     #[error("`kind` is not the number of a case of `Kind`")]
     NoKind,
-    /// `kind` is the number of no case of `What`.
-    #[error("`kind` is the number of no case of `What`")]
+    /// `What` has no case for `kind`.
+    #[error("`What` has no case for `kind`")]
     NoWhat,
     /// An error of a `Mark` that is not the reader's.
     #[error("in a `Mark`: {0}")]

@@ -60,8 +60,8 @@ pub enum FrameError {
     /// An error of the reader.
     #[error("{0}")]
     Reader(Error),
-    /// The number before `body` is that of no case of `Content`.
-    #[error("the number before `body` is that of no case of `Content`")]
+    /// `Content` has no case for the number before `body`.
+    #[error("`Content` has no case for the number before `body`")]
     NoContent,
     /// `body` does not fill the bytes that its size states.
     #[error("`body` does not fill the bytes that its size states")]

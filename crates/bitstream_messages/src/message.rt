@@ -61,8 +61,8 @@ pub enum MessageError {
     /// An error of the reader.
     #[error("{0}")]
     Reader(Error),
-    /// The number before `body` is that of no case of `Body`.
-    #[error("the number before `body` is that of no case of `Body`")]
+    /// `Body` has no case for the number before `body`.
+    #[error("`Body` has no case for the number before `body`")]
     NoBody,
     /// An error of a `Mark` that is not the reader's.
     #[error("in a `Mark`: {0}")]

@@ -114,9 +114,9 @@ def error_cases(line: Line) -> dict[str, list[str]]:
         return (overrun_case(kind.name, kind.error) if kind.error else {}) | inner
     if not isinstance(kind, m.Choose):
         return {line.error: error_case(line)} if line.error else {}
-    why = f"The number before `{kind.name}` is that of no case of `{kind.type}`."
+    why = f"`{kind.type}` has no case for the number before `{kind.name}`."
     if kind.by != kind.name:
-        why = f"`{kind.by}` is the number of no case of `{kind.type}`."
+        why = f"`{kind.type}` has no case for `{kind.by}`."
     own = {kind.unknown: [f"    /// {why}", f'    #[error("{shown(why)}")]', f"    {kind.unknown},"]}
     own = (own if kind.unknown else {}) | (overrun_case(kind.name, kind.overrun) if kind.sized else {})
     return own | {it.error: error_case(it) for it in line.parts if it.error}
