@@ -478,7 +478,7 @@ def arm(words: Words, context: Context, said: list[str], width: int) -> m.Arm:
 
 
 def check_arms(arms: tuple[m.Arm, ...], width: int, at: Position) -> None:
-    """Refuses cases of a choice that do not belong together."""
+    """Refuses a choice in which two cases share a number or a name, or `..` is misplaced."""
     numbers = [it.number for it in arms]
     if len(set(numbers)) < len(arms):
         raise Refused("two cases have one number", at)

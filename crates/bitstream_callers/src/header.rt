@@ -30,7 +30,7 @@ pub struct Header {
     pub acknowledge: bool,
     /// The urgency of the packet. From -8 to 7.
     pub priority: i8,
-    /// The bytes that follow.
+    /// The number of bytes that follow.
     pub length: u16,
 }
 

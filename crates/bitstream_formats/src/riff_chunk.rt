@@ -28,7 +28,7 @@ use bitstream_io::{
 pub struct RiffChunk {
     /// The type, in four letters.
     pub id: [u8; 4],
-    /// The bytes that follow. After an odd number there is one byte more.
+    /// The number of bytes that follow. If it is odd, one byte more follows.
     pub size: u32,
 }
 

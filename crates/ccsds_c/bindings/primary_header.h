@@ -35,7 +35,7 @@ struct primary_header {
     uint8_t sequence;
     /* The number of the packet in its sequence. Below 2^14. */
     uint16_t count;
-    /* The bytes of the data field, less 1. */
+    /* The number of bytes in the data field, minus 1. */
     uint16_t length;
 };
 

@@ -81,7 +81,7 @@ class PrimaryHeader:
     count: int
     """The number of the packet in its sequence. Below 2^14."""
     length: int
-    """The bytes of the data field, less 1."""
+    """The number of bytes in the data field, minus 1."""
 
     SIZE: ClassVar[int] = 6
     """The bytes that the fields take."""

@@ -25,7 +25,7 @@ pub struct PrimaryHeader {
     pub sequence: u8,
     /// The number of the packet in its sequence. Below 2^14.
     pub count: u16,
-    /// The bytes of the data field, less 1.
+    /// The number of bytes in the data field, minus 1.
     pub length: u16,
 }
 

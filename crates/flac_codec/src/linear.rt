@@ -22,7 +22,7 @@ const LAGS: usize = 13;
 /// A linear prediction.
 #[derive(Drop)]
 pub(crate) struct Prediction {
-    /// The weights of the samples before a sample, that of the last one first.
+    /// The weights of the preceding samples, nearest sample first.
     pub(crate) weights: Vec<i64>,
     /// The number of bits of each weight.
     pub(crate) precision: u8,

@@ -30,7 +30,7 @@ use bitstream_io::{
 pub struct ModbusHeader {
     /// The number that a response shares with its request.
     pub transaction: u16,
-    /// The bytes that follow, from the unit on.
+    /// The number of bytes that follow, from the unit on.
     pub size: u16,
     /// The device behind a gateway.
     pub unit: u8,

@@ -49,7 +49,7 @@ struct mqtt_header {
     uint8_t quality;
     /* True if the server is to keep the message, if the packet is `Publish`. */
     bool retain;
-    /* The bytes that follow. */
+    /* The number of bytes that follow. */
     uint32_t remaining;
 };
 

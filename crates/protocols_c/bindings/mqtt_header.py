@@ -108,7 +108,7 @@ class MqttHeader:
     retain: bool
     """True if the server is to keep the message, if the packet is `Publish`."""
     remaining: int
-    """The bytes that follow."""
+    """The number of bytes that follow."""
 
     @classmethod
     def parse(cls, data: bytes | bytearray | memoryview) -> tuple[MqttHeader, int]:

@@ -27,7 +27,7 @@ pub struct MqttHeader {
     pub quality: u8,
     /// True if the server is to keep the message, if the packet is `Publish`.
     pub retain: bool,
-    /// The bytes that follow.
+    /// The number of bytes that follow.
     pub remaining: u32,
 }
 

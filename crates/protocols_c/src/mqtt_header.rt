@@ -25,7 +25,7 @@ pub struct MqttHeaderC {
     pub quality: u8,
     /// True if the server is to keep the message, if the packet is `Publish`.
     pub retain: u8,
-    /// The bytes that follow.
+    /// The number of bytes that follow.
     pub remaining: u32,
 }
 

@@ -46,7 +46,7 @@ use bitstream_io::{
 /// ```
 #[derive(Clone, Copy, Debug, PartialEq)]
 pub struct Header {
-    /// The bytes that follow this field.
+    /// The number of bytes after this field.
     pub size: u32,
     /// The coding of samples.
     pub coding: Coding,

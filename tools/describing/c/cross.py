@@ -1,4 +1,4 @@
-"""How the fields of a format cross to C: which of them can, and the number types that hold them there."""
+"""The fields of a format in C: which ones a library for C has, and the number types that hold them."""
 from __future__ import annotations
 
 from dataclasses import dataclass

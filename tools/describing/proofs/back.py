@@ -325,7 +325,7 @@ def optional_goes(f: Format, line: Line, use: m.Use) -> str:
 
 
 def choice_back(f: Format, line: Line, kind: m.Choose) -> str:
-    """Returns the term that the case of a choice is read back, behind a tag or by an earlier field."""
+    """Returns the proof that the case of a choice is read back, whether a tag or an earlier field selects it."""
     s, term = snake(kind.type), value(line)
     back = f"{s}_back o {term} fits.{kind.name}"
     if not tag_of(f, kind):

@@ -125,5 +125,5 @@ def places_code(f: Format) -> list[str]:
 
 
 def known_there(f: Format, bits: str) -> list[str]:
-    """Returns the premises of the tests whose bits are all there."""
+    """Returns a premise for each test: if the packet has the bits of the test, they pass."""
     return [f"({it.least()} ≤ length packet.now → {holds(f, it, bits)[0]})" for it in f.tests]

@@ -14,7 +14,7 @@ pub struct Block<'a> {
     pub bytes: &'a [u8],
 }
 
-/// The blocks of metadata of a file.
+/// The metadata blocks of a file.
 #[derive(Drop)]
 pub struct Blocks<'a> {
     reader: SliceReader<'a, BE>,

@@ -471,7 +471,7 @@ fn note_picture(
     Ok(())
 }
 
-/// Adds to the unit the header of a frame that begins at a bit.
+/// Adds a frame's header to the unit. The frame begins at the bit `place`.
 fn note_frame(alloc: Global, unit: &mut Unit, place: u64, frame: &Frame) -> Result<(), AllocError> {
     let header = frame.header;
     let fields = [
