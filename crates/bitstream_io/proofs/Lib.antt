@@ -5,10 +5,13 @@ pub mod CallerLemmas
 pub mod EachLemmas
 pub mod GolombLemmas
 pub mod PackLemmas
+mod PlaceLemmas
 mod ReadBackLemmas
 mod ReadScriptLemmas
 mod Rows
 mod ScriptLemmas
+mod SoughtLemmas
+mod WindowLemmas
 pub use Rattle.bitstream_count.proofs.UnaryLemmas
 pub use Rattle.bitstream_count.proofs.VbrLemmas
 pub use Rattle.bitstream_number.proofs.ByteLemmas

@@ -3,10 +3,14 @@ pub mod Golomb
 pub mod Loop
 pub mod NonZeroTypes
 pub mod Optional
+pub mod PlaceLaws
+pub mod Places
 pub mod ReadBack
 pub mod ReadScript
 pub mod Script
 pub mod Steps
+pub mod SymbolTable
+pub mod Windows
 pub use Rattle.bitstream_number.specs.Ints
 pub use Rattle.bitstream_number.specs.Word
 pub use Rattle.bitstream_count.specs.Checks

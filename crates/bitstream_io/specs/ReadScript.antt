@@ -67,7 +67,7 @@ ReadsEach {R} K (call ∷ calls) old (place ∷ places) new =
 abbrev pub sequence_answers : List (Result Answer Error × ℕ) → List (Option (Result Answer Error))
 sequence_answers run = map (λ step. Some step.0) run
 
--- the number of bits that a read sequence has taken after its first p calls
+-- the place after a read sequence that began at place p
 abbrev pub place_behind : ℕ → List (Result Answer Error × ℕ) → ℕ
 place_behind p [] = p
 place_behind p (step ∷ run) = place_behind step.1 run

@@ -7,6 +7,7 @@
 //! - [`compat`]: the current calls under their older names
 //! - [`golomb`]: exponential Golomb numbers
 //! - [`script`]: lists of calls as values, which are made one after another
+//! - [`symbols`]: many symbols of a prefix code, read by a table
 //! - [`error`]: the error of a call
 //! - [`number`]: integer types as numbers, and numbers of bits as types
 //! - [`count`]: counts of bits, and values that are known to fit one
@@ -36,6 +37,7 @@
 pub mod compat;
 pub mod golomb;
 pub mod script;
+pub mod symbols;
 
 /// The error of a call.
 pub mod error {
@@ -178,6 +180,7 @@ pub use read::{
     BitRead, BitReadExt, BitReader, FromBitStream, FromBitStreamUsing, FromBitStreamWith, Lent,
     SeekSource, Slice, SliceReader, Source,
 };
+pub use symbols::{ReadSymbols, SymbolTable};
 pub use write::{
     BitCounter, BitRecorder, BitWrite, BitWriteExt, BitWriter, BitsWritten, Growing, Recorder,
     SliceMut, Target, ToBitStream, ToBitStreamUsing, ToBitStreamWith, pack_into,
