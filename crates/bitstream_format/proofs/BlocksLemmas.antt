@@ -1,11 +1,8 @@
--- Blocks of bytes: they are read back, how long they are, and what the loops in code return.
-use Rattle.std.proofs.Common.{◌≡◌, ◌∙◌, ℕ, zero, suc, ◌+◌, ◌-◌, ◌*◌, ◌<◌, ◌≤◌, ◌==◌, Bool, true, false, List, [], ◌∷◌, ◌++◌, length, get_or, append_assoc, append-nil, Result, Ok, Err, refl, sym, ap, subst, arith}
+-- Blocks of bytes: what the loops in code return.
+use Rattle.std.proofs.Common.{◌≡◌, ℕ, suc, ◌+◌, ◌-◌, ◌<◌, ◌≤◌, ◌==◌, true, false, List, [], ◌∷◌, ◌++◌, length, get_or, Result, Ok, Err, refl, sym, subst, arith}
 use Rattle.std.specs.Prelude.{if◌then◌else◌, flat_map}
 use Rattle.std.specs.Result.{IsErrAnd}
-use Rattle.std.specs.List.{All, AllByRecursion}
-use Rattle.std.proofs.lemmas.List.Elements.{recursion_from_All}
 use Rattle.std.proofs.lemmas.List.{take_all}
-use Rattle.std.proofs.lemmas.Bool.{eq-eqb, ne_eqb}
 use Rattle.bitstream_count.specs.declared.error.Error.{Error}
 use Rattle.bitstream_count.specs.declared.error.Error.TheVariants.{RunTooLong, OutOfMemory}
 use Rattle.bitstream_count.specs.Codec.{fail, stores}
@@ -15,58 +12,13 @@ use Rattle.bitstream_stream.specs.Writing.Sink.{Sink, Writes}
 use Rattle.bitstream_stream.proofs.Reading.ReadsLemmas.{Reads-pure, Reads-same, Took-nil, Took-too_long, none_needed}
 use Rattle.bitstream_value.specs.Grows.{GrowingOutcome, by_reads}
 use Rattle.bitstream_value.proofs.GrowsLemmas.{grows-and_then-ok, grows-and_then-err, growth-here, vec-grown}
-use Rattle.bitstream_io.specs.Callers.{Decoder, Encoder, Order, WritesAll, and_then, buffer, pure, unsigned}
-use Rattle.bitstream_io.specs.Loop.{ItemsWritten, parts_size}
+use Rattle.bitstream_io.specs.Callers.{WritesAll, and_then, pure, unsigned}
+use Rattle.bitstream_io.specs.Loop.{ItemsWritten}
 use Rattle.bitstream_io.proofs.WriteParts.{all_append, all_one, all_stop}
-use Rattle.bitstream_io.proofs.CallerLemmas.{Packs, RoundTrip, bytes-written, is_error, packs-is, packs-more, packs-none, packs-part, part-back, pure-back, unsigned-back, unsigned-written, vec-back, written-stop}
+use Rattle.bitstream_io.proofs.CallerLemmas.{is_error, written-stop}
 use Rattle.bitstream_format.proofs.WithinLemmas.{fine_by}
-use Rattle.bitstream_format.specs.Blocks.{IsBlock, block_size, block_writes, blocks_decoder, blocks_from, blocks_size, blocks_writes}
-
--- ---- what is written
-
-size-is : (count : ℕ) → 0 < count → block_size count ≡ count
-size-is count some = rw (ne_eqb count 0 (λ none. omega (arith, some, none))) refl
-
-from-suc : (o : Order) (n : ℕ) (found : List (List ℕ)) → blocks_from o (suc n) found
-    ≡ and_then (unsigned_decoder o 64 8) (λ size. if size == 0 then pure found
-    else and_then (vec_decoder o size) (λ bytes. and_then (stores (found ++ bytes ∷ [])) (λ more. blocks_from o n more)))
-unfolding blocks_from
-from-suc o n found = refl
-
-module _ (o : Order) where
-  from-back : (xs : List (List ℕ)) → AllByRecursion IsBlock xs → (n : ℕ) (found : List (List ℕ)) → length xs < n
-      → RoundTrip (blocks_from o n found) (blocks_writes o xs) (found ++ xs)
-  from-back xs fits zero found less = absurd (omega (arith, less))
-  from-back [] fits (suc n) found less =
-      rw (from-suc o n found, append-nil found)
-      (unsigned-back o 8 [] found 64 0 _ refl (omega arith) (pure-back found))
-  from-back (x ∷ xs) fits (suc n) found less =
-      let rest : RoundTrip (blocks_from o n (found ++ x ∷ [])) (blocks_writes o xs) (found ++ x ∷ xs) =
-      rw (← append_assoc found (x ∷ []) xs) (from-back xs fits.1 n (found ++ x ∷ []) (omega (arith, less))) in
-      let next = part-back (stores (found ++ x ∷ [])) (λ more. blocks_from o n more) [] (blocks_writes o xs) (found ++ x ∷ [])
-      (found ++ x ∷ xs) (λ len p more. refl) rest in
-      let bytes = vec-back (blocks_writes o xs) (found ++ x ∷ xs) o (length x) x
-      (λ bytes. and_then (stores (found ++ bytes ∷ [])) (λ more. blocks_from o n more)) refl fits.0.fits next in
-      let few = fits.0.few in
-      rw (from-suc o n found, size-is (length x) fits.0.some)
-      (unsigned-back o 8 (buffer o x ∷ blocks_writes o xs) (found ++ x ∷ xs) 64 (length x) _ refl few
-      (rw (ne_eqb (length x) 0 (λ none. let some = fits.0.some in omega (arith, some, none))) bytes))
-
-  pub blocks-back : (xs : List (List ℕ)) → All IsBlock xs → length xs < 4294967296
-      → RoundTrip (blocks_decoder o) (blocks_writes o xs) xs
-  blocks-back xs fits few = from-back xs (recursion_from_All _ xs fits) 4294967296 [] few
-
-  packs-from : (xs : List (List ℕ)) → AllByRecursion IsBlock xs → Packs (blocks_writes o xs) (blocks_size xs)
-  packs-from [] fits = packs-is (packs-more (unsigned-written o 64 8 0 refl (omega arith)) packs-none) (omega arith)
-  packs-from (x ∷ xs) fits =
-      let few = fits.0.few in
-      rw (size-is (length x) fits.0.some)
-      (packs-is (packs-more (unsigned-written o 64 8 (length x) refl few) (packs-more (bytes-written o (length x) x refl)
-      (packs-from xs fits.1))) (omega arith))
-
-  -- it is accepted, and has so many bits
-  pub blocks-packs : (xs : List (List ℕ)) → All IsBlock xs → Packs (blocks_writes o xs) (blocks_size xs)
-  blocks-packs xs fits = packs-from xs (recursion_from_All _ xs fits)
+use Rattle.bitstream_format.specs.Blocks.{block_writes, blocks_decoder, blocks_from, blocks_writes}
+use Rattle.bitstream_format.specs.BlocksLaws.{blocks_from-suc}
 
 -- ---- what the loop in code returns
 
@@ -96,7 +48,7 @@ module _ {R : Type 0} {K : BitSource R} where
     pub blocks-stop : (x : Error) (z : R) → count < 4294967296 → Reads K (unsigned_decoder K.order 64 8) t (Err x) z
         → GrowingOutcome K (blocks_decoder K.order) s (Err x) z
     blocks-stop x z less h =
-        step (Err x) z less (rw (from-suc K.order (4294967296 - (count + 1)) found) (grows-and_then-err _ _ (by_reads h)))
+        step (Err x) z less (rw (blocks_from-suc K.order (4294967296 - (count + 1)) found) (grows-and_then-err _ _ (by_reads h)))
 
     module _ (size : ℕ) (z : R) (less : count < 4294967296) (read : Reads K (unsigned_decoder K.order 64 8) t (Ok size) z) where
       after_size : (r : Result (List (List ℕ)) Error) (end : R)
@@ -105,7 +57,7 @@ module _ {R : Type 0} {K : BitSource R} where
           (λ more. blocks_from K.order (4294967296 - (count + 1)) more))) z r end
           → GrowingOutcome K (blocks_decoder K.order) s r end
       after_size r end h =
-          step r end less (rw (from-suc K.order (4294967296 - (count + 1)) found) (grows-and_then-ok _ _ (by_reads read) h))
+          step r end less (rw (blocks_from-suc K.order (4294967296 - (count + 1)) found) (grows-and_then-ok _ _ (by_reads read) h))
 
       -- the empty block
       pub blocks-end : (size == 0) ≡ true → GrowingOutcome K (blocks_decoder K.order) s (Ok found) z

@@ -1,5 +1,5 @@
 -- Checksums: after more bytes, that they fit their bits, and the steps of the loops in code.
-use Rattle.std.proofs.Common.{add-one, ◌≡◌, ◌∙◌, ℕ, zero, suc, ◌+◌, ◌-◌, ◌*◌, ◌/◌, ◌%◌, ◌^◌, ◌<◌, ◌≤◌, ◌==◌, Bool, true, false, List, [], ◌∷◌, ◌++◌, length, take, get_or, inl, inr, refl, sym, ap, subst, arith}
+use Rattle.std.proofs.Common.{add-one, ◌≡◌, ◌∙◌, ℕ, zero, suc, ◌+◌, ◌-◌, ◌*◌, ◌/◌, ◌%◌, ◌^◌, ◌<◌, ◌≤◌, ◌==◌, Bool, true, false, List, [], ◌∷◌, ◌++◌, length, take, get_or, inl, inr, refl, sym, ap, subst, arith, length-append}
 use Rattle.std.specs.Prelude.{if◌then◌else◌, nat_lt, bit_xor}
 use Rattle.std.proofs.lemmas.List.{length-take-le, take_more}
 use Rattle.std.proofs.lemmas.Nat.{xor_lt}
@@ -7,7 +7,7 @@ use Rattle.std.proofs.Math.Nat.{mul-le-mul_right}
 use Rattle.std.proofs.lemmas.Bool.{cases_lt, eq-eqb, lt-ltb, le-ltb}
 use Rattle.bitstream_io.specs.Callers.{Decoder, Encoder}
 use Rattle.bitstream_io.proofs.CallerLemmas.{RoundTrip}
-use Rattle.bitstream_format.specs.Checks.{crc16_ccitt, crc16_kermit, crc16_low_state, crc16_state, crc16_x25, crc32, crc32_mpeg, crc32_mpeg_state, crc32_state, crc_over, end_around, high_step, low_step, place16, steps, sum16, sum16_state}
+use Rattle.bitstream_format.specs.Checks.{crc16_ccitt, crc16_kermit, crc16_low_state, crc16_state, crc16_x25, crc24_adsb, crc32, crc32_mpeg, crc32_mpeg_state, crc32_state, crc_over, end_around, high_step, low_step, place16, steps, sum16, sum16_state}
 
 -- ---- after more bytes
 
@@ -49,6 +49,19 @@ module _ (step : ℕ → ℕ) (scale : ℕ) where
   unfolding crc_over
   over-none crc = refl
 
+  -- the state of a checksum that starts, and of one that takes more bytes
+  pub over-started : (first : ℕ) → first ∷ [] ≡ crc_over step scale first [] ∷ []
+  over-started first = ap (λ crc. crc ∷ []) (over-none first)
+
+  pub over-taken : (first a b : ℕ) (xs ys : List ℕ) → a ∷ [] ≡ crc_over step scale first xs ∷ []
+      → b ≡ crc_over step scale a ys → b ∷ [] ≡ crc_over step scale first (xs ++ ys) ∷ []
+  over-taken first a b xs ys one two =
+      let same : a ≡ crc_over step scale first xs = cc in
+      ap (λ crc. crc ∷ []) (over-then first a b xs ys same two)
+
+pub one-state : (a b : ℕ) → a ∷ [] ≡ b ∷ [] → a ≡ b
+one-state a b is = cc
+
 pub steps-none : (step : ℕ → ℕ) (crc : ℕ) → crc ≡ steps step 0 crc
 unfolding steps
 steps-none step crc = refl
@@ -77,6 +90,37 @@ sum-none sum at = refl
 pub sum-then : (first at a b : ℕ) (xs ys : List ℕ) → a ≡ sum16_state first at xs → b ≡ sum16_state a (at + length xs) ys
     → b ≡ sum16_state first at (xs ++ ys)
 sum-then first at a b xs ys one two = two ∙ ap (λ s. sum16_state s (at + length xs) ys) one ∙ sym (sum-append first at xs ys)
+
+-- only the place of the first byte counts, even or odd
+sum-place : (sum p q : ℕ) (xs : List ℕ) → p % 2 ≡ q % 2 → sum16_state sum p xs ≡ sum16_state sum q xs
+unfolding sum16_state
+sum-place sum p q [] same = refl
+sum-place sum p q (x ∷ xs) same =
+    ap (λ k. sum16_state (end_around sum (if k == 0 then 256 * x else x)) (p + 1) xs) same
+    ∙ sum-place (end_around sum (place16 q x)) (p + 1) (q + 1) xs (omega (arith, same))
+
+pub first-state : (a b c d : ℕ) → a ∷ b ∷ [] ≡ c ∷ d ∷ [] → a ≡ c
+first-state a b c d is = cc
+
+second-state : (a b c d : ℕ) → a ∷ b ∷ [] ≡ c ∷ d ∷ [] → b ≡ d
+second-state a b c d is = cc
+
+pub sum-started : 0 ∷ 0 ∷ [] ≡ sum16_state 0 0 [] ∷ 0 ∷ []
+unfolding sum16_state
+sum-started = refl
+
+pub sum-taken : (sum place new behind : ℕ) (xs ys : List ℕ)
+    → sum ∷ place ∷ [] ≡ sum16_state 0 0 xs ∷ length xs % 2 ∷ [] → new ≡ sum16_state sum place ys
+    → behind ≡ (place % 2 + length ys % 2) % 2
+    → new ∷ behind ∷ [] ≡ sum16_state 0 0 (xs ++ ys) ∷ length (xs ++ ys) % 2 ∷ []
+sum-taken sum place new behind xs ys was is at =
+    let one = first-state _ _ _ _ was in
+    let here = second-state _ _ _ _ was in
+    let same : place % 2 ≡ (0 + length xs) % 2 = omega (arith, here) in
+    let whole = sum-then 0 0 sum new xs ys one (is ∙ sum-place sum place (0 + length xs) ys same) in
+    let long = length-append xs ys in
+    let parity : behind ≡ length (xs ++ ys) % 2 = omega (arith, here, at, long) in
+    ap (λ s. s ∷ behind ∷ []) whole ∙ ap (λ k. sum16_state 0 0 (xs ++ ys) ∷ k ∷ []) parity
 
 pub sum-push : (first at sum next k : ℕ) (xs : List ℕ) (i d : ℕ) → i < length xs → k ≡ (at + i) % 2
     → sum ≡ sum16_state first at (take i xs)
@@ -128,6 +172,11 @@ crc32-small bytes =
 pub crc32_mpeg-small : (bytes : List ℕ) → crc32_mpeg bytes < 2 ^ 32
 crc32_mpeg-small bytes =
     over-fits 32 (high_step 0x80000000 0x04C11DB7) (high-keeps 32 0x80000000 0x04C11DB7 refl (omega arith)) 0x1000000 (omega arith) bytes 0xFFFFFFFF (omega arith)
+
+pub crc24_adsb-small : (bytes : List ℕ) → crc24_adsb bytes < 2 ^ 24
+crc24_adsb-small bytes =
+    let all = over-fits 32 (high_step 0x80000000 0xFFF40900) (high-keeps 32 0x80000000 0xFFF40900 refl (omega arith)) 0x1000000 (omega arith) bytes 0 (omega arith) in
+    omega (arith, all)
 
 pub crc16_ccitt-small : (bytes : List ℕ) → crc16_ccitt bytes < 2 ^ 16
 crc16_ccitt-small bytes =

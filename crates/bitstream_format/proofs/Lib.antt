@@ -1,10 +1,13 @@
 mod DhcpLemmas
 mod Rows
 mod ChecksRows
+mod SummedRows
 pub mod WithinLemmas
 pub mod FilledLemmas
 pub mod StatedLemmas
 pub mod UntilLemmas
 pub mod BlocksLemmas
+pub mod UpToLastLemmas
 pub mod RestLemmas
 pub mod ChecksLemmas
+pub mod SummedLemmas

@@ -1,5 +1,5 @@
--- Formats of one call: bits, numbers and bytes. Import them as a module, as in `atom.unsigned 32 20 refl`: the names are those
--- of the calls.
+-- Formats of one line: bits, numbers and bytes, and bytes up to what ends them. Import them as a module, as in
+-- `atom.unsigned 32 20 refl`: most names are those of calls.
 use Rattle.std.proofs.Common.{◌≡◌, ℕ, ◌-◌, ◌*◌, ◌^◌, ◌<◌, Bool, true, ℤ, List, [], ◌∷◌, length, Option}
 use Rattle.std.specs.Prelude.{nat_le, nat_lt}
 use Rattle.std.specs.List.{All}
@@ -9,12 +9,17 @@ use Rattle.std.specs.declared.num.NonZeroU16.{NonZeroU16}
 use Rattle.std.specs.declared.num.NonZeroU32.{NonZeroU32}
 use Rattle.std.specs.declared.num.NonZeroU64.{NonZeroU64}
 use Rattle.std.specs.declared.num.NonZeroU128.{NonZeroU128}
+use Rattle.std.proofs.lemmas.Bool.{ltb-true}
 use Rattle.bitstream_count.specs.Unary.{unary as unary_bits}
 use Rattle.bitstream_io.specs.Callers.{FitsSignedBits, bit_decoder, unsigned_decoder, signed_decoder, bytes_decoder, unary_decoder, skip_decoder, option_decoder, if_any, number_or_zero, bit, buffer, zeros, unary_word}
 use Rattle.bitstream_io.specs.Callers as call
 use Rattle.bitstream_value.specs.NonZero.{non_zero_decoder}
 use Rattle.bitstream_io.proofs.CallerLemmas.{bit-written, unsigned-written, signed-written, bytes-written, zeros-written, unary-written, non_zero-written, non_zero_u8-again, non_zero_u16-again, non_zero_u32-again, non_zero_u64-again, option_u8-again, option_u16-again, option_u32-again, option_u64-again, non_zero_u128-again, option_u128-again, unsigned-accepted, signed-accepted, non_zero-accepted}
 pub use Rattle.bitstream_format.specs.Groups.{groups, signed_groups, ue, se}
+use Rattle.bitstream_format.specs.Until.{IsUnended, until_decoder, until_size, until_writes}
+use Rattle.bitstream_format.specs.UntilLaws.{until-back, until-packs}
+use Rattle.bitstream_format.specs.Blocks.{IsBlock, blocks_decoder, blocks_size, blocks_writes}
+use Rattle.bitstream_format.specs.BlocksLaws.{blocks-back, blocks-packs}
 use Rattle.bitstream_format.specs.Format.{Plain, none_if, none_if-true}
 use Rattle.bitstream_format.specs.AtomLaws.{one-packs, bool-goes, unsigned-goes, signed-goes, bytes-goes, skip-goes, unary-goes, non_zero-goes, option-goes}
 
@@ -163,3 +168,29 @@ option_u64 = option call.non_zero_u64 non_zero_u64_get option_u64-again 64
 -- a `NonZero<u128>` or none in n bits: 0 is none
 abbrev pub option_u128 : (n : ℕ) → nat_le n 128 ≡ true → Plain (Option NonZeroU128)
 option_u128 = option call.non_zero_u128 non_zero_u128_get option_u128-again 128
+
+-- bytes up to the first `stop`, which is no item
+abbrev pub until : (stop : ℕ) → nat_lt stop 256 ≡ true → Plain (List ℕ)
+until stop small = record {
+  read = λ o. until_decoder o stop;
+  write = λ o xs. until_writes o stop xs;
+  size = until_size;
+  facts = λ xs. IsUnended stop xs ∷ (length xs < 2 ^ 32) ∷ [];
+  round_trip = λ o xs fits. until-back o stop (ltb-true stop 256 small) xs fits.0 fits.1;
+  packs = λ o xs fits. until-packs o stop (ltb-true stop 256 small) xs fits.0;
+  besides = λ xs. IsUnended stop xs ∷ (length xs < 2 ^ 32) ∷ [];
+  accepted = λ o xs at fits all. fits;
+}
+
+-- blocks of bytes up to an empty one, which is no item
+abbrev pub blocks : Plain (List (List ℕ))
+blocks = record {
+  read = blocks_decoder;
+  write = blocks_writes;
+  size = blocks_size;
+  facts = λ xs. All IsBlock xs ∷ (length xs < 2 ^ 32) ∷ [];
+  round_trip = λ o xs fits. blocks-back o xs fits.0 fits.1;
+  packs = λ o xs fits. blocks-packs o xs fits.0;
+  besides = λ xs. All IsBlock xs ∷ (length xs < 2 ^ 32) ∷ [];
+  accepted = λ o xs at fits all. fits;
+}

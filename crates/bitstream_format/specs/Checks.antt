@@ -29,6 +29,10 @@ crc32_state crc bytes = crc_over (low_step 0xEDB88320) 1 crc bytes
 abbrev pub crc32_mpeg_state : ℕ → List ℕ → ℕ
 crc32_mpeg_state crc bytes = crc_over (high_step 0x80000000 0x04C11DB7) 0x1000000 crc bytes
 
+-- that of the CRC-24 of Mode S, in the highest 24 of 32 bits; the others are 0
+abbrev pub crc24_state : ℕ → List ℕ → ℕ
+crc24_state crc bytes = crc_over (high_step 0x80000000 0xFFF40900) 0x1000000 crc bytes
+
 -- that of a CRC-16
 abbrev pub crc16_state : ℕ → List ℕ → ℕ
 crc16_state crc bytes = crc_over (high_step 0x8000 0x1021) 0x100 crc bytes
@@ -45,6 +49,11 @@ crc32 bytes = bit_xor (crc32_state 0xFFFFFFFF bytes) 0xFFFFFFFF
 -- the CRC-32 of MPEG-2 sections (ISO/IEC 13818-1, annex A): by the same polynomial, from all ones
 abbrev pub crc32_mpeg : List ℕ → ℕ
 crc32_mpeg bytes = crc32_mpeg_state 0xFFFFFFFF bytes
+
+-- the CRC-24 of Mode S replies and ADS-B messages (ICAO annex 10, volume IV, 3.1.2.3.3): by x^24 + x^23 + x^22 + x^21 +
+-- x^20 + x^19 + x^18 + x^17 + x^16 + x^15 + x^14 + x^13 + x^12 + x^10 + x^3 + 1, from 0
+abbrev pub crc24_adsb : List ℕ → ℕ
+crc24_adsb bytes = crc24_state 0 bytes / 256
 
 -- the CRC-16 of CCSDS frames (132.0-B, 4.1.6): by x^16 + x^12 + x^5 + 1, from all ones
 abbrev pub crc16_ccitt : List ℕ → ℕ

@@ -1,6 +1,8 @@
 pub mod AtomLaws
 pub mod Format
 pub mod Atoms
+pub mod UpToLast
+pub mod UpToLastLaws
 pub mod Lists
 pub mod Cases
 pub mod Groups
@@ -15,7 +17,10 @@ pub mod SizeLaws
 pub mod Chosen
 pub mod Measured
 pub mod Until
+pub mod UntilLaws
 pub mod Blocks
+pub mod BlocksLaws
 pub mod Checks
+pub mod Summed
 pub mod Places
 pub mod Examples

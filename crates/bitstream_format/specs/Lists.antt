@@ -1,5 +1,6 @@
--- Arrays, counted lists, parts that may be missing, values that are made of other values, and errors of another type.
-use Rattle.std.proofs.Common.{◌≡◌, ℕ, ◌+◌, ◌*◌, ◌∙◌, ◌<◌, Bool, List, [], ◌∷◌, ◌++◌, length, Option, Some, None, Result, Ok, Err, refl, subst, ap, arith}
+-- Arrays, lists that are counted or end at their last part, parts that may be missing, values that are made of other values,
+-- and errors of another type.
+use Rattle.std.proofs.Common.{◌≡◌, ℕ, ◌+◌, ◌*◌, ◌∙◌, ◌<◌, ◌≤◌, Bool, List, [], ◌∷◌, ◌++◌, length, Option, Some, None, Result, Ok, Err, refl, subst, ap, arith}
 use Rattle.std.specs.Prelude.{flat_map, is_some}
 use Rattle.std.specs.List.{All}
 use Rattle.std.specs.Option.{ForSome}
@@ -12,6 +13,8 @@ use Rattle.bitstream_io.proofs.CallsBack.{items-read, parts-read, mapped-read, t
 use Rattle.bitstream_io.proofs.CallerLemmas.{RoundTrip, Packs, part-back, pure-back, optional-back, packs-parts, packs-optional, bytes-written, packs-is, accepted-first, accepted-second}
 use Rattle.bitstream_format.specs.AtomLaws.{bytes-goes, one-packs}
 use Rattle.bitstream_format.specs.Format.{Format, AllOf, Fits, Plain, Own, Part}
+use Rattle.bitstream_format.specs.UpToLast.{EndsOnce, up_to_last_decoder}
+use Rattle.bitstream_format.specs.UpToLastLaws.{up_to_last-back}
 
 -- ---- laws
 
@@ -53,6 +56,11 @@ pub parts-goes : {A E : Type 0} (F : Own E A) (o : Order) (n : ℕ) (xs : List A
 parts-goes F o n xs is fit =
     subst (λ (k : ℕ). RoundTrip (parts_decoder (F.read o) k) (flat_map (F.write o) xs) (Ok xs)) is
     (record { back = parts-read (F.read o) (F.write o) xs (read_each F o xs fit) })
+
+pub up_to_last-goes : {A E : Type 0} (last : A → Bool) (F : Own E A) (o : Order) (xs : List A) → All (λ x. Fits F x) xs
+    → EndsOnce last xs → length xs ≤ 4294967296
+    → RoundTrip (up_to_last_decoder (F.read o) last) (flat_map (F.write o) xs) (Ok xs)
+up_to_last-goes last F o xs fit once few = up_to_last-back (F.read o) (F.write o) last xs once few (read_each F o xs fit)
 
 module _ {A B : Type 0} (o : Order) (there : Bool) (x : Option A) (es : List Encoder) where
   pub optional-round_trip : (F : Plain A) (f : Option A → Decoder B) (b : B) → is_some x ≡ there
@@ -173,6 +181,19 @@ even_array n w F same = record (array n F) {
   size = λ xs. n * w;
   packs = λ o xs fits.
       packs-is (packs_each F o xs fits.1) (parts_size-even F.size w same xs ∙ ap (λ (k : ℕ). k * w) fits.0);
+}
+
+-- parts up to the first one that is the last, which is kept
+abbrev pub up_to_last : {A E : Type 0} → (A → Bool) → Own E A → Own E (List A)
+up_to_last last F = record {
+  read = λ o. up_to_last_decoder (F.read o) last;
+  write = λ o xs. flat_map (F.write o) xs;
+  size = λ xs. parts_size F.size xs;
+  facts = λ xs. All (λ x. Fits F x) xs ∷ EndsOnce last xs ∷ (length xs ≤ 4294967296) ∷ [];
+  round_trip = λ o xs fits. up_to_last-goes last F o xs fits.0 fits.1.0 fits.1.1;
+  packs = λ o xs fits. packs_each F o xs fits.0;
+  besides = λ xs. All (λ x. Fits F x) xs ∷ EndsOnce last xs ∷ (length xs ≤ 4294967296) ∷ [];
+  accepted = λ o xs at fits all. fits;
 }
 
 -- ---- parts

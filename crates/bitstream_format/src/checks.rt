@@ -1,6 +1,6 @@
 //! Checksums, as `./format` prints calls to them. A function takes the state after the bytes before, and returns the
 //! one after more bytes.
-ghost use Rattle.bitstream_format.specs.Checks.{bytes1, bytes2, bytes4, crc16_low_state, crc16_state, crc32_mpeg_state, crc32_state, end_around, high_step, low_step, place16, steps, sum16_state};
+ghost use Rattle.bitstream_format.specs.Checks.{bytes1, bytes2, bytes4, crc16_low_state, crc16_state, crc24_state, crc32_mpeg_state, crc32_state, end_around, high_step, low_step, place16, steps, sum16_state};
 ghost use Rattle.std.specs.Prelude.{◌≡◌};
 
 /// Returns the state of a CRC-32 in the opposite order, as in Ethernet, PNG and gzip, after more bytes. The first
@@ -31,7 +31,19 @@ pub fn crc32_mpeg_more(crc: u32, bytes: &[u8]) -> u32
 {
     let mut crc = crc;
     for byte in bytes {
-        crc = mpeg_byte(crc ^ u32::from(*byte) * 0x100_0000);
+        crc = high_byte(0x04c1_1db7, crc ^ u32::from(*byte) * 0x100_0000);
+    }
+    crc
+}
+
+/// Returns the state of the CRC-24 of Mode S after more bytes: the highest 24 bits are the remainder, and the others
+/// are 0. The first state is 0.
+pub fn crc24_more(crc: u32, bytes: &[u8]) -> u32
+    ensures { result ≡ crc24_state crc bytes.now }
+{
+    let mut crc = crc;
+    for byte in bytes {
+        crc = high_byte(0xfff4_0900, crc ^ u32::from(*byte) * 0x100_0000);
     }
     crc
 }
@@ -127,23 +139,23 @@ fn low_byte16(crc: u16) -> u16
     crc
 }
 
-/// Returns a remainder after one step by the polynomial of MPEG-2.
-fn mpeg_step(crc: u32) -> u32
-    ensures { result ≡ high_step 0x80000000 0x04C11DB7 crc }
+/// Returns a remainder after one step.
+fn high_step(polynomial: u32, crc: u32) -> u32
+    ensures { result ≡ high_step 0x80000000 polynomial crc }
 {
     if crc < 0x8000_0000 {
         return 2 * crc;
     }
-    2 * (crc - 0x8000_0000) ^ 0x04c1_1db7
+    2 * (crc - 0x8000_0000) ^ polynomial
 }
 
-/// Returns a remainder after a byte was added to it, by the polynomial of MPEG-2.
-fn mpeg_byte(crc: u32) -> u32
-    ensures { result ≡ steps (high_step 0x80000000 0x04C11DB7) 8 crc }
+/// Returns the remainder after a byte was added to it.
+fn high_byte(polynomial: u32, crc: u32) -> u32
+    ensures { result ≡ steps (high_step 0x80000000 polynomial) 8 crc }
 {
     let mut crc = crc;
     for _ in 0..8_u32 {
-        crc = mpeg_step(crc);
+        crc = high_step(polynomial, crc);
     }
     crc
 }

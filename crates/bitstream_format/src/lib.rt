@@ -19,6 +19,7 @@
 //! - `Stated`, `Varint`: sizes in units, with [`stated`], and the numbers of QUIC, with [`varint`]
 //! - `Until`, `Blocks`, `Checks`: bytes up to a terminator, with [`until`], blocks of bytes, with [`blocks`], and
 //!   checksums, with [`checks`]; [`rest`] counts the bytes after a head
+//! - `Summed`: checksums of lines of any kind, with [`summed`], by the types of [`checksums`]
 //! - `Places`: formats of a fixed width, in which each field has a fixed place among the bits
 //!
 //! The [`examples`] are eight formats written by hand.
@@ -26,9 +27,11 @@
 
 pub mod blocks;
 pub mod checks;
+pub mod checksums;
 pub mod examples;
 pub mod rest;
 pub mod stated;
+pub mod summed;
 pub mod until;
 pub mod varint;
 pub mod within;

@@ -10,4 +10,4 @@ pub loop-byte-preserved : goal.loop-byte-preserved
 loop-byte-preserved c =
     let small : slice_index_or c.args.bytes.now c.loop-byte.byte-index 0 < 256 = (c.type_inv.bytes c.loop-byte.byte-index).fits in
     over-byte (high_step 0x80000000 0x04C11DB7) 0x1000000 c.args.crc c.loop-byte.crc _ c.args.bytes.now c.loop-byte.byte-index 0 _ c.loop-byte-test.true
-    c.loop-byte.invariant small (omega arith) c.mpeg_byte-crc.ensures
+    c.loop-byte.invariant small (omega arith) c.high_byte-crc.ensures

@@ -1,7 +1,7 @@
 use Rattle.std.proofs.Common.{◌≡◌}
 use Rattle.bitstream_format.specs.Checks.{high_step, steps}
-use Rattle.bitstream_format.proofs.checks.mpeg_byte.Given as goal
+use Rattle.bitstream_format.proofs.checks.high_byte.Given as goal
 
 -- the remainder after the steps so far
 abbrev pub invariant-loop : goal.invariant-loop
-invariant-loop l = l.crc ≡ steps (high_step 0x80000000 0x04C11DB7) l.counter l.crc-2
+invariant-loop l = l.crc ≡ steps (high_step 0x80000000 l.polynomial) l.counter l.crc-2
