@@ -4,17 +4,21 @@ from __future__ import annotations
 from dataclasses import dataclass, field
 from pathlib import Path
 from random import Random
+from typing import Callable, Sequence, TypeAlias
 
 from describing import model as m
 from describing.input import Value
 from describing.parse import beside, parsed
-from describing.write import Record
+from describing.write import Bits, Record, Unfit, is_last, put_record
 
 # Names of fields, among them words that the printed code, specs and proofs use themselves.
 NAMES = """
 alpha beta gamma data value length bits from at more result reader number order first second word take part items kind
 state flags source target index total_size delta level writer sink count_of zeros_left plain x y o fits order error
 """.split()
+
+
+Adds: TypeAlias = Callable[["Sheet"], None]
 
 
 @dataclass
@@ -27,8 +31,8 @@ class Sheet:
     order: str
     depth: int
     lists: bool
-    # True if the last line has the bytes to the end.
-    to_end: bool = False
+    # The last line, if it has the bytes to the end.
+    rest: str = ""
     lines: list[str] = field(default_factory=list)
     later: list[str] = field(default_factory=list)
     names: list[str] = field(default_factory=list)
@@ -36,8 +40,8 @@ class Sheet:
     # The earlier fields that a condition may ask for, with the values that it may name.
     asked: list[tuple[str, list[str], bool]] = field(default_factory=list)
     enums: list[tuple[str, int]] = field(default_factory=list)
-    # The earlier numbers that may select a case, with their widths.
-    selectors: list[tuple[str, int]] = field(default_factory=list)
+    # The earlier fields that may select a case, with their numbers.
+    selectors: list[tuple[str, Sequence[int]]] = field(default_factory=list)
 
     @property
     def type(self) -> str:
@@ -63,13 +67,19 @@ class Sheet:
         """Adds a line, and sometimes one that waits for it."""
         self.lines.append(line)
 
-    def part(self, lists: bool) -> str:
-        """Draws the description of a part, and returns `TYPE of MODULE`."""
+    def part(self, lists: bool, wide: bool = False) -> str:
+        """Draws the description of a part, which has 8 known bits if it must be wide, and returns `TYPE of MODULE`."""
+        return self.drawn_part(lists, wide)[0]
+
+    def drawn_part(self, lists: bool, wide: bool = False) -> tuple[str, Sheet]:
+        """Draws the description of a part, and returns `TYPE of MODULE` with the lines that were drawn."""
         module = f"{self.module.split('_')[0]}_{chr(ord('a') + len(self.others))}"
         self.others[module] = ""
         inner = Sheet(self.draw, module, self.others, self.order, self.depth - 1, lists and self.lists)
+        if wide:
+            inner.add(f"{inner.name()} i8 8")
         self.others[module] = description(inner, self.draw.randint(1, 3))
-        return f"{inner.type} of {module}"
+        return f"{inner.type} of {module}", inner
 
 
 def integer(draw: Random, signed: bool | None = None, most: int = 128) -> tuple[str, int]:
@@ -85,32 +95,37 @@ def cases(sheet: Sheet, width: int) -> str:
     count = most if most <= 4 and draw.random() < 0.4 else draw.randint(1, min(4, most - 1))
     numbers = sorted(draw.sample(range(min(most, 1 << 30)), count))
     named = [f"{number} Case{index}" for index, number in enumerate(numbers)]
-    if count < most and draw.random() < 0.4:
+    if count < most and draw.random() < 0.5:
         named.append(".. Other")
     return ", ".join(named)
 
 
+SIMPLE = tuple("bool number number signed nonzero option array bytes const any enum enums".split())
+
+
 def simple(sheet: Sheet) -> None:
     """Adds a line whose width is a constant."""
+    constant(sheet, sheet.draw.choice(SIMPLE))
+
+
+def constant(sheet: Sheet, what: str) -> None:
+    """Adds such a line of a kind."""
     draw = sheet.draw
-    what = draw.choice(
-        ("bool", "number", "number", "signed", "nonzero", "option", "array", "bytes", "const", "any", "enum", "enums")
-    )
     match what:
         case "bool":
             sheet.add(f"{(name := sheet.name())} bool")
             sheet.asked.append((name, [], False))
-        case "number" | "signed":
-            base, width = integer(draw, what == "signed")
+        case "number" | "signed" as found:
+            base, width = integer(draw, found == "signed")
             sheet.add(f"{(name := sheet.name())} {base} {width}")
-            if what == "number":
+            if base[0] == "u":
                 values = [str(draw.randrange(min(1 << width, 9))) for _ in range(2)]
                 sheet.asked.append((name, values, True))
-                sheet.selectors += [(name, width)] * (width <= 16)
-        case "nonzero" | "option":
+                sheet.selectors += [(name, range(1 << width))] * (width <= 16)
+        case "nonzero" | "option" as found:
             base, width = integer(draw, False)
             size = int(base[1:])
-            sheet.add(f"{sheet.name()} {what} {base} {min(width, size - (what == 'nonzero'))}")
+            sheet.add(f"{sheet.name()} {found} {base} {min(width, size - (found == 'nonzero'))}")
         case "array":
             base, width = integer(draw)
             sheet.add(f"{sheet.name()} {base} {width} x {draw.randint(1, 5)}")
@@ -136,7 +151,7 @@ def simple(sheet: Sheet) -> None:
 def enum(sheet: Sheet) -> None:
     """Adds an enum, or a field of an earlier one."""
     draw, name = sheet.draw, sheet.name()
-    if sheet.enums and draw.random() < 0.4:
+    if sheet.enums and draw.random() < 0.5:
         kind, width = draw.choice(sheet.enums)
         sheet.add(f"{name} enum {kind} {width}")
         return
@@ -144,38 +159,54 @@ def enum(sheet: Sheet) -> None:
     said = cases(sheet, width)
     sheet.add(f"{name} enum {kind} {width}: {said}")
     sheet.enums.append((kind, width))
+    if ".." not in said:
+        sheet.selectors.append((name, [int(it.split()[0]) for it in said.split(", ")]))
     sheet.asked.append((name, [it.split()[1] for it in said.split(", ") if it[0] != "."], False))
 
 
 def varying(sheet: Sheet) -> None:
     """Adds a number whose width varies."""
     draw = sheet.draw
-    match draw.choice(("unary", "vbr", "leb128", "ue", "se", "varint")):
+    name, signed = sheet.name(), draw.random() < 0.3
+    match draw.choice(("unary", "vbr", "leb128", "ue", "varint")):
         case "unary":
-            sheet.add(f"{sheet.name()} unary {draw.randint(0, 1)}")
+            said, signed = f"unary {draw.randint(0, 1)}", False
         case "vbr":
-            base, _ = integer(draw)
-            sheet.add(f"{sheet.name()} vbr {draw.randint(2, 7)} {base}{' any' * (draw.random() < 0.5)}")
+            base, _ = integer(draw, signed)
+            said = f"vbr {draw.randint(2, 7)} {base}{' any' * (draw.random() < 0.5)}"
         case "leb128":
-            base = draw.choice(("u16", "u32", "u64", "i16", "i32", "u128"))
-            sheet.add(f"{sheet.name()} leb128 {base}")
+            said = f"leb128 {'ui'[signed]}{draw.choice((16, 32, 64, 128))}"
         case "varint":
-            sheet.add(f"{sheet.name()} varint quic")
-        case golomb:
-            sheet.add(f"{sheet.name()} {golomb}")
+            said, signed = "varint quic", False
+        case _:
+            said = ("ue", "se")[signed]
+    sheet.add(f"{name} {said}")
+    if not signed:
+        sheet.asked.append((name, [str(draw.randrange(5)) for _ in range(2)], True))
 
 
-def optional(sheet: Sheet) -> None:
-    """Adds a part that may be there, by a flag or by a condition."""
-    draw, name = sheet.draw, sheet.name()
-    if not sheet.asked or draw.random() < 0.5:
+def condition(draw: Random, asked: str, values: list[str], whole: bool) -> str:
+    """Returns a condition that asks for a field."""
+    how = draw.choice(("==", "!=", "<", ">=") if whole else ("==", "!="))
+    return f"{asked} {how} {draw.choice(values)}" if values else asked
+
+
+def part(sheet: Sheet) -> None:
+    """Adds a part that is there, or one that may be there, by a flag or by a condition."""
+    draw = sheet.draw
+    how = draw.choice(("there", "flag", "if", "if"))
+    while how == "if" and not sheet.asked:
+        constant(sheet, draw.choice(("bool", "number", "enum")))
+    name = sheet.name()
+    if how == "there":
+        sheet.add(f"{name} {sheet.part(lists=True)}")
+        return
+    if how == "flag":
         sheet.add(f"flag {name}")
-        sheet.later.append(f"option {name} {sheet.part(lists=False)}")
+        sheet.later.append(f"option {name} {sheet.part(lists=True)}")
         return
     asked, values, whole = draw.choice(sheet.asked)
-    how = draw.choice(("==", "!=", "<", ">=") if whole else ("==", "!="))
-    condition = f"{asked} {how} {draw.choice(values)}" if values else asked
-    sheet.add(f"if {condition} {name} {sheet.part(lists=False)}")
+    sheet.add(f"if {condition(draw, asked, values, whole)} {name} {sheet.part(lists=True)}")
 
 
 def listed(sheet: Sheet) -> None:
@@ -184,36 +215,45 @@ def listed(sheet: Sheet) -> None:
     sheet.add(f"count {name} {draw.randint(1, 9)}")
     width = draw.randint(1, 9)
     base, bits = integer(draw)
-    items = ["bytes", f"{base} {bits}", f"enum {sheet.new('Kind')} {width}: {cases(sheet, width)}"]
-    if sheet.depth:
-        items.append(sheet.part(lists=False))
-    sheet.later.append(f"list {name} {draw.choice(items)}")
+    match draw.choice(("bytes", "numbers", "enum", "enum", *["parts"] * (sheet.depth > 0))):
+        case "bytes":
+            item = "bytes"
+        case "numbers":
+            item = f"{base} {bits}"
+        case "enum":
+            item = f"enum {sheet.new('Kind')} {width}: {cases(sheet, width)}"
+        case _:
+            item = sheet.part(lists=True)
+    sheet.later.append(f"list {name} {item}")
 
 
-def arms(sheet: Sheet, width: int, octets: bool) -> str:
-    """Returns the cases of a choice."""
-    draw, most = sheet.draw, 1 << width
-    numbers = draw.sample(range(most), draw.randint(1, min(3, most)))
+def arms(sheet: Sheet, among: Sequence[int], octets: bool) -> str:
+    """Returns the cases of a choice by one of some numbers."""
+    draw = sheet.draw
+    numbers = draw.sample(among, draw.randint(1, min(3, len(among))))
     said = []
     for index, number in enumerate(sorted(numbers)):
         said.append(f"{number} Arm{index}" + (f" {sheet.part(lists=True)}" if draw.random() < 0.6 else ""))
-    if len(numbers) < most and draw.random() < 0.5:
-        said.append(".. Else bytes" if octets and draw.random() < 0.6 else ".. Else")
+    if len(numbers) < len(among) and draw.random() < 0.5:
+        said.append(".. Else bytes" if octets and draw.random() < 0.8 else ".. Else")
     return ", ".join(said)
 
 
 def choice(sheet: Sheet) -> None:
     """Adds a tag, and later the choice that it selects, which may have a size; or a choice by an earlier number."""
-    draw, name, width = sheet.draw, sheet.name(), sheet.draw.randint(1, 8)
-    if sheet.selectors and draw.random() < 0.4:
-        by, width = sheet.selectors.pop()
-        sheet.add(f"choose {name} {sheet.new('Choice')} by {by}: {arms(sheet, width, False)}")
+    draw, width, by = sheet.draw, sheet.draw.randint(1, 8), sheet.draw.random() < 0.4
+    while by and not sheet.selectors:
+        constant(sheet, draw.choice(("number", "enum")))
+    name = sheet.name()
+    if by:
+        field, among = sheet.selectors.pop()
+        sheet.add(f"choose {name} {sheet.new('Choice')} by {field}: {arms(sheet, among, False)}")
         return
-    sized = sheet.lists and draw.random() < 0.4
+    sized = sheet.lists and draw.random() < 0.5
     sheet.add(f"tag {name} {width}")
     if sized:
         sheet.add(f"size {name} {draw.choice((8, 12, 16))}")
-    said = arms(sheet, width, sized)
+    said = arms(sheet, range(1 << width), sized)
     sheet.later.append(f"choose {name} {sheet.new('Choice')}{f' sized {sheet.error()}' * sized}: {said}")
 
 
@@ -221,21 +261,19 @@ def sized(sheet: Sheet) -> None:
     """Adds a size, and later what has it."""
     draw, name = sheet.draw, sheet.name()
     width = draw.choice((8, 12, 16, 20))
-    match draw.choice(("part", "bytes", "bytes", "fill")):
+    match draw.choice(("part", "bytes", "bytes", "bytes", "fill")):
         case "part":
             sheet.add(f"size {name} {width}")
             sheet.later.append(f"sized {name} {sheet.part(lists=True)} {sheet.error()}")
         case "fill":
             sheet.add(f"size {name} {width}")
-            sheet.later.append(f"fill {name} {sheet.part(lists=False)} {sheet.error()}")
+            sheet.later.append(f"fill {name} {sheet.part(lists=True, wide=True)} {sheet.error()}")
         case _:
             sign, unit = draw.choice(("", "", "plus", "less")), draw.choice(("", "", " by 2", " by 4"))
-            more = f" {sign} {draw.randint(1, 20)}" if sign else ""
-            sheet.add(
-                f"size {name} "
-                + (draw.choice(("varint quic", "8", "16")) if not sign and not unit else f"{width}{more}{unit}")
-            )
-            sheet.later.append(f"sized {name} bytes" + (f" {sheet.error()}" if sign == "plus" else ""))
+            stored = f"{width}{f' {sign} {draw.randint(1, 20)}' * bool(sign)}{unit}"
+            sheet.add(f"size {name} {'varint quic' if draw.random() < 0.25 else stored}")
+            error = f" {sheet.error()}" if " plus " in sheet.lines[-1] else ""
+            sheet.later.append(f"sized {name} bytes{error}")
 
 
 def ended(sheet: Sheet) -> None:
@@ -243,6 +281,28 @@ def ended(sheet: Sheet) -> None:
     until = sheet.draw.random() < 0.5
     name = sheet.name()
     sheet.add(f"until {name} bytes {sheet.draw.choice((0, 10, 255))}" if until else f"blocks {name}")
+
+
+def to_end(sheet: Sheet) -> None:
+    """Adds the bytes, or the parts, to the end as the last line."""
+    parts = sheet.draw.random() < 0.4
+    if parts:
+        constant(sheet, "const")
+    sheet.rest = f"rest {sheet.name()} {sheet.part(lists=False, wide=True) if parts else 'bytes'}"
+
+
+def up_to_last(sheet: Sheet) -> None:
+    """Adds parts up to the last one, or one part if none of its fields can be tested."""
+    name, (part, inner) = sheet.name(), sheet.drawn_part(lists=True)
+    text = sheet.others[inner.module].split("\n")
+    lists = [
+        it.split()[1]
+        for it in text
+        if it.startswith(("list ", "blocks ")) or it.startswith("until ") and " if " not in it
+    ]
+    tests = [condition(sheet.draw, *it) for it in inner.asked] + [f"empty {it}" for it in lists]
+    said = " or ".join(sheet.draw.sample(tests, sheet.draw.randint(1, min(2, len(tests))))) if tests else ""
+    sheet.add(f"until {name} {part} if {said}" if said else f"{name} {part}")
 
 
 def summed(sheet: Sheet) -> None:
@@ -256,32 +316,54 @@ def summed(sheet: Sheet) -> None:
     if not names or draw.random() < 0.6:
         names.append(sheet.name())
         lines.append(f"{names[-1]} bytes {draw.randint(1, 5)}")
-    check = f"check {draw.choice(list(m.SUMS))} over {' '.join(names)} {sheet.error()}"
+    sums = [it for it in m.SUMS if not any(one.startswith(f"check {it} ") for one in sheet.lines)]
+    check = f"check {draw.choice(sums)} over {' '.join(names)} {sheet.error()}"
     lines.insert(draw.randint(0, len(lines)), check)
     for line in lines:
         sheet.add(line)
 
 
-def description(sheet: Sheet, count: int) -> str:
-    """Draws a description of some lines, and returns its text without the rows."""
+def summed_lines(sheet: Sheet) -> None:
+    """Adds lines that have whole bytes together, with their checksum, which may stand among them."""
+    draw, first, last = sheet.draw, sheet.name(), sheet.name()
+    width = draw.randint(1, 15)
+    middle = draw.choice(("", "any 8", f"const 8 {draw.randrange(256)} {sheet.error()}"))
+    lines = [f"{first} u16 {width}", *[middle] * bool(middle), f"{last} u32 {-width % 8 + 8}"]
+    over = f"all to {last}" if not sheet.lines else f"{first} to {last}"
+    check = f"check {draw.choice(list(m.SUMS))} over {over} {sheet.error()}"
+    lines.insert(draw.randint(0, len(lines)), check)
+    for line in lines:
+        sheet.add(line)
+
+
+# The functions that add a line, each with what it needs: parts, and lists.
+LINES: dict[Adds, str] = {
+    simple: "",
+    varying: "",
+    part: "parts",
+    listed: "lists",
+    choice: "parts",
+    sized: "parts lists",
+    ended: "lists",
+}
+LINES |= {summed: "parts", up_to_last: "parts lists", summed_lines: "parts"}
+
+
+def description(sheet: Sheet, count: int, first: Adds = simple) -> str:
+    """Draws a description of some lines, the first one by a function, and returns its text without the rows."""
     draw = sheet.draw
-    kinds = [simple, simple, simple, varying]
-    kinds += [optional] * (sheet.depth > 0)
-    kinds += [listed] * sheet.lists
-    kinds += [choice] * (sheet.depth > 0)
-    kinds += [sized] * (sheet.lists and sheet.depth > 0)
-    kinds += [ended] * sheet.lists + [summed] * (sheet.depth > 0)
-    if sheet.to_end:
-        kinds = [simple]
-    for _ in range(count):
-        draw.choice(kinds)(sheet)
+    there = {"parts": sheet.depth > 0, "lists": sheet.lists}
+    kinds = [it for it, needs in LINES.items() if all(there[one] for one in needs.split())]
+    first(sheet)
+    for _ in range(count - 1):
+        add: Adds = simple if sheet.rest or draw.random() < 0.3 else draw.choice(kinds)
+        add(sheet)
         while sheet.later and draw.random() < 0.5:
             sheet.add(sheet.later.pop(draw.randrange(len(sheet.later))))
     if not sheet.names:
         sheet.add(f"{sheet.name()} bool")
     draw.shuffle(sheet.later)
-    rest = [f"rest {sheet.name()} bytes"] * sheet.to_end
-    lines = [*sheet.lines, *sheet.later, *rest]
+    lines = [*sheet.lines, *sheet.later, *[sheet.rest] * bool(sheet.rest)]
     head = [f"struct {sheet.type}: A record.", f"order {sheet.order}"]
     return "\n".join([*head, *lines, ""])
 
@@ -299,9 +381,9 @@ def number(draw: Random, least: int, most: int) -> int:
     )
 
 
-def case_value(draw: Random, enum_type: m.EnumType) -> Value:
-    """Returns a case."""
-    names = enum_type.names()
+def case_value(draw: Random, enum_type: m.EnumType, choice: m.Choose | None = None) -> Value:
+    """Returns a case, one that a choice knows if it is by this enum."""
+    names = [it for it in enum_type.names() if choice is None or choice.arm(enum_type.number(it) or 0)]
     found = draw.choice(names)
     if found != enum_type.other:
         return found
@@ -354,13 +436,14 @@ def number_of(kind: m.Kind, value: Value) -> int:
 
 def field_value(draw: Random, it: m.Described, said: m.Description, found: Record) -> Value:
     """Returns the value of a field, which goes with the fields before it."""
+    choice = next((one for one in said.fields if isinstance(one, m.Choose) and one.by == it.name), None)
     match it:
         case m.Bool():
             return draw.random() < 0.5
         case m.MaybeNonZero():
             return number(draw, 0, it.integer.most) or None
         case m.Enum():
-            return case_value(draw, it.enum)
+            return case_value(draw, it.enum, choice)
         case m.Array():
             return many_values(draw, it.item, it.count)
         case m.Unary():
@@ -378,16 +461,34 @@ def field_value(draw: Random, it: m.Described, said: m.Description, found: Recor
             return record(draw, use.description)
         case m.Until():
             return bytes(byte for byte in draw.randbytes(draw.choice((0, 1, 2, 5))) if byte != it.stop)
+        case m.UpToLast():
+            return parts_up_to_last(draw, it)
         case m.Blocks():
             return [draw.randbytes(draw.choice((1, 2, 5))) for _ in range(draw.choice((0, 1, 2)))]
-        case m.List() | m.Fill() | m.Sized() | m.Rest():
+        case m.Rest(item=m.Use() as use):
+            return whole_parts(draw, use.description)
+        case m.Sized():
+            size = next(one for one in said.kinds if isinstance(one, m.Size) and one.target == it.name)
+            least = -(-max(size.plus, 0) // size.unit)
+            return draw.randbytes((least + draw.choice((0, 1, 2, 4))) * size.unit - size.plus)
+        case m.List() | m.Fill() | m.Rest():
             item = it.use if isinstance(it, m.Fill) else it.item
             return many_values(draw, item, draw.choice((0, 1, 2, 4)))
-    choice = next((one for one in said.fields if isinstance(one, m.Choose) and one.by == it.name), None)
     if choice and draw.random() < (0.8 if choice.other else 1):
         return draw.choice([one.number for one in choice.arms if one.number is not None])
     least, most = m.range_of(it) or (0, 0)
     return number(draw, least, most)
+
+
+def whole_parts(draw: Random, said: m.Description) -> Value:
+    """Returns some records, which together have whole bytes."""
+    for _ in range(40):
+        found, bits = [record(draw, said) for _ in range(draw.choice((0, 1, 2, 4)))], Bits(said.order)
+        for it in found:
+            put_record(bits, said, it)
+        if bits.count % 8 == 0:
+            return [*found]
+    return []
 
 
 def chosen_value(draw: Random, it: m.Choose, said: m.Description, found: Record) -> Value:
@@ -396,12 +497,33 @@ def chosen_value(draw: Random, it: m.Choose, said: m.Description, found: Record)
     return selected(draw, it, None if asked is None or asked is it else number_of(asked, found[it.by]))
 
 
-def record(draw: Random, said: m.Description) -> Record:
-    """Returns the fields of a record."""
+def record(draw: Random, said: m.Description, fixed: Record | None = None) -> Record:
+    """Returns the fields of a record, some of which may be fixed."""
     found: Record = {}
     for it in said.fields:
-        found[it.name] = field_value(draw, it, said, found)
+        known = fixed or {}
+        found[it.name] = known[it.name] if it.name in known else field_value(draw, it, said, found)
     return found
+
+
+def parts_up_to_last(draw: Random, it: m.UpToLast) -> Value:
+    """Returns parts of which the last one, and no other one, passes a test."""
+    said, test = it.use.description, draw.choice(it.tests)
+    drawn = [record(draw, said) for _ in range(draw.choice((0, 1, 3)))]
+    others: list[Value] = [one for one in drawn if not is_last(it, one)]
+    asked = next(one for one in said.fields if one.name == test.field)
+    fixed: Value = True
+    if test.how == "empty":
+        fixed = b"" if isinstance(m.held_item(asked), m.Octet) else []
+    elif test.how in ("==", ">="):
+        fixed = test.asked if isinstance(asked, m.Enum) else test.value
+    while test.how in ("!=", "<"):
+        last = record(draw, said)
+        if is_last(it, last):
+            return [*others, last]
+        if draw.random() < 0.01:
+            raise Unfit(f"no part passes {test.condition}")
+    return [*others, record(draw, said, {test.field: fixed})]
 
 
 # ---- whole descriptions
@@ -410,23 +532,25 @@ def record(draw: Random, said: m.Description) -> Record:
 def drawn(draw: Random, module: str, folder: Path) -> dict[str, str]:
     """Draws a description and those of its parts, and returns their texts by their modules, the parts first."""
     others: dict[str, str] = {}
-    sheet = Sheet(draw, module, others, draw.choice(("BE", "BE", "LE")), draw.randint(0, 2), draw.random() < 0.7)
-    sheet.to_end = draw.random() < 0.1
-    text = description(sheet, draw.randint(2, 6))
+    order, first = draw.choice(("BE", "BE", "LE")), draw.choice([*LINES, sized, to_end, to_end])
+    sheet = Sheet(
+        draw, module, others, order, draw.randint(1, 2), draw.random() < 0.7 or "lists" in LINES.get(first, "")
+    )
+    text = description(sheet, draw.randint(2, 6), first)
     found: dict[str, str] = {}
     for name, said in [*reversed(others.items()), (module, text)]:
-        found[name] = closed(said, str(folder / f"{name}.fields"), name)
+        found[name] = closed(said, str(folder / f"{name}.fields"), name, draw.random() < 0.5)
         (folder / f"{name}.fields").write_text(found[name], encoding="utf-8")
     return found
 
 
-def closed(text: str, path: str, module: str) -> str:
-    """Adds the line of the error, if bits are refused, and fills the last byte of a constant width."""
+def closed(text: str, path: str, module: str, align: bool) -> str:
+    """Adds the line of the error, if bits are refused, and fills the last byte of a constant width, if `align` by that."""
     said = parsed(text, beside(path, (module,), lambda it: None))
     if any(m.error(it) for it in said.kinds):
         text = text.replace("\n", f"\nerror {said.name}Error\n", 1)
     bits = m.total([it for it in said.kinds if not isinstance(it, m.Rest)])
     if bits is not None and bits % 8:
         head, rest, tail = text.partition("\nrest ")
-        text = f"{head.rstrip()}\nany {-bits % 8}{rest or chr(10)}{tail}"
+        text = f"{head.rstrip()}\n{'align' if align else f'any {-bits % 8}'}{rest or chr(10)}{tail}"
     return text

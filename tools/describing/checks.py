@@ -31,7 +31,7 @@ def check(it: m.Description, names: bool = True) -> None:
     if it.error and not any(m.error(kind) for kind in it.kinds):
         why = f"no line refuses bits, so there is no `{it.error}`: leave this line out"
         raise Refused(why, it.heads["error"])
-    if it.bits is not None and it.bits % 8:
+    if it.whole and it.bits is not None and it.bits % 8:
         ends = f"end with `any {-it.bits % 8}`, or with `align`"
         raise Refused(f"the fields have {it.bits} bits, which are no whole bytes: {ends}")
     if not it.fields:
@@ -64,7 +64,8 @@ def check_sum_name(it: m.Description, kind: m.Kind) -> None:
     """Refuses a field with a name that code has for a checksum, or for the number of bytes of the rest."""
     sums = [one.word for one in it.kinds if isinstance(one, m.Check)]
     rests = [f"{one.name}_bytes" for one in it.kinds if isinstance(one, m.Rest)]
-    if m.is_field(kind) and kind.name in (*sums, *(f"is_{one}" for one in sums)):
+    words = [it.format(one) for one in sums for it in ("{}", "is_{}", "{}_sum", "{}_writes")]
+    if m.is_field(kind) and kind.name in words:
         raise Refused(f"`{kind.name}` is the name of the checksum: take another name", kind.at)
     if m.is_field(kind) and kind.name in rests:
         raise Refused(f"`{kind.name}` is the number of bytes of the rest: take another name", kind.at)
@@ -96,7 +97,7 @@ def check_target(it: m.Description, index: int, kind: m.Kind) -> None:
         case _:
             return
     if not found:
-        raise Refused(f"no `{word} {name}` behind it", kind.at)
+        raise Refused(f"no `{word} {name}` after it", kind.at)
 
 
 def fits_words(kind: m.Kind) -> list[tuple[str, set[str]]]:
@@ -112,6 +113,9 @@ def fits_words(kind: m.Kind) -> list[tuple[str, set[str]]]:
             return [(kind.name, {"value", "number_or_zero", f"non_zero_{kind.integer.base}_get"})]
         case m.Until() | m.Blocks():
             return [(kind.name, {"value"}), (f"{kind.name}_most", {"value", "length"})]
+        case m.UpToLast():
+            name, last = kind.name, f"{kind.name}_last"
+            return [(name, {"value"}), (f"{name}_once", {"value", last}), (f"{name}_most", {"value", "length"})]
         case m.Array() | m.List() | m.Rest() | m.Fill():
             return many_words(kind)
         case m.Enum(enum=enum) if enum.other:

@@ -134,7 +134,7 @@ def given(kind: m.Described, said: str) -> Value:
             return chosen(kind, said)
         case m.Sized(item=m.Use() as use):
             return part(name, use, said)
-        case m.Fill(use=use):
+        case m.Fill(use=use) | m.UpToLast(use=use):
             return many(name, use, said, None)
         case m.Blocks():
             return [hexed(name, it) for it in listed(name, said, "[[DE AD] [BE]]")]

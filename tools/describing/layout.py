@@ -16,6 +16,7 @@ MOST_BYTES = 1 << 60  # of a size: their bits have a number of 64 bits
 UNPRINTED = "`--show` and `--pack` know this line, but no code is printed for it yet"
 OVERFLOW = ("VariableWidthOverflow", "if a number of variable width has more bits than its type")
 UNENDED = ("RunTooLong", "if what ends bytes is not among the first 2^32")
+ENDLESS = ("RunTooLong", "if the last part is not among the first 2^32")
 REDUNDANT = ("RedundantGroup", "if a number ends in a group of 0 behind others")
 
 
@@ -27,7 +28,7 @@ class Line:
     `repeats` is true if an earlier line defines its enum. `inner` are the lines of a part, `shared` the cases of its
     enum whose names something else has in specs. `arms` are the cases of a choice, each with the line of the part that it
     holds; `choice` is the choice whose tag it is, `measures` the line whose size it is, and `size` the line that has its
-    own size. `covers` are the fields of a checksum.
+    own size. `covers` are the fields of a checksum of fields of whole bytes.
     """
 
     kind: m.Printed
@@ -85,7 +86,13 @@ class Line:
         """True if its read may return an error of the format's own, after which nothing is read."""
         if self.measured:
             return True
-        return bool(self.error) or isinstance(self.kind, m.Part | m.Choose) and m.allocates(self.kind)
+        return self.own or isinstance(self.kind, m.Part | m.Choose) and m.allocates(self.kind)
+
+    @property
+    def own(self) -> bool:
+        """True if it may be rejected, or if it is a list or an optional part whose parts allocate: its read has own errors."""
+        many = isinstance(self.kind, m.List | m.Optional | m.If) and self.use
+        return bool(self.error or many and m.allocating(many)) or isinstance(self.kind, m.UpToLast)
 
     @property
     def measured(self) -> m.Measured | None:
@@ -109,7 +116,7 @@ class Line:
             case m.Array() | m.List() | m.Sized() | m.Rest():
                 return not isinstance(self.kind.item, m.Octet)
         return m.is_varint(self.kind) or isinstance(
-            self.kind, m.Golomb | m.Part | m.Optional | m.If | m.Choose | m.Fill | m.Until | m.Blocks
+            self.kind, m.Golomb | m.Part | m.Optional | m.If | m.Choose | m.Fill | m.Until | m.UpToLast | m.Blocks
         )
 
     def least(self, at: int = 0) -> int:
@@ -149,7 +156,7 @@ def is_value(kind: m.Kind) -> bool:
     """Returns true if a line is a value with its laws."""
     numbers = (m.Number, m.NonZero, m.MaybeNonZero, m.Enum, m.Unary, m.Groups, m.Golomb, m.Varint)
     given = (m.Const, m.Skip, m.Flag, m.Count, m.Tag, m.Size)
-    many = (m.Array, m.List, m.Part, m.Optional, m.If, m.Choose, m.Sized, m.Fill)
+    many = (m.Array, m.List, m.Part, m.Optional, m.If, m.Choose, m.Sized, m.Fill, m.Until, m.UpToLast, m.Blocks, m.Rest)
     parts = all(all_values(use.description.kinds) for use in m.uses(kind))
     return isinstance(kind, (m.Bool, *numbers, *given, *many)) and parts
 
@@ -163,6 +170,8 @@ def reader_errors(kinds: Iterable[m.Kind]) -> Iterator[tuple[str, str]]:
             yield REDUNDANT
         if isinstance(it, m.Until | m.Blocks):
             yield UNENDED
+        if isinstance(it, m.UpToLast):
+            yield ENDLESS
         for use in m.uses(it):
             yield from reader_errors(use.description.kinds)
 
@@ -258,14 +267,10 @@ def check_printed(description: m.Description, kind: m.Printed) -> None:
         case m.Size(varint=True):
             if not is_octets(measured_by(description, kind)):
                 raise Refused(f"{UNPRINTED}: a size by `varint quic` is printed for bytes", kind.at)
-        case m.Check():
-            check_covered(description, kind)
         case m.Rest():
             check_rest(description, kind)
         case m.Size() if kind.most >= MOST_BYTES:
             raise Refused(f"{UNPRINTED}: a size of fewer than 2^60 bytes is printed", kind.at)
-        case m.Optional() | m.If() | m.List() if any(m.ordered(use.description) for use in m.uses(kind)):
-            raise Refused("a part with sizes stands neither in a list nor behind a condition", kind.at)
     for use in m.uses(kind):
         if m.open_ended(use.description):
             raise Refused(f"{UNPRINTED}: `{use.module}` reads to the end of the bytes", kind.at)
@@ -290,37 +295,14 @@ def check_rest(description: m.Description, kind: m.Rest) -> None:
 
 
 def covered(description: m.Description, kind: m.Kind) -> tuple[m.Kind, ...]:
-    """Returns the fields of a checksum, in its order."""
+    """Returns the fields of a checksum, in its order, if they have whole bytes; for one of other lines no field."""
     check = kind.check if isinstance(kind, m.Verify) else kind
-    over = check.over if isinstance(check, m.Check) else ()
-    return tuple(it for name in over for it in description.fields if it.name == name)
-
-
-def check_covered(description: m.Description, kind: m.Check) -> None:
-    """Refuses a checksum of fields that are neither bytes nor numbers of whole bytes."""
-    covers = covered(description, kind)
-    for it in covers:
-        octets = isinstance(it, m.Array | m.List | m.Sized | m.Until | m.Rest) and isinstance(it.item, m.Octet)
-        if not octets and not (is_whole(it) and description.order == "BE"):
-            why = f"in code a checksum covers bytes, and numbers and cases of 8, 16 or 32 bits, and `{m.label(it)}` is none"
-            raise Refused(f"{UNPRINTED}: {why}", kind.at)
-    if kind.sum == "sum16" and not all(is_whole(it) for it in covers[:-1]):
-        raise Refused(f"{UNPRINTED}: in code bytes are the last field of a `sum16`", kind.at)
+    return tuple(m.covered(description.kinds, check)) if isinstance(check, m.Check) and not check.lines else ()
 
 
 def least_bits(use: m.Use) -> int:
     """Returns the number of bits of the lines of a part that have a constant width."""
     return sum(m.bits(it) or 0 for it in use.description.kinds)
-
-
-def is_whole(kind: m.Kind) -> bool:
-    """Returns true for an unsigned number, or a case, that has all bits of a type of 8, 16 or 32 bits."""
-    match kind:
-        case m.Number(integer=whole):
-            return whole.base == f"u{whole.width}" and whole.width <= 32
-        case m.Enum(enum=enum):
-            return enum.width in (8, 16, 32)
-    return False
 
 
 def check_octets(kind: m.Sized, size: m.Size | None) -> None:
@@ -350,6 +332,12 @@ def shared_cases(description: m.Description) -> set[str]:
     return {it for it in cases if it in TAKEN or names.count(it) > 1}
 
 
+def in_pieces(lines: tuple[Line, ...]) -> list[tuple[Line, ...]]:
+    """Splits lines into those of each function."""
+    each = EACH if len(lines) > LONG else len(lines)
+    return [lines[k : k + each] for k in range(0, len(lines), each)]
+
+
 # ---- the whole format
 
 
@@ -363,7 +351,8 @@ class Format:
         self.type, self.doc, self.error = description.name, description.doc, description.error
         self.order, self.o = description.order, ORDERS[description.order]
         self.checks = [it.kind for it in self.lines if isinstance(it.kind, m.Check)]
-        self.total = None if self.checks else description.bits
+        self.summed = [it for it in self.checks if it.lines]
+        self.total = description.bits if description.whole and not self.checks else None
         self.rest = next((it for it in description.kinds if isinstance(it, m.Rest)), None)
         self.given = [given_line(self.rest)] if self.rest else []
         self.grows = any(m.allocates(it.kind) for it in self.lines)  # the read allocates memory
@@ -408,8 +397,16 @@ class Format:
 
     def pieces(self) -> list[tuple[Line, ...]]:
         """Returns the lines that each function reads and writes."""
-        each = EACH if len(self.lines) > LONG else len(self.lines)
-        return [self.lines[k : k + each] for k in range(0, len(self.lines), each)]
+        head = self.lines[: len(self.lines) - len(self.summed)]
+        *found, last = in_pieces(head)
+        return [*found, last + self.lines[len(head) :]]
+
+    def covered(self, check: m.Check) -> list[tuple[Line, ...]]:
+        """Returns the lines of a checksum, in its order, that each function writes; zeros stand for itself."""
+        of = {it.kind.at: it for it in self.written}
+        zeros = Line(m.Skip(check.at, "", check.width, False), -1, None, "", False, ())
+        covers = m.covered(self.description.kinds, check)
+        return in_pieces(tuple(zeros if it.at == check.at else of[it.at] for it in covers))
 
     def entry_parts(self) -> list[list[Line]]:
         """Returns the lines of each definition of the reads: one ends with a piece, or after a line that stops."""
@@ -430,12 +427,7 @@ class Format:
     def mapped(self, kind: m.Printed) -> bool:
         """Returns true if errors of a part become errors of the format."""
         for use in m.uses(kind):
-            return bool(
-                use.description.error
-                or isinstance(kind, m.Part | m.Sized | m.Fill)
-                and m.allocating(use)
-                and self.error
-            )
+            return bool(use.description.error or m.allocating(use) and self.error)
         return False
 
     def is_first(self, line: Line) -> bool:

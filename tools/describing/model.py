@@ -258,14 +258,54 @@ class If(Field):
 
     def holds(self, number: int) -> bool:
         """Returns true if the condition holds for the number of the field."""
-        match self.how:
-            case "!=":
-                return number != self.value
-            case "<":
-                return number < self.value
-            case ">=":
-                return number >= self.value
-        return number == self.value
+        return compared(number, self.how, self.value)
+
+
+def compared(number: int, how: str, value: int) -> bool:
+    """Returns true if a number compares with a value as `how` states."""
+    match how:
+        case "!=":
+            return number != value
+        case "<":
+            return number < value
+        case ">=":
+            return number >= value
+    return number == value
+
+
+@dataclass(frozen=True, slots=True)
+class Test:
+    """FIELD, FIELD == VALUE, empty FIELD: a test of a field of a part.
+
+    `how` is as for `If`, or `empty`. `inner` is the tested field of the part that a case of the choice `field` holds, if the
+    test is spelled `empty FIELD.FIELD`.
+    """
+
+    field: str
+    how: str
+    value: int = 1
+    asked: str = ""
+    inner: str = ""
+
+    @property
+    def condition(self) -> str:
+        """The test as it is spelled."""
+        if self.how == "empty":
+            return f"empty {self.field}{f'.{self.inner}' * bool(self.inner)}"
+        return f"{self.field} {self.how} {self.asked}".strip()
+
+
+@dataclass(frozen=True, slots=True)
+class UpToLast(Field):
+    """until NAME TYPE of MODULE if TEST [or TEST]: parts up to the first that passes a test, which is the last one."""
+
+    use: Use
+    tests: tuple[Test, ...]
+
+    @property
+    def condition(self) -> str:
+        """The condition of the last part, as it is spelled."""
+        return " or ".join(it.condition for it in self.tests)
 
 
 @dataclass(frozen=True, slots=True)
@@ -412,16 +452,32 @@ class Blocks(Field):
 
 
 # The bits of each checksum.
-SUMS = {"sum16": 16, "crc32": 32, "crc32-mpeg": 32, "crc16-ccitt": 16, "crc16-x25": 16, "crc16-kermit": 16}
+SUMS = {
+    "sum16": 16,
+    "crc32": 32,
+    "crc32-mpeg": 32,
+    "crc24-adsb": 24,
+    "crc16-ccitt": 16,
+    "crc16-x25": 16,
+    "crc16-kermit": 16,
+}
 
 
 @dataclass(frozen=True, slots=True)
 class Check(Line):
-    """check SUM over FIELD.. ERROR: the checksum of the bytes of these fields, which may stand behind this line."""
+    """check SUM over FIELD.. ERROR: the checksum of the bytes of these fields, which may stand behind this line.
+
+    check SUM over all [to LAST] ERROR, check SUM over FIRST to LAST ERROR: of the bytes of all lines from FIRST, or the
+    first one, to LAST, or to this one. Then `over` has FIRST and LAST, or empty texts, and `span` is true. If it stands
+    among them itself, it counts as zeros. `lines` is true for a checksum of the bits of its lines, of any kind: it is
+    tested behind the last line of the description.
+    """
 
     sum: str
     over: tuple[str, ...]
     error: str
+    span: bool = False
+    lines: bool = False
 
     @property
     def width(self) -> int:
@@ -433,26 +489,64 @@ class Check(Line):
         """The name of the checksum in code."""
         return self.sum.replace("-", "_")
 
+    @property
+    def type(self) -> str:
+        """The name of the checksum as a type."""
+        return self.sum.title().replace("-", "")
+
+    @property
+    def type_bits(self) -> int:
+        """The bits of the type that holds its number in code."""
+        return 32 if self.lines else self.width
+
 
 @dataclass(frozen=True, slots=True)
 class Verify(Line):
-    """The test of a `check`, which has no bits: the parser puts it behind the last field of the check."""
+    """The test of a `check`, which has no bits: the parser puts it behind the last field of the check, or at the end."""
 
     check: Check
 
 
 Described: TypeAlias = (
     Bool | Number | NonZero | MaybeNonZero | Enum | Array | Unary | Groups | Golomb | Varint | Part | Optional | If | List
-    | Sized | Fill | Choose | Rest | Until | Blocks
+    | Sized | Fill | Choose | Rest | Until | UpToLast | Blocks
 )  # fmt: skip
 Hidden: TypeAlias = Const | Skip | Flag | Count | Tag | Size | Check | Verify
 Kind: TypeAlias = Described | Hidden
 # The kinds of which code is printed.
 Printed: TypeAlias = (
     Bool | Number | NonZero | MaybeNonZero | Enum | Array | Unary | Groups | Golomb | Varint | Part | Optional | If | List
-    | Const | Skip | Flag | Count | Tag | Choose | Size | Sized | Fill | Until | Rest | Blocks | Check | Verify
+    | Const | Skip | Flag | Count | Tag | Choose | Size | Sized | Fill | Until | UpToLast | Rest | Blocks | Check | Verify
 )  # fmt: skip
 Measured: TypeAlias = Sized | Choose | Fill
+
+
+def covered(kinds: tuple[Kind, ...], check: Check) -> list[Kind]:
+    """Returns the lines of a checksum, in its order; zeros stand for the checksum itself."""
+    if not check.span:
+        return [next(it for it in kinds if is_field(it) and it.name == name) for name in check.over]
+    named = {it.name: index for index, it in enumerate(kinds) if is_field(it)}
+    own = next(index for index, it in enumerate(kinds) if isinstance(it, Check) and it.at == check.at)
+    first, last = check.over
+    found = kinds[named[first] if first else 0 : named[last] + 1 if last else own]
+    return [
+        Skip(it.at, "", check.width, False) if it is kinds[own] else it for it in found if not isinstance(it, Verify)
+    ]
+
+
+def is_whole(kind: Kind) -> bool:
+    """Returns true for an unsigned number, or a case, that has all bits of a type of 8, 16 or 32 bits."""
+    match kind:
+        case Number(integer=whole):
+            return whole.base == f"u{whole.width}" and whole.width <= 32
+        case Enum(enum=enum):
+            return enum.width in (8, 16, 32)
+    return False
+
+
+def is_bytes(kind: Kind) -> bool:
+    """Returns true for a field that is bytes."""
+    return isinstance(kind, Array | List | Sized | Until | Rest) and isinstance(kind.item, Octet)
 
 
 def is_field(kind: Kind) -> TypeGuard[Described]:
@@ -480,6 +574,7 @@ class Description:
     kinds: tuple[Kind, ...]
     heads: Mapping[str, Position] = field(default_factory=dict)
     examples: tuple[Example, ...] = ()
+    whole: bool = True  # whether it has whole bytes if its number of bits is constant
 
     @property
     def fields(self) -> list[Described]:
@@ -578,7 +673,7 @@ def held_item(kind: Kind) -> Item | None:
             return kind.enum
         case Array() | List() | Rest() | Until() | Sized():
             return kind.item
-        case Part() | Optional() | If() | Fill():
+        case Part() | Optional() | If() | Fill() | UpToLast():
             return kind.use
     return None
 
@@ -605,7 +700,7 @@ def refusals(kind: Kind) -> list[tuple[str, str]]:
 
 def grows(kind: Kind) -> bool:
     """Returns true if the value of a line allocates memory."""
-    if isinstance(kind, List | Fill | Rest | Until | Blocks):
+    if isinstance(kind, List | Fill | Rest | Until | UpToLast | Blocks):
         return True
     if isinstance(kind, Choose):
         return any(isinstance(it.held, Octet) or isinstance(it.held, Use) and has_list(it.held) for it in kind.arms)
@@ -682,7 +777,7 @@ def rust_type(kind: Described) -> str:
             return kind.type
         case Sized():
             return kind.item.name if isinstance(kind.item, Use) else "Vec<u8>"
-        case Fill():
+        case Fill() | UpToLast():
             return f"Vec<{kind.use.name}>"
         case List() | Rest() | Until():
             return f"Vec<{item_type(kind.item)}>"

@@ -6,11 +6,11 @@ from typing import TypeAlias
 
 Table: TypeAlias = dict[str, str]  # the names of each module, with blanks between them
 
-SYMBOLS = {it: f"◌{it}◌" for it in "≡ ≢ ∷ ++ ^ < ≤ + - * / ∙ == ⊎ ↔ &".split()}
+SYMBOLS = {it: f"◌{it}◌" for it in "≡ ≢ ∷ ++ ^ < ≤ + - * / ∙ == ⊎ ↔ & ||".split()}
 SYMBOLS |= {"[]": "[]", "if": "if◌then◌else◌", "←": "◌>>=◌"}
 # The letters \ue000 to \ue0ff are those of hidden names (`renamed.py`).
 LETTER = r"(?:[^\W\d]|[\ue000-\ue0ff])"
-TOKEN = re.compile(rf"\+\+|==|\[\]|{LETTER}(?:\w|{LETTER})*(?:-[^\W\d]\w*)*(?:-\d+)?|\S")
+TOKEN = re.compile(rf"\+\+|==|\|\||\[\]|{LETTER}(?:\w|{LETTER})*(?:-[^\W\d]\w*)*(?:-\d+)?|\S")
 
 
 def spec_of(module: str) -> str:
@@ -27,7 +27,7 @@ def table(text: str) -> Table:
 # In specs, and in the contracts of code.
 SPECS = table(
     """
-Rattle.std.specs.Prelude: ≡ ≢ ^ < ≤ + - * / ++ ∷ [] == ⊎ if ℕ ℤ Bool true false List Result Ok Err Option Some None
+Rattle.std.specs.Prelude: ≡ ≢ ^ < ≤ + - * / ++ ∷ [] == ⊎ || if ℕ ℤ Bool true false List Result Ok Err Option Some None
     is_some length take drop map ⊤ IfOk IsOk unsigned_abs not nat_lt nat_le
 Rattle.std.specs.List: All flat_map
 Rattle.std.specs.Option: ForSome
@@ -48,7 +48,10 @@ Rattle.bitstream_io.specs.Golomb: ue_decoder ue_writes ue_size se_decoder se_wri
 Rattle.bitstream_format.specs.Varint: varint_decoder varint_writes varint_size
 Rattle.bitstream_format.specs.Until: until_decoder until_writes until_size IsUnended
 Rattle.bitstream_format.specs.Blocks: blocks_decoder blocks_writes blocks_size IsBlock
+Rattle.bitstream_format.specs.UpToLast: up_to_last_decoder EndsOnce
 Rattle.bitstream_format.specs.Checks: bytes1 bytes2 bytes4 low_step high_step sum16 crc32 crc32_mpeg crc16_ccitt crc16_x25 crc16_kermit
+    crc24_adsb
+Rattle.bitstream_format.specs.Summed: lines_sum
 Rattle.bitstream_io.specs.Grows: GrowingOutcome PartsRead
 Rattle.bitstream_io.specs.Loop: parts_size ItemsRead ItemsWritten
 Rattle.bitstream_io.specs.SliceMut: HoldsFirst written_bytes
@@ -63,12 +66,12 @@ SPECS |= {f"Rattle.std.specs.declared.num.NonZeroU{n}": f"NonZeroU{n}" for n in 
 # In specs of a format that is a value.
 VALUES = table(
     """
-Rattle.std.proofs.Common: refl true arith
+Rattle.std.proofs.Common: refl true subst arith
 Rattle.std.proofs.lemmas.Bool: ne_eqb
 Rattle.bitstream_format.specs.Format: ← Plain=PlainFormat Own=OwnFormat Parts=FormatParts format named renamed field own_field const free sure & done
     own_done
 Rattle.bitstream_format.specs.Lists: even_array even_list own_even_list list own_list byte_list optional own_optional
-    with_error error_of own=as_own
+    with_error error_of own=as_own up_to_last
 Rattle.bitstream_format.specs.Cases: cases open_cases cases_array own_cases_array open_cases_array
 Rattle.bitstream_format.specs.Chosen: Choice=FormatChoice chosen by_size Goes=CaseGoes held-goes plain_held-goes alone-goes bytes_held-goes
 Rattle.bitstream_format.specs.Measured: varint vec Written=WrittenPart of_format of_choice of_items size_of_part stored_of_part over_bytes
@@ -77,14 +80,23 @@ Rattle.bitstream_format.specs.SizeLaws: units-again
 """
 )
 
+# In specs of a format with a checksum.
+ENUMS = table(
+    """
+Rattle.std.proofs.Common: refl true
+Rattle.bitstream_format.specs.Format: Plain=PlainFormat Own=OwnFormat
+Rattle.bitstream_format.specs.Lists: error_of
+Rattle.bitstream_format.specs.Cases: cases open_cases cases_array own_cases_array open_cases_array
+"""
+)
+
 # In proofs. A name comes from the first module that has it.
 PROOFS = table(
     """
-Rattle.std.proofs.Common: w8 w16 w32 w64 ≡ ≢ ^ < ≤ + - * / ++ ∷ [] == ⊎ ∙ ℕ ℤ Bool true false List Result Ok Err Option Some None length
+Rattle.std.proofs.Common: w8 w16 w32 w64 ≡ ≢ ^ < ≤ + - * / ++ ∷ [] == ⊎ ∙ ℕ ℤ Bool true false not List Result Ok Err Option Some None length
     refl ap sym subst arith rules
 Rattle.std.specs.Prelude: is_some if take drop pos negsuc map bit_xor
 Rattle.std.specs.Int: w128
-Rattle.std.proofs.lemmas.List.Elements: All-weaker
 Rattle.std.proofs.lemmas.Int: to_z-of_z
 borrow.Author.Rules: sfits_of
 Rattle.bitstream_io.proofs.WriteSteps: signed_value
@@ -93,34 +105,23 @@ Rattle.std.proofs.lemmas.Bool.Decides: eqb_tells
 Rattle.bitstream_io.proofs.CallerLemmas: RoundTrip Finds Packs inl inr is_error own_answered own_fields_there own_fields_short
     own_prefix_answered fields_there fields_short prefix_answered slice_ends
     packed-bits packed-accepted packed-room packed-short
-    unsigned-accepted signed-accepted non_zero-accepted items-accepted signed_items-accepted
-    accepted-first accepted-second
     next_own_read exit_own_read Reads-and_then-ok Reads-pure exit own_end plainly_read plainly_written
-    bit-back signed-back unsigned-back any_vbr-back bytes-back non_zero-back option-back skip-back unary-back vbr-back
-    pure-back items-back made-back literal-back part-back optional-back
+    unsigned-back literal-back pure-back
     bit-finds signed-finds unsigned-finds bytes-finds non_zero-finds option-finds skip-finds const-finds const-misses
     pure-finds and_then-finds items-finds made-finds part-finds part-misses
-    bit-written signed-written unsigned-written bytes-written non_zero-written const-written zeros-written
-    unary-written vbr-written packs-none packs-more packs-part packs-items packs-optional
-    packs-is packs-whole packs-parts packs-signed_items each-back signed_items-back signed_items-finds
-    own_grown_answered if_grown own_made item-read vec-back unsigned-each signed-each parts-begin parts-push parts-stop parts-refused
+    unsigned-written packs-none packs-more packs-part packs-is packs-whole signed_items-finds
+    own_grown_answered if_grown own_made item-read parts-begin parts-push parts-stop parts-refused
     items-begin items-push items-stop items-refused grown written-begin written-more written-stop
-    non_zero_u8-again non_zero_u16-again non_zero_u32-again non_zero_u64-again non_zero_u128-again
-    option_u8-again option_u16-again option_u32-again option_u64-again option_u128-again
 Rattle.bitstream_io.proofs.GrowsLemmas: go_grown stop_grown grown_end vec-grown
-Rattle.bitstream_io.proofs.EachLemmas: grown_made all-made own_map_err own_optional-back each_part-back made-each packs-made made_items-back
+Rattle.bitstream_io.proofs.EachLemmas: grown_made own_map_err
     made_items-finds part_items-finds part_items-misses all_ok-items made-put made-all made-stop
-Rattle.bitstream_io.proofs.GolombLemmas: ue-back ue-packs se-back se-packs
-Rattle.bitstream_format.specs.VarintLaws: varint-back varint-packs
-Rattle.bitstream_format.proofs.UntilLemmas: until-back until-packs
 Rattle.bitstream_format.proofs.RestLemmas: rest-back
-Rattle.bitstream_format.proofs.BlocksLemmas: blocks-back blocks-packs
 Rattle.bitstream_format.proofs.ChecksLemmas: sum16-small crc32-small crc32_mpeg-small crc16_ccitt-small crc16_x25-small crc16_kermit-small
-    over-then sum-then verified-back
+    crc24_adsb-small over-then sum-then verified-back
+Rattle.bitstream_format.proofs.SummedLemmas: lines_sum-small summed unsummed
 Rattle.std.proofs.lemmas.List: map-id length-set
 Rattle.bitstream_io.proofs.SliceLemmas: new_answer
 Rattle.bitstream_io.proofs.ReadsLemmas: map_err
-Rattle.bitstream_io.proofs.CallsBack: signed_vbr-back any_signed_vbr-back mapped-read then_made-read bytes-read
 Rattle.bitstream_io.proofs.WriteParts: all_none
 """
 )
@@ -134,6 +135,13 @@ TAKEN = {
 } - {"NonZero"} | {
     "Reader",
     "Fits",
+    "Crc16Ccitt",
+    "Crc16Kermit",
+    "Crc16X25",
+    "Crc24Adsb",
+    "Crc32",
+    "Crc32Mpeg",
+    "Sum16",
 }
 
 
@@ -170,7 +178,9 @@ UNFOLDS: Table = {
     "Rattle.bitstream_format.specs.Within": "size_encoder",
     "Rattle.bitstream_format.specs.Until": "until_from",
     "Rattle.bitstream_format.specs.Blocks": "blocks_from",
+    "Rattle.bitstream_format.specs.UpToLast": "up_to_last_from",
     "Rattle.bitstream_format.specs.Checks": "crc_over steps sum16_state",
+    "Rattle.bitstream_format.specs.Summed": "lines_sum whole_bytes",
     "Rattle.bitstream_format.specs.Stated": "size_in_units stated_size stored_size stored_encoder",
 }
 

@@ -7,7 +7,7 @@ from __future__ import annotations
 import os
 import re
 from dataclasses import dataclass, field, replace
-from typing import Callable, Protocol
+from typing import Callable, Iterable, Protocol
 
 from describing import model as m
 from describing.model import Position, Refused
@@ -15,8 +15,13 @@ from describing.words import Early, Words, number
 
 UNSIGNED = ("u8", "u16", "u32", "u64", "u128")
 SIGNED = ("i8", "i16", "i32", "i64", "i128")
-HEADS = {"struct": "`struct NAME: DOC`", "order": "`order BE` or `order LE`", "error": "`error NAME`"}
-GIVEN = "`0 CASE, 1 CASE` and so on, behind a colon"
+HEADS = {
+    "struct": "`struct NAME: DOC`",
+    "part": "`part NAME: DOC`",
+    "order": "`order BE` or `order LE`",
+    "error": "`error NAME`",
+}
+GIVEN = "`0 CASE, 1 CASE` and so on, after a colon"
 INTEGER = "`NAME TYPE BITS` or `NAME TYPE BITS x COUNT`"
 ENUM = "`NAME enum TYPE BITS{}: NUMBER CASE, ..; DOC`"
 LIST = "`{0} NAME TYPE BITS`, `{0} NAME bytes`, `{0} NAME enum TYPE BITS: ..` or `{0} NAME TYPE of MODULE`"
@@ -52,9 +57,11 @@ STARTS = {
     "choose": f"`choose NAME TYPE [by FIELD] [sized ERROR]: {ARMS}`",
     "rest": LIST.format("rest"),
     "blocks": "`blocks NAME`",
-    "check": "`check SUM over FIELD.. ERROR`",
-    "until": "`until NAME bytes STOP` or `until NAME TYPE BITS STOP`",
+    "check": "`check SUM over FIELD.. ERROR`, `check SUM over all [to FIELD] ERROR` or `check SUM over FIELD to FIELD ERROR`",
+    "until": "`until NAME bytes STOP`, `until NAME TYPE BITS STOP` or `until NAME TYPE of MODULE if TEST [or TEST]`",
 }
+# The checksums that code computes over fields of whole bytes by themselves.
+PLAIN_SUMS = ("sum16", "crc32", "crc32-mpeg", "crc16-ccitt", "crc16-x25", "crc16-kermit")
 COMING = ("tag", "size", "sized", "fill", "choose", "rest", "until", "check", "blocks")
 
 
@@ -71,19 +78,6 @@ class Context:
 
     find: Find
     kinds: list[m.Kind] = field(default_factory=list)
-
-    def add(self, kind: m.Kind) -> None:
-        """Adds a line, and behind it the test of each checksum whose last field it is."""
-        self.kinds.append(kind)
-        tested = [it.check for it in self.kinds if isinstance(it, m.Verify)]
-        for it in [it for it in self.kinds if isinstance(it, m.Check) and it not in tested]:
-            if not self.missing(it):
-                self.kinds.append(m.Verify(it.at, it.doc, it))
-
-    def missing(self, check: m.Check) -> list[str]:
-        """Returns the fields of a checksum that no line so far describes."""
-        names = [it.name for it in self.kinds if m.is_field(it)]
-        return [it for it in check.over if it not in names]
 
     def enum(self, name: str) -> m.EnumType | None:
         """Returns the enum of this name that an earlier line defines."""
@@ -119,14 +113,14 @@ def integer(words: Words, known: str = "", wraps: str = "", most: int = 0) -> m.
     return m.Integer(base, words.number(1, int(base[1:]) - most, what))
 
 
-def use(words: Words, context: Context, lists: bool = True) -> m.Use:
-    """Takes TYPE of MODULE. Without `lists` a part that has a list is refused."""
+def use(words: Words, context: Context) -> m.Use:
+    """Takes TYPE of MODULE."""
     name, at = words.next(), words.place(1)
     if words.next() != "of":
         raise words.refuse("`NAME TYPE of MODULE`")
     module = words.next()
     found = m.Use(name, module, finding(context, module, words.place(1)))
-    check_use(found, lists, at)
+    check_use(found, at)
     return found
 
 
@@ -138,12 +132,10 @@ def finding(context: Context, module: str, at: Position) -> m.Description:
         raise Refused(f"`{module}`: {it}" if it.at else it.why, at) from None
 
 
-def check_use(found: m.Use, lists: bool, at: Position) -> None:
-    """Refuses a part of another type than its module describes, or with a list where none may be."""
+def check_use(found: m.Use, at: Position) -> None:
+    """Refuses a part of another type than its module describes."""
     if found.description.name != found.name:
         raise Refused(f"`{found.module}` describes `{found.description.name}`, and not `{found.name}`", at)
-    if not lists and m.has_list(found):
-        raise Refused(f"`{found.name}` has a list, so it stands neither in a list nor behind a condition", at)
 
 
 def count(words: Words) -> int:
@@ -196,11 +188,11 @@ def enum_of(words: Words, context: Context) -> tuple[m.EnumType, str, bool]:
     return known, words.behind, True
 
 
-def item(words: Words, context: Context, lists: bool) -> tuple[m.Item, str]:
+def item(words: Words, context: Context) -> tuple[m.Item, str]:
     """Takes the item of a list, and returns it with the comment."""
     word = words.peek()
     if words.peek(1) == "of":
-        return use(words, context, lists), words.behind
+        return use(words, context), words.behind
     words.next()
     if word == "bytes":
         return m.Octet(), words.behind
@@ -222,7 +214,7 @@ def typed(words: Words, context: Context) -> m.Kind:
     if words.peek(1) == "of":
         return m.Part(at, words.behind, name, use(words, context))
     if not words.peek():
-        raise words.refuse(f"`{name}` is no kind of a line, and names no type behind it")
+        raise words.refuse(f"`{name}` is no kind of a line, and names no type after it")
     word = words.next()
     if word in STARTS and word not in TYPES:
         raise words.refuse(f"`{word}` begins its line, and no name stands before it: {STARTS[word]}")
@@ -330,7 +322,7 @@ def any_line(words: Words, context: Context, at: Position) -> m.Kind:
 def align_line(words: Words, context: Context, at: Position) -> m.Kind:
     width = m.total(context.kinds)
     if width is None:
-        why = "`align` behind what has no constant number of bits: how many it has is not known"
+        why = "`align` after what has no constant number of bits: how many it has is not known"
         raise Refused(why, at)
     if width % 8 == 0:
         raise Refused(f"nothing to align: {width} bits stand before it", at)
@@ -345,28 +337,30 @@ def option_part(words: Words, context: Context, at: Position) -> m.Kind:
     name = words.next()
     if not any(isinstance(it, m.Flag) and it.target == name for it in context.kinds):
         raise words.refuse(f"no `flag {name}` before it")
-    return m.Optional(at, words.behind, name, use(words, context, lists=False))
+    return m.Optional(at, words.behind, name, use(words, context))
 
 
 def if_line(words: Words, context: Context, at: Position) -> m.Kind:
     asked, place = words.next(), words.place(1)
     if words.peek() not in ("==", "!=", "<", ">="):
         if not any(isinstance(it, m.Bool) and it.name == asked for it in context.kinds):
-            raise Refused(f"no bit `{asked}` before it, and no `==`, `!=`, `<` or `>=` behind it", place)
+            raise Refused(f"no bit `{asked}` before it, and no `==`, `!=`, `<` or `>=` after it", place)
         name = words.next()
-        return m.If(at, words.behind, name, use(words, context, lists=False), asked, 1, "", "")
+        return m.If(at, words.behind, name, use(words, context), asked, 1, "", "")
     how = words.next()
     said, there = words.next(), words.place(1)
-    value = asked_value(context, asked, said, place, there)
-    if how in ("<", ">=") and any(isinstance(it, m.Enum) and it.name == asked for it in context.kinds):
-        raise Refused(f"`{asked}` is an enum: its cases have no order", place)
+    value = asked_value(context.kinds, asked, said, place, there)
+    if any(isinstance(it, m.Enum) and it.name == asked for it in context.kinds):
+        check_how(how, asked, place)
     name = words.next()
-    return m.If(at, words.behind, name, use(words, context, lists=False), asked, value, said, how)
+    return m.If(at, words.behind, name, use(words, context), asked, value, said, how)
 
 
-def asked_value(context: Context, asked: str, said: str, place: Position, there: Position) -> int:
-    """Returns the number that a condition compares an earlier field with."""
-    for it in context.kinds:
+def asked_value(
+    kinds: Iterable[m.Kind], asked: str, said: str, place: Position, there: Position, where: str = "before it"
+) -> int:
+    """Returns the number that a condition compares a field with, which is one of these lines."""
+    for it in kinds:
         match it:
             case m.Enum(name=name, enum=enum) if name == asked:
                 found = enum.number(said)
@@ -377,7 +371,7 @@ def asked_value(context: Context, asked: str, said: str, place: Position, there:
                 return number(said, 0, (1 << 128) - 1, "what is asked for", there)
             case (m.Unary() | m.Golomb(signed=False) | m.Varint() | m.Tag()) if it.name == asked:
                 return number(said, 0, (1 << 128) - 1, "what is asked for", there)
-    raise Refused(f"no number or enum `{asked}` before it", place)
+    raise Refused(f"no number or enum `{asked}` {where}", place)
 
 
 def count_line(words: Words, context: Context, at: Position) -> m.Kind:
@@ -387,7 +381,7 @@ def count_line(words: Words, context: Context, at: Position) -> m.Kind:
 
 def list_line(words: Words, context: Context, at: Position) -> m.Kind:
     name, place = words.next(), words.place(1)
-    found, doc = item(words, context, lists=False)
+    found, doc = item(words, context)
     if not context.counted(name):
         raise Refused(f"no `count {name} BITS` before it", place)
     return m.List(at, doc, name, found)
@@ -470,10 +464,10 @@ def arm(words: Words, context: Context, said: list[str], width: int) -> m.Arm:
         return m.Arm(number_of, case, m.Octet())
     if said[-2:-1] == ["of"]:
         found = m.Use(said[-3], said[-1], finding(context, said[-1], at))
-        check_use(found, True, at)
+        check_use(found, at)
         return m.Arm(number_of, case, found)
     if len(said) > 2:
-        raise Refused(f"`{' '.join(said[2:])}` is not understood behind the case `{case}`", at)
+        raise Refused(f"`{' '.join(said[2:])}` is not understood after the case `{case}`", at)
     return m.Arm(number_of, case, None)
 
 
@@ -485,7 +479,7 @@ def check_arms(arms: tuple[m.Arm, ...], width: int, at: Position) -> None:
     if len({it.case for it in arms}) < len(arms):
         raise Refused("two cases have one name", at)
     if None in numbers[:-1]:
-        raise Refused("the case behind `..` is the last one", at)
+        raise Refused("a case follows `..`, which is the last one", at)
     if numbers == [None]:
         raise Refused("a choice has a case with a number", at)
     if None in numbers and len(arms) > 1 << width:
@@ -494,7 +488,7 @@ def check_arms(arms: tuple[m.Arm, ...], width: int, at: Position) -> None:
 
 def rest_line(words: Words, context: Context, at: Position) -> m.Kind:
     name = words.next()
-    found, doc = item(words, context, lists=True)
+    found, doc = item(words, context)
     return m.Rest(at, doc, name, found)
 
 
@@ -502,8 +496,71 @@ def until_line(words: Words, context: Context, at: Position) -> m.Kind:
     name = words.next()
     if words.peek() == "bytes" and words.next():
         return m.Until(at, words.behind, name, m.Octet(), words.number(0, 255, "the byte that ends it"))
+    if words.peek(1) == "of":
+        part = use(words, context)
+        return m.UpToLast(at, words.behind, name, part, tests(words, part.description))
     whole = integer(words)
     return m.Until(at, words.behind, name, whole, words.number(whole.least, whole.most, "the number that ends it"))
+
+
+def tests(words: Words, part: m.Description) -> tuple[m.Test, ...]:
+    """Takes `if TEST [or TEST]`."""
+    if words.next() != "if":
+        raise words.refuse("`if TEST` says which part is the last one")
+    found = [test(words, part)]
+    while words.skip("or"):
+        found.append(test(words, part))
+    return tuple(found)
+
+
+def test(words: Words, part: m.Description) -> m.Test:
+    """Takes a test of a field of a part."""
+    asked, place = words.next(), words.place(1)
+    if asked == "empty":
+        name, _, inner = words.next().partition(".")
+        if not any(inner in lists_in(it) if inner else is_list(it) for it in part.fields if it.name == name):
+            raise words.refuse(f"`{part.name}` has no list `{name}{f'.{inner}' * bool(inner)}`")
+        return m.Test(name, "empty", inner=inner)
+    if words.peek() not in ("==", "!=", "<", ">="):
+        if not any(isinstance(it, m.Bool) and it.name == asked for it in part.fields):
+            raise Refused(f"`{part.name}` has no bit `{asked}`, and no `==`, `!=`, `<` or `>=` after it", place)
+        return m.Test(asked, "")
+    how = words.next()
+    said, there = words.next(), words.place(1)
+    for it in part.fields:
+        if isinstance(it, m.Choose) and it.name == asked:
+            check_how(how, asked, place)
+            return m.Test(asked, how, case_number(it, said, there), said)
+        if isinstance(it, m.Enum) and it.name == asked:
+            check_how(how, asked, place)
+    return m.Test(asked, how, asked_value(part.fields, asked, said, place, there, f"in `{part.name}`"), said)
+
+
+def is_list(kind: m.Kind) -> bool:
+    """Returns true for a field that has any number of items or bytes."""
+    octets = isinstance(kind, m.Sized) and isinstance(kind.item, m.Octet)
+    return octets or isinstance(kind, m.List | m.Fill | m.Rest | m.Until | m.UpToLast | m.Blocks)
+
+
+def lists_in(kind: m.Kind) -> list[str]:
+    """Returns the names of the lists in the parts that the cases of a choice hold."""
+    return [
+        it.name for use in m.uses(kind) if isinstance(kind, m.Choose) for it in use.description.fields if is_list(it)
+    ]
+
+
+def case_number(kind: m.Choose, said: str, at: Position) -> int:
+    """Returns the number of a case of a choice."""
+    for it in kind.arms:
+        if it.case == said and it.number is not None:
+            return it.number
+    raise Refused(f"`{said}` is no case of {kind.type} with a number of its own", at)
+
+
+def check_how(how: str, asked: str, at: Position) -> None:
+    """Refuses a comparison by order of a field whose cases have none."""
+    if how in ("<", ">="):
+        raise Refused(f"`{asked}` is an enum: its cases have no order", at)
 
 
 def blocks_line(words: Words, context: Context, at: Position) -> m.Kind:
@@ -521,6 +578,12 @@ def check_line(words: Words, context: Context, at: Position) -> m.Kind:
     while words.peek(1):
         over.append(words.next())
     error = words.next()
+    if over[0] == "all" and over[1:2] in ([], ["to"]) and len(over) in (1, 3):
+        doc = words.behind or "The checksum of the lines is another one."
+        return m.Check(at, doc, name, ("", "".join(over[2:])), error, True, True)
+    if over[1:2] == ["to"] and len(over) == 3:
+        doc = words.behind or f"The checksum of the lines from `{over[0]}` to `{over[2]}` is another one."
+        return m.Check(at, doc, name, (over[0], over[2]), error, True, True)
     if len(set(over)) < len(over):
         raise Refused("a field counts once in a checksum", at)
     named = ", ".join(f"`{it}`" for it in over[:-1]) + " and " * (len(over) > 1) + f"`{over[-1]}`"
@@ -604,16 +667,18 @@ class Head:
     doc: str = ""
     order: str = "BE"
     error: str = ""
+    whole: bool = True
     heads: dict[str, Position] = field(default_factory=dict)
     examples: list[m.Example] = field(default_factory=list)
 
 
 def take_head(head: Head, words: Words) -> None:
-    """Parses `struct`, `order` or `error`."""
+    """Parses `struct`, `part`, `order` or `error`."""
     word, at = words.next(), words.place(1)
     value = words.next()
-    head.heads[word] = at
-    if word == "struct":
+    head.heads["struct" if word == "part" else word] = at
+    if word in ("struct", "part"):
+        head.whole = word == "struct"
         head.name, head.doc = value, words.behind or f"A {value}."
     elif word == "order":
         head.order = value
@@ -629,14 +694,49 @@ def take(head: Head, context: Context, words: Words) -> None:
         digits = " ".join(it for _, it in words.found[1:])
         head.examples.append(m.Example(words.place(), digits, words.behind))
     else:
-        context.add(kind_of(words, context))
+        context.kinds.append(kind_of(words, context))
 
 
-def check_sums(context: Context) -> None:
-    """Refuses a checksum of a field that no line describes."""
-    for it in context.kinds:
-        if isinstance(it, m.Check) and context.missing(it):
-            raise Refused(f"no field `{context.missing(it)[0]}`", it.at)
+def verified(kinds: tuple[m.Kind, ...], order: str) -> tuple[m.Kind, ...]:
+    """Returns lines with the tests of their checksums: behind the last field of one, or behind the last line."""
+    names = [it.name for it in kinds if m.is_field(it)]
+    for it in kinds:
+        if isinstance(it, m.Check):
+            check_sum(kinds, it, names)
+    found = [of_lines(kinds, it, order) if isinstance(it, m.Check) else it for it in kinds]
+    for it in [it for it in found if isinstance(it, m.Check)]:
+        last = len(found)
+        if not it.lines:
+            covers = m.covered(tuple(found), it)
+            last = 1 + max(index for index, one in enumerate(found) if one is it or one in covers)
+        while last < len(found) and isinstance(found[last], m.Verify):
+            last += 1
+        found.insert(last, m.Verify(it.at, it.doc, it))
+    return tuple(found)
+
+
+def check_sum(kinds: tuple[m.Kind, ...], check: m.Check, names: list[str]) -> None:
+    """Refuses a checksum of a field that no line describes, of no line, or of bits that are no whole bytes."""
+    missing = [it for it in check.over if it and it not in names]
+    if missing:
+        raise Refused(f"no field `{missing[0]}`", check.at)
+    covers = m.covered(kinds, check)
+    if not covers:
+        raise Refused("the checksum covers no line", check.at)
+    if any(isinstance(it, m.Check) and kinds.index(it) > kinds.index(check) for it in covers):
+        raise Refused("a checksum covers no later checksum", check.at)
+    bits = m.total(covers)
+    if bits is not None and bits % 8:
+        raise Refused(f"the lines of the checksum have {bits} bits, which are no whole bytes", check.at)
+
+
+def of_lines(kinds: tuple[m.Kind, ...], check: m.Check, order: str) -> m.Check:
+    """Returns a checksum, with `lines` set if its fields are not bytes and numbers of whole bytes alone."""
+    covers = m.covered(kinds, check)
+    plain = all(m.is_bytes(it) or order == "BE" and m.is_whole(it) for it in covers)
+    if check.sum == "sum16":
+        plain = plain and all(m.is_whole(it) for it in covers[:-1])
+    return replace(check, lines=check.span or not plain or check.sum not in PLAIN_SUMS)
 
 
 def words_of(line: str, count: int) -> Words:
@@ -661,9 +761,8 @@ def parsed(text: str, find: Find) -> m.Description:
         except (ValueError, IndexError):
             why = f"`{line.strip()}` is not understood: it is "
             raise Refused(why + form_of(words), words.place()) from None
-    check_sums(context)
-    kinds, examples = tuple(context.kinds), tuple(head.examples)
-    return m.Description(head.name, head.doc, head.order, head.error, kinds, head.heads, examples)
+    kinds, examples = verified(tuple(context.kinds), head.order), tuple(head.examples)
+    return m.Description(head.name, head.doc, head.order, head.error, kinds, head.heads, examples, head.whole)
 
 
 def beside(path: str, within: tuple[str, ...], check: Callable[[m.Description], None]) -> Find:

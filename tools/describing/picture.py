@@ -55,6 +55,8 @@ def said(kind: m.Kind, kinds: tuple[m.Kind, ...]) -> str:
             return "bytes to the end" if isinstance(kind.item, m.Octet) else f"{m.item_type(kind.item)} to the end"
         case m.Blocks():
             return "blocks up to an empty one"
+        case m.UpToLast():
+            return f"{kind.use.name} up to the last one"
         case m.Until():
             what = "bytes" if isinstance(kind.item, m.Octet) else kind.item.base
             return f"{what} up to {kind.stop}"

@@ -39,7 +39,13 @@ def text_of(*path: str) -> str:
 
 
 def format_of(description: str, folder: str, name: str) -> Format:
-    """Returns the format of a description, as a module of the crate in `folder`."""
+    """Returns the format of a description, as a module of the crate in `folder`, with hidden names (`renamed.py`)."""
+    f = plain_format(description, folder, name)
+    return Format(f.crate, f.m, renamed(f.description), f.path)
+
+
+def plain_format(description: str, folder: str, name: str) -> Format:
+    """Returns the same with the names of the description."""
     taken = {f"{name}_{it}" for it in ("decoder", "writes", "bits", "size", "at")} & (TAKEN | {"groups_at"})
     if taken:
         raise Refused(f"the library has a `{min(taken)}`: take another name for the module")
@@ -49,7 +55,7 @@ def format_of(description: str, folder: str, name: str) -> Format:
     for it in said.kinds:
         if isinstance(it, m.Choose) and m.snake(it.type) == name:
             raise Refused(f"`{it.type}` has the name of the module: take another one", it.at)
-    return Format(os.path.basename(os.path.abspath(folder)), name, renamed(said), path)
+    return Format(os.path.basename(os.path.abspath(folder)), name, said, path)
 
 
 def root_of(folder: str) -> str:

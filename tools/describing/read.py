@@ -6,7 +6,7 @@ from typing import Callable, TypeAlias
 
 from describing import model as m
 from describing.input import Input, ReadError, Value
-from describing.write import checksum_of
+from describing.write import checksum_of, is_last
 
 
 @dataclass(slots=True)
@@ -223,11 +223,11 @@ def value_of(nodes: list[Node]) -> dict[str, Value]:
     return {it.name: it.value for it in nodes if it.kind is not None and m.is_field(it.kind)}
 
 
-def many(row: Input, one: ItemReader, go_on: Callable[[int], bool]) -> tuple[Value, list[Node]]:
-    """Reads items while `go_on` returns true for their count."""
+def many(row: Input, one: ItemReader, go_on: Callable[[list[Value]], bool]) -> tuple[Value, list[Node]]:
+    """Reads items while `go_on` returns true for those that were read."""
     found: list[Value] = []
     nodes: list[Node] = []
-    while go_on(len(found)):
+    while go_on(found):
         start = row.at
         try:
             value, inner = one(row)
@@ -261,6 +261,8 @@ def composite(kind: m.Kind) -> Composite:
             return sized(name, item, error)
         case m.Fill(name=name, use=use, error=error):
             return filling(name, use, error)
+        case m.UpToLast():
+            return up_to_last(kind)
         case m.Choose():
             return choice(kind)
     raise AssertionError(kind)
@@ -280,7 +282,7 @@ def counted(name: str, item: m.Item) -> Composite:
 
     def read(row: Input, scope: Scope) -> tuple[Value, list[Node]]:
         count = scope[f"{name}_count"]
-        return many(row, one, lambda found: found < count)
+        return many(row, one, lambda found: len(found) < count)
 
     return read
 
@@ -291,6 +293,17 @@ def up_to_end(item: m.Item) -> Composite:
         return lambda row, scope: (remaining(row), [])
     one = item_reader(item)
     return lambda row, scope: many(row, one, lambda found: row.reach(row.at + 1))
+
+
+def up_to_last(kind: m.UpToLast) -> Composite:
+    """Returns the reader of parts up to the last one."""
+    one = part_reader(kind.use)
+
+    def go_on(found: list[Value]) -> bool:
+        part = found[-1] if found else None
+        return not (isinstance(part, dict) and is_last(kind, part))
+
+    return lambda row, scope: many(row, one, go_on)
 
 
 def remaining(row: Input) -> bytes:
@@ -339,7 +352,10 @@ def choice(kind: m.Choose) -> Composite:
     """Returns the reader of a choice by an earlier number."""
     parts = {it.case: item_reader(it.held) for it in kind.arms if isinstance(it.held, m.Use)}
 
-    def held(row: Input, arm: m.Arm, number: int) -> tuple[Value, list[Node]]:
+    def held(row: Input, number: int) -> tuple[Value, list[Node]]:
+        arm = kind.arm(number)
+        if arm is None:
+            raise ReadError(f"No{kind.type}", row.at, why=f"{number} is not the number of a case of `{kind.type}`.")
         if arm.case in parts:
             value, nodes = parts[arm.case](row)
             return {arm.case: value}, nodes
@@ -350,13 +366,9 @@ def choice(kind: m.Choose) -> Composite:
 
     def read(row: Input, scope: Scope) -> tuple[Value, list[Node]]:
         number = scope[kind.by]
-        found = kind.arm(number)
-        if found is None:
-            raise ReadError(f"No{kind.type}", row.at, why=f"{number} is not the number of a case of `{kind.type}`.")
-        arm = found
         if not kind.sized:
-            return held(row, arm, number)
-        return within(row, scope[f"{kind.name}_bytes"], kind.overrun, lambda: held(row, arm, number))
+            return held(row, number)
+        return within(row, scope[f"{kind.name}_bytes"], kind.overrun, lambda: held(row, number))
 
     return read
 
@@ -414,8 +426,8 @@ def number_in(value: Value) -> int:
 
 
 def verify(check: m.Check, nodes: list[Node], description: m.Description) -> None:
-    """Refuses a record whose checksum is not that of its fields, as they are written."""
-    values = {it.name: it.value for it in nodes}
+    """Refuses a record whose checksum is not that of its lines, as they are written."""
+    values = {it.name: it.value for it in nodes if it.kind is not None and m.is_field(it.kind)}
     stored = next(it for it in nodes if it.kind is check)
     found = checksum_of(check, description, values)
     if stored.value != found:

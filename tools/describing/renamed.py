@@ -58,6 +58,8 @@ def hidden_kind(kind: Held, names: set[str]) -> Held:
             found[attribute] = hidden_use(use, names)
     if isinstance(kind, m.Check):
         found["over"] = tuple(hidden(it) if it in names else it for it in kind.over)
+    if isinstance(kind, m.UpToLast):
+        found["tests"] = tuple(hidden_test(it, names) for it in kind.tests)
     if isinstance(kind, m.Verify):
         found["check"] = hidden_kind(kind.check, names)
     if isinstance(kind, m.Choose):
@@ -67,6 +69,12 @@ def hidden_kind(kind: Held, names: set[str]) -> Held:
             for arm, held in arms
         )
     return dataclasses.replace(kind, **found)
+
+
+def hidden_test(test: m.Test, names: set[str]) -> m.Test:
+    """Returns a test with hidden names."""
+    field, inner = (hidden(it) if it in names else it for it in (test.field, test.inner))
+    return dataclasses.replace(test, field=field, inner=inner)
 
 
 def hidden_use(use: m.Use, names: set[str]) -> m.Use:
@@ -99,10 +107,26 @@ def quoted(name: str) -> str:
     return f"«{name}»" if name in QUOTED else name
 
 
+def shown_for_c(text: str, place: str) -> str:
+    """Returns the same for a file of a crate for C, whose code names no parameter as a field."""
+    return re.sub(f"(?P<name>{HIDDEN})", code_name, text) if place.endswith(".rt") else shown(text, place)
+
+
+def code_name(found: re.Match[str]) -> str:
+    """Returns a name in code for C: variables have the name with `_`."""
+    said, line = name_of(found), found.string.rfind("\n", 0, found.start()) + 1
+    before, behind = found.string[line : found.start()], found.string[found.end() : found.end() + 1]
+    if inside(found) or before.strip().startswith("//") or before.endswith((".", "pub ")):
+        return said
+    if behind == "," and not before.strip():
+        return f"{said}: {said}_"
+    return said if behind == ":" else f"{said}_"
+
+
 def code_line(line: str) -> str:
     """Returns a line of code: variables have the name with `_`."""
     text = line.strip()
-    made = bool(re.match(r"Ok\(\w+ \{ ", text))
+    made = bool(re.match(r"(Ok\(|let value = )\w+ \{ ", text))
 
     def name(found: re.Match[str]) -> str:
         said, before = name_of(found), line[: found.start()]
@@ -123,7 +147,7 @@ def proof_name(found: re.Match[str]) -> str:
     if before.startswith("--") or inside(found):
         return said
     if before.endswith("."):
-        return f"{said}_" if before.endswith(("fits.", "args.")) else said
+        return f"{said}_" if before.endswith(("fits.", "fits.0.", "args.")) else said
     is_field = re.match(r"\s+=\s+(?!do\b|facts\b)", behind) and re.search(r"(^|[{;])\s*$", before)
     if before == "  pub ":
         record = text.rfind("pub record ", 0, line)

@@ -36,6 +36,8 @@ def checksum(name: str, data: bytes) -> int:
             return low_crc(0xEDB88320, 0xFFFFFFFF, data) ^ 0xFFFFFFFF
         case "crc32-mpeg":
             return high_crc(32, 0x04C11DB7, 0xFFFFFFFF, data)
+        case "crc24-adsb":
+            return high_crc(24, 0xFFF409, 0, data)
         case "crc16-ccitt":
             return high_crc(16, 0x1021, 0xFFFF, data)
         case "crc16-x25":

@@ -59,7 +59,7 @@ class Words:
         words = [it for _, it in self.found]
         if self.at < len(words):
             behind = " ".join(words[self.at :])
-            why = f"`{behind}` is not understood behind `{' '.join(words[: self.at])}`"
+            why = f"`{behind}` is not understood after `{' '.join(words[: self.at])}`"
             raise Refused(why, self.place())
 
 

@@ -242,7 +242,9 @@ def put_field(bits: Bits, kind: m.Described, value: Value, whole: Record, name: 
             put_parts(bits, kind, value, whole, name)
 
 
-Composed: TypeAlias = m.Enum | m.Array | m.Part | m.Optional | m.If | m.List | m.Rest | m.Fill | m.Sized | m.Choose
+Composed: TypeAlias = (
+    m.Enum | m.Array | m.Part | m.Optional | m.If | m.List | m.Rest | m.Fill | m.UpToLast | m.Sized | m.Choose
+)
 
 
 def put_parts(bits: Bits, kind: Composed, value: Value, whole: Record, name: str) -> None:
@@ -261,6 +263,9 @@ def put_parts(bits: Bits, kind: Composed, value: Value, whole: Record, name: str
         case m.List() | m.Rest():
             put_items(bits, name, kind.item, value, None)
         case m.Fill():
+            put_items(bits, name, kind.use, value, None)
+        case m.UpToLast():
+            check_last(kind, value, name)
             put_items(bits, name, kind.use, value, None)
         case m.Sized():
             if isinstance(kind.item, m.Octet):
@@ -285,6 +290,36 @@ def check_there(kind: m.Optional | m.If, value: Value, whole: Record, name: str)
             there = kind.holds(int(asked) if isinstance(asked, int | str) else -1)
         if there != (value is not None):
             raise unfit(name, value, f"it is there if, and only if, {kind.condition}")
+
+
+def check_last(kind: m.UpToLast, value: Value, name: str) -> None:
+    """Refuses parts whose last one, or another one, contradicts the condition."""
+    found = [is_last(kind, record(f"{name}[{index}]", it)) for index, it in enumerate(items(name, value))]
+    if True not in found or found.index(True) + 1 < len(found):
+        raise unfit(name, value, f"the last part, and no other one, has {kind.condition}")
+
+
+def is_last(kind: m.UpToLast, part: Record) -> bool:
+    """Returns true if a part meets the condition of the last one."""
+    return any(passes(it, kind.use.description, part) for it in kind.tests)
+
+
+def passes(test: m.Test, description: m.Description, part: Record) -> bool:
+    """Returns true if a part passes a test."""
+    value = part.get(test.field)
+    if test.inner:
+        held = next(iter(value.values())) if isinstance(value, dict) else None
+        value = held.get(test.inner) if isinstance(held, dict) else None
+    if test.how == "empty":
+        return isinstance(value, list | bytes | str) and len(value) == 0
+    if not test.how:
+        return value is True
+    asked = field_of(description, lambda it: it.name == test.field)
+    if isinstance(asked, m.Choose):
+        found = arm_number(asked, value, test.field)
+    else:
+        found = enum_number(test.field, asked.enum, value) if isinstance(asked, m.Enum) else int(str(value))
+    return m.compared(found, test.how, test.value)
 
 
 def arm_of(kind: m.Choose, value: Value, name: str) -> tuple[m.Arm, Value]:
@@ -376,12 +411,19 @@ def put_hidden(bits: Bits, kind: m.Hidden, description: m.Description, whole: Re
 
 
 def checksum_of(kind: m.Check, description: m.Description, whole: Record, path: str = "") -> int:
-    """Returns the checksum of the bytes of some fields, as they are written."""
-    inside = Bits(description.order)
-    for name in kind.over:
-        target = next(it for it in description.fields if it.name == name)
-        put_field(inside, target, whole.get(name), whole, joined(path, name))
+    """Returns the checksum of the bytes of some lines, as they are written."""
+    inside, asked = Bits(description.order), whole | tags(description, whole, path)
+    for it in m.covered(description.kinds, kind):
+        put_line(inside, it, description, whole, asked, path)
     return checksum(kind.sum, inside.bytes())
+
+
+def put_line(bits: Bits, kind: m.Kind, description: m.Description, whole: Record, asked: Record, path: str) -> None:
+    """Writes a line; `asked` has the numbers of the tags, too."""
+    if m.is_field(kind):
+        put_field(bits, kind, whole.get(kind.name), asked, joined(path, kind.name))
+    elif isinstance(kind, m.Const | m.Skip | m.Flag | m.Count | m.Tag | m.Size | m.Check):
+        put_hidden(bits, kind, description, whole, path)
 
 
 def put_size(bits: Bits, kind: m.Size, description: m.Description, whole: Record, path: str) -> None:
@@ -430,9 +472,7 @@ def put_record(bits: Bits, description: m.Description, whole: Record, path: str 
                 raise Unfit(f"`{joined(path, it.name)}` is missing")
             if isinstance(it, m.Choose):
                 check_selected(it, description, whole, path)
-            put_field(bits, it, whole[it.name], asked, joined(path, it.name))
-        elif isinstance(it, m.Const | m.Skip | m.Flag | m.Count | m.Tag | m.Size | m.Check):
-            put_hidden(bits, it, description, whole, path)
+        put_line(bits, it, description, whole, asked, path)
 
 
 def packed(description: m.Description, whole: Record) -> bytes:

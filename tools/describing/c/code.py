@@ -5,12 +5,13 @@ import re
 from typing import assert_never
 
 from describing import model as m
-from describing.c import cross, decided, lists, optional, varying
-from describing.c.cross import Crossed, Member, base, enums, fields, is_narrow, is_partial, members, parts
+from describing.c import choices, cross, decided, lists, optional, varying
+from describing.c.cross import Crossed, Listed, Member, base, enums, fields, is_narrow, is_partial, members, parts
 from describing.c.imports import ghost_uses
 from describing.c.status import DOES_NOT_FIT, END_OF_INPUT, NO_ROOM, own
 from describing.c.target import Target
 from describing.layout import Format, enum_bits
+from describing.rust import parts as parts_code
 from describing.rust.reads import places_code
 
 INLINE = "#[inline(always)]"
@@ -37,6 +38,9 @@ def lists_code(f: Format) -> list[str]:
     kinds = cross.lists(f.description)
     out = [line for number in dict.fromkeys(base(it) for it in kinds) for line in lists.keep_code(number)]
     out += [line for it in kinds for line in lists.read_list_code(f, it)]
+    out += [line for it in f.lines for line in lists.stated_code(f, it)]
+    found = [it for it in f.lines if isinstance(it.kind, m.Optional | m.If)]
+    out += [line for it in found if it.use for line in parts_code.optional_code(f, it, it.use)]
     out += [*lists.read_code(f, to_c), *lists.answer_code(f), *lists.parse_code(f), *lists.writing_code(f)]
     return [*out, *varying.size_code(f), *varying.put_code(f), *lists.pack_code(f)]
 
@@ -48,16 +52,19 @@ def uses(f: Format, text: str) -> list[str]:
             *[f.type] * (not cross.lists(f.description)),
             *[f.error] * bool(f.error),
             *[it.name for it in enums(f.description) if f"{it.name}::" in text],
+            *[it.type for it in cross.choices(f.description)],
         }
     )
     out = ["use crate::shared::{Packed, refused};"]
     out += ["use crate::status::reader_status;"] * ("reader_status(" in text)
     out += [f"use crate::{it.module}::{{self, {it.name}C}};" for it in parts(f.description)]
-    out += [f"use {f.crate}::{f.m}::{{{', '.join(names)}}};"]
-    out += [f"use {f.crate}::{it.module}::{it.name};" for it in optional.uses(f)]
+    out += [f"use {f.crate}::{f.m}::{{{', '.join(names)}}};"] * bool(names)
     library = ["Error"] * (not f.error) if f.sized else varying.uses(f)
     if cross.lists(f.description):
         library = lists.uses(f)
+        out += [f"use {path};" for path in lists.paths(f, text)]
+    else:
+        out += [f"use {f.crate}::{it.module}::{it.name};" for it in optional.uses(f)]
     out += [f"use bitstream_io::{{{', '.join(sorted(library))}}};"] * bool(library)
     return out + ["use std::num::NonZero;"] * ("NonZero<" in text)
 
@@ -99,6 +106,8 @@ def to_c(kind: Crossed) -> dict[str, str]:
     """Returns the members of C for a field."""
     if isinstance(kind, m.Optional | m.If):
         return optional.to_c(kind)
+    if isinstance(kind, m.Choose):
+        return choices.to_c(kind)
     return {kind.name: one_to_c(kind)}
 
 
@@ -108,7 +117,7 @@ def one_to_c(kind: Crossed) -> str:
     match kind:
         case m.Bool():
             return f"{v} as u8"
-        case m.Number() | m.Array() | m.Unary() | m.Groups() | m.Golomb() | m.Varint():
+        case m.Number() | m.Array() | m.Groups() | m.Golomb() | m.Varint():
             return v
         case m.NonZero():
             return f"{v}.get()"
@@ -127,7 +136,7 @@ def from_c(kind: Crossed) -> str:
     match kind:
         case m.Bool():
             return f"{v} != 0"
-        case m.Number() | m.Array() | m.Unary() | m.Groups() | m.Golomb() | m.Varint():
+        case m.Number() | m.Array() | m.Groups() | m.Golomb() | m.Varint():
             return v
         case m.NonZero():
             return f"option_{base(kind)}({v})"
@@ -139,6 +148,8 @@ def from_c(kind: Crossed) -> str:
             return f"{v}.fields()"
         case m.Optional() | m.If():
             return optional.from_c(kind)
+        case m.Choose():
+            return choices.from_c(kind)
     raise AssertionError(kind)
 
 
@@ -218,9 +229,9 @@ def helpers(f: Format) -> list[str]:
             found[f"number_{base(it)}"] = number_code(base(it))
         if isinstance(it, m.Enum) and is_narrow(it.enum):
             found[it.enum.name] = narrow_code(f, it.enum)
-        if isinstance(it, m.Array | m.List):
+        if isinstance(it, m.Array) or cross.is_listed(it):
             found[items_name(it)] = items_code(it)
-    return [line for it in found.values() for line in it] + optional.code(f)
+    return [line for it in found.values() for line in it] + optional.code(f) + choices.code(f)
 
 
 def narrow_code(f: Format, enum: m.EnumType) -> list[str]:
@@ -269,13 +280,13 @@ def number_code(number: str) -> list[str]:
     ]
 
 
-def items_name(kind: m.Array | m.List) -> str:
+def items_name(kind: m.Array | Listed) -> str:
     """Returns the name of the function that tests the items of an array or a list."""
     width = kind.item.width if not isinstance(kind.item, m.Use) else 0
     return f"all_fit_{base(kind)}_{width}" if isinstance(kind.item, m.Integer) else "all_bytes"
 
 
-def items_code(kind: m.Array | m.List) -> list[str]:
+def items_code(kind: m.Array | Listed) -> list[str]:
     """Returns the function that tests the items of an array or a list."""
     item, says, test = kind.item, "λ b. b < 256", "u16::from(*x) < 256"
     if isinstance(item, m.Integer) and item.signed:
@@ -299,8 +310,6 @@ def tests(f: Format, kind: Crossed) -> list[str]:
     match kind:
         case m.Bool():
             return []
-        case m.Unary():
-            return [f"{v} <= {2**32 - 1}"]
         case m.Varint():
             return [f"{v} <= {2**62 - 1}"]
         case m.Golomb():
@@ -320,7 +329,9 @@ def tests(f: Format, kind: Crossed) -> list[str]:
             return [f"{kind.use.module}::is_fit(&{v})"]
         case m.Optional() | m.If():
             return optional.tests(f, kind)
-        case m.List():
+        case m.Choose():
+            return choices.tests(f, kind)
+        case m.List() | m.Sized():
             return lists.tests(f, kind)
     assert_never(kind)
 

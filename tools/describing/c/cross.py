@@ -10,18 +10,22 @@ from describing.model import Refused
 from describing.rust.calls import integer_range
 
 Crossed: TypeAlias = (
-    m.Bool | m.Number | m.NonZero | m.MaybeNonZero | m.Enum | m.Array | m.Unary | m.Groups | m.Golomb | m.Varint | m.Part
-    | m.Optional | m.If | m.List
+    m.Bool | m.Number | m.NonZero | m.MaybeNonZero | m.Enum | m.Array | m.Groups | m.Golomb | m.Varint | m.Part
+    | m.Optional | m.If | m.List | m.Sized | m.Choose
 )  # fmt: skip
+Listed: TypeAlias = m.List | m.Sized  # items in storage of the caller
 
 # The most bytes of a format whose size varies: `pack` holds them on the stack.
 MOST_BYTES = 4096
 
 # Why a field of another kind does not cross to C.
 OTHERS = {
+    m.UpToLast: "ends at its last part, which does not cross to C yet",
     m.Fill: "has as many parts as fill a size, which does not cross to C yet",
-    m.Sized: "has a size of its own, which does not cross to C yet",
-    m.Choose: "is a choice, which does not cross to C yet",
+    m.Rest: "reads to the end of the bytes, which does not cross to C yet",
+    m.Until: "has items up to a last one, which does not cross to C yet",
+    m.Blocks: "has bytes in blocks, which does not cross to C yet",
+    m.Unary: "is a unary number, which can be longer than any buffer, and does not cross to C",
 }
 
 
@@ -30,7 +34,8 @@ class Member:
     """A member of the struct of C: its name, the Rust type of it, or of each item of an array, and its comment.
 
     `module` is that of a part, `flag` is true for a `bool` of C, `count` the number of items of an array, and `item` the
-    type of the items of a list, of which the member is the number.
+    type of the items of a list, of which the member is the number. A member of a `choice` has what the case `case` holds,
+    or the case itself if that is an empty text: C has all of them in one struct.
     """
 
     name: str
@@ -40,6 +45,8 @@ class Member:
     flag: bool = False
     count: int | None = None
     item: str = ""
+    choice: str = ""
+    case: str = ""
 
     @property
     def rust(self) -> str:
@@ -54,6 +61,8 @@ def crosses(kind: m.Kind) -> TypeGuard[Crossed]:
 
 def check(description: m.Description) -> None:
     """Refuses a format with a field that C does not have."""
+    if not description.whole:
+        raise Refused("a part without whole bytes does not cross to C yet", description.heads["struct"])
     for it in description.kinds:
         if isinstance(it, m.Check):
             raise Refused("a checksum does not cross to C yet", it.at)
@@ -61,12 +70,14 @@ def check(description: m.Description) -> None:
         if not crosses(kind):
             raise Refused(f"`{kind.name}` {OTHERS[type(kind)]}", kind.at)
         check_field(kind)
+    check_types(description)
     names = [it.name for it in members(description)]
     if lists(description) and len(description.kinds) > LONG:
         raise Refused(f"a format with a list and more than {LONG} lines does not cross to C yet")
-    for kind in description.fields:
-        if isinstance(kind, m.Optional | m.If) and names.count(f"has_{kind.name}") > 1:
-            raise Refused(f"two members of the struct of C have one name, `has_{kind.name}`", kind.at)
+    for kind in reversed(description.fields):
+        for member in members_of(description, kind) if crosses(kind) else []:
+            if names.count(member.name) > 1:
+                raise Refused(f"two members of the struct of C have one name, `{member.name}`", kind.at)
     if description.bits is None and most(description) > 8 * MOST_BYTES:
         longest = max(description.fields, key=lambda it: most_of(description, it))
         raise Refused(
@@ -75,15 +86,30 @@ def check(description: m.Description) -> None:
         )
 
 
+def check_types(description: m.Description) -> None:
+    """Refuses a format with two types of C of one name: of enums, lists, choices and their cases, and statuses."""
+    taken = {"status", *(m.snake(it.name) for it in enums(description))}
+    for kind in fields(description):
+        own = {kind.name} if is_listed(kind) or isinstance(kind, m.Choose) else set()
+        own |= {f"{kind.name}_case"} if isinstance(kind, m.Choose) else set()
+        if own & taken:
+            raise Refused(f"two types of C have one name, `{min(own & taken)}`", kind.at)
+        taken |= own
+
+
 def check_field(kind: Crossed) -> None:
     """Refuses a field that C does not have."""
     if isinstance(kind, m.Array) and isinstance(kind.item, m.EnumType):
         raise Refused(f"`{kind.name}` is an array of an enum, which does not cross to C yet", kind.at)
-    if not isinstance(kind, m.Part | m.Optional | m.If) and base(kind).endswith("128"):
+    if isinstance(kind, m.Choose) and kind.sized:
+        raise Refused(f"`{kind.name}` is a choice with a size, which does not cross to C yet", kind.at)
+    if not isinstance(kind, m.Part | m.Optional | m.If | m.Choose) and base(kind).endswith("128"):
         raise Refused(f"`{kind.name}` has a number of 128 bits, which C does not have", kind.at)
+    if isinstance(kind, m.Sized) and isinstance(kind.item, m.Use):
+        raise Refused(f"`{kind.name}` is a part with a size, which does not cross to C yet", kind.at)
     if isinstance(kind, m.List) and not is_plain(kind.item):
         raise Refused(
-            f"`{kind.name}` is a list of other items than unsigned numbers and bytes, which does not cross to C yet",
+            f"`{kind.name}` is a list of other items than numbers and bytes, which does not cross to C yet",
             kind.at,
         )
     for use in m.uses(kind):
@@ -93,14 +119,37 @@ def check_field(kind: Crossed) -> None:
             raise Refused(f"`{use.module}`: {why}", kind.at) from None
         if m.allocating(use):
             raise Refused(f"`{kind.name}` is a part with a list, which does not cross to C yet", kind.at)
+        if choices(use.description):
+            raise Refused(f"`{kind.name}` is a part with a choice, which does not cross to C yet", kind.at)
 
 
 def is_plain(item: m.Item) -> bool:
-    """Returns true for bytes and unsigned numbers."""
-    return isinstance(item, m.Octet) or isinstance(item, m.Integer) and not item.signed
+    """Returns true for bytes and numbers."""
+    return isinstance(item, m.Octet | m.Integer)
 
 
-def item_width(kind: m.List | m.Array) -> int:
+def spec_item(kind: Listed) -> str:
+    """Returns the type of an item in specs."""
+    return "ℤ" if isinstance(kind.item, m.Integer) and kind.item.signed else "ℕ"
+
+
+def is_listed(kind: m.Kind) -> TypeGuard[Listed]:
+    """Returns true for a field whose items are in storage of the caller."""
+    return isinstance(kind, m.List | m.Sized)
+
+
+def counted(description: m.Description, kind: Listed) -> m.Count | m.Size:
+    """Returns the line that has the number of items of a list."""
+    return next(it for it in description.kinds if isinstance(it, m.Count | m.Size) and it.target == kind.name)
+
+
+def most_items(description: m.Description, kind: Listed) -> int:
+    """Returns the greatest number of items of a list."""
+    line = counted(description, kind)
+    return line.most if isinstance(line, m.Size) else (1 << line.width) - 1
+
+
+def item_width(kind: Listed | m.Array) -> int:
     """Returns the bits of an item."""
     return kind.item.width if isinstance(kind.item, m.Integer) else 8
 
@@ -116,23 +165,38 @@ def most_of(description: m.Description, kind: m.Kind) -> int:
     if width is not None:
         return width
     match kind:
-        case m.Unary():
-            return 1 << 32
         case m.Groups():
             return kind.group * ((kind.integer.width - 1) // (kind.group - 1) + 1)
         case m.Golomb():
             return 63
         case m.Varint():
             return 64
-        case m.List():
-            count = next(it.width for it in description.kinds if isinstance(it, m.Count) and it.target == kind.name)
-            return ((1 << count) - 1) * item_width(kind)
-    return sum(most(use.description) for use in m.uses(kind))
+        case m.Size():
+            return 64
+        case m.List() | m.Sized():
+            return most_items(description, kind) * item_width(kind)
+    wide = [most(use.description) for use in m.uses(kind)]
+    return max([0, *wide]) if isinstance(kind, m.Choose) else sum(wide)
 
 
-def lists(description: m.Description) -> list[m.List]:
+def lists(description: m.Description) -> list[Listed]:
     """Returns the lists of a format."""
-    return [it for it in description.fields if isinstance(it, m.List)]
+    return [it for it in description.fields if is_listed(it)]
+
+
+def choices(description: m.Description) -> list[m.Choose]:
+    """Returns the choices of a format."""
+    return [it for it in description.fields if isinstance(it, m.Choose)]
+
+
+def stated(description: m.Description) -> list[Listed]:
+    """Returns the lists of bytes whose size may state no number of bytes."""
+    return [it for it in lists(description) if is_stated(it)]
+
+
+def is_stated(kind: m.Kind) -> bool:
+    """Returns true for bytes whose size may state no number of bytes."""
+    return isinstance(kind, m.Sized) and bool(kind.error)
 
 
 def fields(description: m.Description) -> list[Crossed]:
@@ -155,9 +219,26 @@ def members_of(description: m.Description, kind: Crossed) -> list[Member]:
             return [there, Member(kind.name, base(kind), comment(kind), kind.use.module)]
         case m.Array():
             return [Member(kind.name, base(kind), comment(kind), count=kind.count)]
-        case m.List():
+        case m.List() | m.Sized():
             return [Member(kind.name, "usize", list_comment(description, kind), item=base(kind))]
+        case m.Choose():
+            return choice_members(kind)
     return [Member(kind.name, base(kind), comment(kind), flag=isinstance(kind, m.Bool))]
+
+
+def choice_members(kind: m.Choose) -> list[Member]:
+    """Returns the members for a choice: the case, and what each case holds."""
+    found = [Member(f"{kind.name}_case", "u32", f"The case of `{kind.name}`.", choice=kind.name)]
+    for it in kind.arms:
+        name, said = f"{kind.name}_{m.snake(it.case)}", f"The content of the case `{it.case}`."
+        if isinstance(it.held, m.Use):
+            found.append(Member(name, f"{it.held.name}C", said, it.held.module, choice=kind.name, case=it.case))
+        elif it.number is None:
+            bits = next(it for it in (8, 16, 32) if it >= kind.width)
+            small = f"below 2^{kind.width}, " * (kind.width < bits)
+            said = f"The number of the case `{it.case}`: {small}and of no other case."
+            found.append(Member(name, f"u{bits}", said, choice=kind.name, case=it.case))
+    return found
 
 
 def base(kind: Crossed) -> str:
@@ -169,12 +250,14 @@ def base(kind: Crossed) -> str:
             return kind.integer.base
         case m.Enum():
             return f"u{enum_bits(kind.enum)}"
-        case m.Array() | m.List():
+        case m.Array() | m.List() | m.Sized():
             return kind.item.base if isinstance(kind.item, m.Integer) else "u8"
-        case m.Unary() | m.Golomb() | m.Varint():
+        case m.Golomb() | m.Varint():
             return m.rust_type(kind)
         case m.Part() | m.Optional() | m.If():
             return f"{kind.use.name}C"
+        case m.Choose():
+            return "u32"
     assert_never(kind)
 
 
@@ -185,7 +268,7 @@ def is_partial(kind: Crossed) -> bool:
             return any(is_partial(it) for it in fields(kind.use.description))
         case m.Enum():
             return bool(kind.enum.error) or is_narrow(kind.enum)
-    return isinstance(kind, m.NonZero | m.Optional | m.If)
+    return isinstance(kind, m.NonZero | m.Optional | m.If | m.Choose)
 
 
 def is_narrow(enum: m.EnumType) -> bool:
@@ -228,11 +311,20 @@ def comment(kind: Crossed) -> str:
     return f"{kind.doc or f'The field `{kind.name}`.'} {limits(kind)}".strip()
 
 
-def list_comment(description: m.Description, kind: m.List) -> str:
+def list_comment(description: m.Description, kind: Listed) -> str:
     """Returns the comment of a list, with its range."""
-    width = next(it.width for it in description.kinds if isinstance(it, m.Count) and it.target == kind.name)
+    line = counted(description, kind)
+    if isinstance(line, m.Size):
+        return f"{comment(kind)} {size_limits(line)}."
     said = integer_range(kind.item) if isinstance(kind.item, m.Integer) else ""
-    return f"{comment(kind)} Fewer than 2^{width}{f', each {said}' if said else ''}."
+    return f"{comment(kind)} Fewer than 2^{line.width}{f', each {said}' if said else ''}."
+
+
+def size_limits(line: m.Size) -> str:
+    """Returns how many bytes a size may state."""
+    more = -line.plus % line.unit
+    units = f", {f'{more} more than ' * bool(more)}a multiple of {line.unit}" * (line.unit > 1)
+    return f"At most {line.most} bytes{units}"
 
 
 def enums(description: m.Description) -> list[m.EnumType]:
@@ -258,13 +350,33 @@ def layout(description: m.Description, public: bool = False) -> tuple[int, int, 
 
     A list has its number of items there, or in the public struct a pointer, its capacity and its length.
     """
-    at, last, most = 0, 0, 1
     inner = {it.module: layout(it.description) for it in parts(description)}
+    found, union = list[tuple[int, int]](), list[tuple[int, int]]()
     for it in members(description):
         size, _, align = inner[it.module] if it.module else sizes(it, public)
+        if public and it.choice:
+            union = [*union, (size, align)] if it.case else []
+            found = [*(found[:-1] if it.case else found), chosen_size(union)]
+        else:
+            found.append((size * (it.count or 1), align))
+    return placed(found)
+
+
+def placed(found: list[tuple[int, int]]) -> tuple[int, int, int]:
+    """Returns the size of a struct of members of these sizes and alignments, the offset of the last one, and its alignment."""
+    at, last, most = 0, 0, 1
+    for size, align in found:
         at += -at % align
-        last, at, most = at, at + size * (it.count or 1), max(most, align)
+        last, at, most = at, at + size, max(most, align)
     return at + -at % most, last, most
+
+
+def chosen_size(union: list[tuple[int, int]]) -> tuple[int, int]:
+    """Returns the size and the alignment of the struct of a choice, whose union has members of these sizes and alignments."""
+    align = max([1, *[it for _, it in union]])
+    wide = max([0, *[size for size, _ in union]])
+    size, _, most = placed([(4, 4), *[(wide + -wide % align, align)] * bool(union)])
+    return size, most
 
 
 def sizes(member: Member, public: bool) -> tuple[int, int, int]:

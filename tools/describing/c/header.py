@@ -2,11 +2,12 @@
 from __future__ import annotations
 
 from describing import model as m
-from describing.c.cross import Member, enums, layout, lists, members, parts
+from describing.c.cross import Member, choice_members, choices, enums, layout, lists, members, parts
 from describing.c.status import numbers, own, rooms, statuses
 from describing.c.target import Target
 from describing.c.words import c_comment, c_name, drawn, paragraph, quoted
 from describing.model import snake
+from describing.specs.terms import tag_of
 
 
 def header(t: Target) -> str:
@@ -43,23 +44,68 @@ def c_type(member: Member) -> str:
 def struct_code(t: Target) -> list[str]:
     """Returns the struct of the fields."""
     out = [line for it in members(t.f.description) if it.item for line in list_code(t, it)]
+    out += [line for it in choices(t.f.description) for line in choice_code(t, it)]
     out += [f"struct {t.f.m} {{"]
     for it in members(t.f.description):
-        items, kind = "" if it.count is None else f"[{it.count}]", c_type(it)
-        if it.item:
-            kind = f"struct {t.f.m}_{it.name}"
-        out += [*c_comment(it.comment + renamed(it), "    "), f"    {kind} {c_name(it.name)}{items};"]
+        items, kind, name, said = "" if it.count is None else f"[{it.count}]", c_type(it), it.name, it.comment
+        if it.case:
+            continue
+        if it.choice:
+            name, said = it.choice, choice_comment(t, it.choice)
+        if it.item or it.choice:
+            kind = f"struct {t.f.m}_{name}"
+        out += [*c_comment(said + renamed(name), "    "), f"    {kind} {c_name(name)}{items};"]
     return [*out, "};", ""]
 
 
-def renamed(member: Member) -> str:
+def choice_comment(t: Target, name: str) -> str:
+    """Returns the comment of a choice."""
+    kind = next(it for it in choices(t.f.description) if it.name == name)
+    own = tag_of(t.f, kind) is None
+    same = f" Its case is that of the number in `{kind.by}`." * own
+    return (kind.doc or f"The field `{name}`.") + same
+
+
+def case_name(t: Target, kind: m.Choose, arm: m.Arm) -> str:
+    """Returns the constant of a case."""
+    return f"{t.f.m}_{kind.name}_{snake(arm.case)}".upper()
+
+
+def choice_code(t: Target, kind: m.Choose) -> list[str]:
+    """Returns the cases of a choice, and its struct."""
+    name, rows = f"{t.f.m}_{kind.name}", list[str]()
+    for arm in kind.arms:
+        number = "The case of all other numbers" if arm.number is None else f"The case of the number {arm.number}"
+        rows.append(f"    /* {number}. */\n    {case_name(t, kind, arm)}")
+    held = list[str]()
+    for it in choice_members(kind):
+        if it.case:
+            held += [*c_comment(it.comment, "        "), f"        {c_type(it)} {c_name(snake(it.case))};"]
+    return [
+        f"/* The cases of `{kind.name}`. */",
+        f"enum {name}_case {{",
+        ",\n".join(rows),
+        "};",
+        "",
+        f"/* The choice `{kind.name}`. */",
+        f"struct {name} {{",
+        "    /* The case. */",
+        f"    enum {name}_case which;",
+        *["    /* The content of this case; the other members are not read. */", "    union {", *held, "    } as;"]
+        * bool(held),
+        "};",
+        "",
+    ]
+
+
+def renamed(name: str) -> str:
     """Returns the sentence about the name of a member that C or C++ does not allow, or an empty text."""
-    return f" The description calls it `{member.name}`." * (c_name(member.name) != member.name)
+    return f" The description calls it `{name}`." * (c_name(name) != name)
 
 
 def item_type(member: Member) -> str:
     """Returns the type of the items of a list in C."""
-    return f"uint{member.item[1:]}_t"
+    return f"{'' if member.item[0] == 'i' else 'u'}int{member.item[1:]}_t"
 
 
 def list_code(t: Target, member: Member) -> list[str]:
@@ -177,7 +223,8 @@ def source(t: Target) -> str:
     texts = [
         line for it in statuses(f) for line in (f"    case {up}_{it.name}:", f"        return {quoted(it.short)};")
     ]
-    listed = lists_source(t) if lists(f.description) else Listed(f.m)
+    apart = lists(f.description) or choices(f.description)
+    listed = lists_source(t) if apart else Listed(f.m)
     more, parameter, none, told = "", "", "", ""
     if not f.sized:
         more, parameter = "\n    size_t taken;", ", size_t *taken"
@@ -233,7 +280,7 @@ const char *{name}_text(enum {name} status)
 
 
 class Listed:
-    """The pieces of the C file that a format with lists has otherwise: `crossing` names the struct that crosses."""
+    """The pieces of the C file that a format with lists or choices has otherwise: `crossing` names what crosses."""
 
     def __init__(self, module: str) -> None:
         self.crossing, self.struct, self.stored, self.given = module, "", "", ""
@@ -243,14 +290,12 @@ class Listed:
 
 
 def lists_source(t: Target) -> Listed:
-    """Returns the pieces of the C file of a format with lists."""
+    """Returns the pieces of the C file of a format with lists or choices."""
     f, kinds, all_of = t.f, [it for it in members(t.f.description) if it.item], members(t.f.description)
     found = Listed(f.m)
     found.crossing = f"{f.m}_head"
     rows = [f"    {c_type(it)} {c_name(it.name)}{'' if it.count is None else f'[{it.count}]'};" for it in all_of]
-    found.struct = "\n".join(
-        ["/* The fields, and the numbers of items of the lists. */", f"struct {f.m}_head {{", *rows, "};", "", ""]
-    )
+    found.struct = "\n".join([f"/* {head_comment(t)} */", f"struct {f.m}_head {{", *rows, "};", "", ""])
     found.stored = "".join(f", {item_type(it)} *{it.name}_items, size_t {it.name}_capacity" for it in kinds)
     found.given = "".join(f"const {item_type(it)} *{it.name}_items, size_t {it.name}_length, " for it in kinds)
     names = [c_name(it.name) for it in kinds]
@@ -260,16 +305,52 @@ def lists_source(t: Target) -> Listed:
     out, into = list[str](), list[str]()
     for it in all_of:
         name = c_name(it.name)
-        if it.count is not None:
+        if it.choice:
+            out += [] if it.case else choice_out(t, it)
+            into += [] if it.case else choice_into(t, it)
+        elif it.count is not None:
             out.append(f"memcpy(out->{name}, parsed.value.{name}, sizeof out->{name});")
             into.append(f"memcpy(head.{name}, in->{name}, sizeof head.{name});")
         else:
             out.append(f"out->{name}{'.length' * bool(it.item)} = parsed.value.{name};")
             into.append(f"head.{name} = in->{name}{'.length' * bool(it.item)};")
     given = "".join(f"in->{it}.items, in->{it}.length, " for it in names)
-    into = [f"struct {f.m}_head head;", *into, f"packed = proved_{f.m}_pack(&head, {given}buffer, length);"]
+    zeros = ["memset(&head, 0, sizeof head);"] * bool(choices(f.description))
+    into = [f"struct {f.m}_head head;", *zeros, *into, f"packed = proved_{f.m}_pack(&head, {given}buffer, length);"]
     found.taken_out = " {\n        " + "\n        ".join(out) + "\n    }"
     found.pack = " {\n        " + "\n        ".join(into) + "\n    }"
-    if any(it.count is not None for it in all_of):
+    if zeros or any(it.count is not None for it in all_of):
         found.struct = "#include <string.h>\n\n" + found.struct
     return found
+
+
+def head_comment(t: Target) -> str:
+    """Returns the comment of the struct that crosses."""
+    items = ", and the numbers of items of the lists" * bool(lists(t.f.description))
+    return f"The fields{items}{', and what each case of a choice holds' * bool(choices(t.f.description))}."
+
+
+def choice_out(t: Target, member: Member) -> list[str]:
+    """Returns the statements that set a choice of the caller from the struct that crosses."""
+    return chosen(
+        t, member, f"(enum {t.f.m}_{member.choice}_case)parsed.value.{member.name}", "out->", "parsed.value.", True
+    )
+
+
+def choice_into(t: Target, member: Member) -> list[str]:
+    """Returns the statements that set the members of the struct that crosses from a choice of the caller."""
+    return chosen(t, member, f"(uint32_t)in->{c_name(member.choice)}.which", "in->", "head.", False)
+
+
+def chosen(t: Target, member: Member, case: str, theirs: str, crossing: str, parsed: bool) -> list[str]:
+    """Returns the statements that copy a case and what it holds, to the caller's struct if bytes were parsed."""
+    kind = next(it for it in choices(t.f.description) if it.name == member.choice)
+    place, named = f"{theirs}{c_name(member.choice)}", {it.case: it.name for it in choice_members(kind)}
+    out = [f"{place}.which = {case};" if parsed else f"{crossing}{member.name} = {case};", f"switch ({place}.which) {{"]
+    for arm in kind.arms:
+        out.append(f"case {case_name(t, kind, arm)}:")
+        if arm.case in named:
+            one, other = f"{place}.as.{c_name(snake(arm.case))}", f"{crossing}{named[arm.case]}"
+            out.append(f"    {one} = {other};" if parsed else f"    {other} = {one};")
+        out.append("    break;")
+    return [*out, "}"]

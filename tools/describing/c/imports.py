@@ -3,7 +3,7 @@ from __future__ import annotations
 
 import re
 
-from describing.c import optional, varying
+from describing.c import choices, optional, varying
 from describing.c.cross import enums, is_narrow, lists, parts
 from describing.c.target import Target
 from describing.imports import own_specs, types
@@ -31,9 +31,11 @@ def own_names(t: Target) -> Table:
     if lists(f.description):
         more += [f"{f.m}_of", f"{f.m}_short", f"{f.type}Read"]
     found: Table = {
-        f"Rattle.{t.crate}.specs.{f.spec}": " ".join([*(f"{f.m}_{it}" for it in words), *more, optional.names(f)]),
+        f"Rattle.{t.crate}.specs.{f.spec}": " ".join(
+            [*(f"{f.m}_{it}" for it in words), *more, optional.names(f), choices.names(f)]
+        ),
         f"Rattle.{t.crate}.specs.Varied": "IsDecided reader_status",
-        f"Rattle.{t.crate}.specs.Lists": "ReadsInto ItemsKept stored",
+        f"Rattle.{t.crate}.specs.Lists": "ReadsInto ReadsStated ItemsKept stored",
         f"{base}.{f.m}.{f.type}Given": f"{f.type}Given",
         f"Rattle.{t.crate}.specs.Shared": "PacksInto",
         f"{base}.{f.m}.{f.type}C": f"{f.type}C",
@@ -65,17 +67,17 @@ def spec_uses(t: Target, text: str) -> list[str]:
 # The lemmas that proofs for C use.
 LEMMAS: Table = {
     "Rattle.std.proofs.Common": "≡ ≢ < ≤ ++ ∷ [] ∙ + - * / ℕ ℤ Bool List Result Ok Err length refl sym ap ap₂ subst arith rules",
-    "Rattle.std.specs.Prelude": "pos take drop",
+    "Rattle.std.specs.Prelude": "^ pos take drop",
     "Rattle.std.proofs.lemmas.List": "take-append-drop length-take-le take_at drop_at",
     "Rattle.std.proofs.lemmas.Bool": "cases_lt",
     "Rattle.std.proofs.lemmas.Bool.Decides": "nat_tests eqb_tells",
     "Rattle.bitstream_io.proofs.WordLemmas": "length-bits bits-append",
     "Rattle.bitstream_io.proofs.CallerLemmas": "inl inr packs-whole is_error slice_ends packed-bits packed-room",
     "Rattle.bitstream_io.proofs.SequenceLemmas": "counted",
-    "Rattle.bitstream_io.proofs.UnaryLemmas": "length-unary",
     "Rattle.bitstream_io.proofs.VbrLemmas": "zig-lt",
     "Rattle.bitstream_io.specs.Word": "zig",
     "Rattle.bitstream_format.specs.Varint": "varint_length varint_width",
+    "Rattle.bitstream_format.specs.SizeLaws": "stored-whole",
     "Rattle.bitstream_io.specs.Callers": "EndOfInput Error High Low align OwnAnswer ReadsOwn BitSource result_map bits same_error",
     "Rattle.std.specs.Result": "IsErrAnd",
     "Rattle.bitstream_io.specs.Codec": "Prefix Incomplete Done",

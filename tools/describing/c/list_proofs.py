@@ -5,17 +5,21 @@ import re
 
 from describing import model as m
 from describing.c import cross, varying
-from describing.c.cross import base, lists
+from describing.c.cross import Listed, base, is_stated, lists, spec_item
 from describing.c.imports import answer_uses
-from describing.c.lists import decoder, given, parse_answers
+from describing.c.lists import count_name, decoder, given, parse_answers
 from describing.c.target import Target
 from describing.layout import Format, Line
 from describing.proofs import calls
 from describing.proofs.chains import Answers, Call
 from describing.proofs.loops import write_answers, write_invariants
+from describing.proofs.parts import write_answers as part_writes
 from describing.specs.terms import asked_enum
 
-RESIDUAL = re.compile(r"c\.from_residual(?:-in_err-[\w-]+)?\.ensures\.1")
+RESIDUAL = re.compile(r"c\.from_residual(?:-in_err-[^\s.]+)?\.ensures\.1")
+
+
+SIGNED = "use Rattle.bitstream_io.proofs.WriteSteps.{signed_value}\n"
 
 
 class Reads(Answers):
@@ -31,9 +35,14 @@ class Reads(Answers):
         if found and "returns-" in head:
             text = f"stopped _ {found[0]} (λ s residual. {text.replace(found[0], 'residual')})"
         else:
-            kept = " ".join(f"c.in_ok-read_{it.name}.ensures.keeps" for it in lists(self.f.description))
+            kept = " ".join(f"c.in_ok-{label(self.f, it)}.ensures.keeps" for it in lists(self.f.description))
             text = f"read_done ({text}) (search rules) {kept}"
         return super().laid_out(head, text)
+
+
+def label(f: Format, kind: Listed) -> str:
+    """Returns the name of the call that reads a list."""
+    return count_name(f, kind) if is_stated(kind) else f"read_{kind.name}"
 
 
 def read_answers(f: Format) -> str:
@@ -43,10 +52,13 @@ def read_answers(f: Format) -> str:
         form, fact, wide = calls.read_call(f, it)
         asks = isinstance(it.kind, m.If) and asked_enum(f, it.kind) is not None
         known = (f"c.{steps.next('number')}.ensures",) if asks else ()
-        label = calls.read_label(it)
-        if isinstance(it.kind, m.List):
-            form, fact, label = "read", "reads", f"read_{it.name}"
-        made.append(Call(form, fact, labels.next(label), "", wide=wide, known=known))
+        named = calls.read_label(it)
+        if cross.is_listed(it.kind):
+            form, fact, named = "part" if is_stated(it.kind) else "read", "reads", label(f, it.kind)
+            known = (
+                (f"c.size_in_units-{count_name(f, it.kind)}.ensures",) if it.units and not is_stated(it.kind) else ()
+            )
+        made.append(Call(form, fact, labels.next(named), "", wide=wide, known=known))
     answers = Reads(f)
     parts = answers.all(made)
     return "\n\n".join([answers.uses("GOALS"), *parts])
@@ -61,7 +73,10 @@ class Writes(calls.Writes):
 
     def known(self, line: Line) -> tuple[str, ...]:
         """Returns the equations of the arguments of a call."""
-        return () if isinstance(line.kind, m.List | m.Count) else super().known(line)
+        kind = line.kind
+        if isinstance(kind, m.Size):
+            return (f"c.{self.steps.next('stored_size')}.ensures",) if kind.units else ()
+        return () if isinstance(kind, m.List | m.Sized | m.Count) else super().known(line)
 
 
 def write_fields(f: Format) -> str:
@@ -73,18 +88,19 @@ def write_fields(f: Format) -> str:
     return "\n\n".join([answers.uses("GOALS"), *parts])
 
 
-def items_read(f: Format, kind: m.List, order: str, count: str) -> str:
+def items_read(f: Format, kind: Listed, order: str, count: str) -> str:
     """Returns the read of items, before it is one of a list."""
     if isinstance(kind.item, m.Octet):
         return f"(bytes_decoder {order} {count})"
     return decoder(f, kind, order, count)
 
 
-def invariant(t: Target, kind: m.List) -> str:
+def invariant(t: Target, kind: Listed) -> str:
     """Returns the invariant of the loop that reads a list."""
     f = t.f
     reads = items_read(f, kind, "K.order", "l.place")
     names = "bytes_decoder" if isinstance(kind.item, m.Octet) else "items_decoder, list_item, unsigned_decoder"
+    names = names.replace("unsigned", "signed") if spec_item(kind) == "ℤ" else names
     return f"""-- {t.made}
 use Rattle.std.proofs.Common.{{Ok}}
 use Rattle.bitstream_io.specs.Callers.{{Reads, {names}}}
@@ -99,7 +115,7 @@ invariant-loop-place g l =
 """
 
 
-def list_answers(t: Target, kind: m.List) -> str:
+def list_answers(t: Target, kind: Listed) -> str:
     """Returns the answers of the function that reads a list."""
     return octets_answers(t, kind) if isinstance(kind.item, m.Octet) else numbers_answers(t, kind)
 
@@ -107,7 +123,7 @@ def list_answers(t: Target, kind: m.List) -> str:
 ALL = "let all : c.loop-place.place ≡ c.args.count = omega (arith, c.loop-place-test.false, c.loop-place.auto.place-end) in"
 
 
-def octets_answers(t: Target, kind: m.List) -> str:
+def octets_answers(t: Target, kind: Listed) -> str:
     """Returns the answers for a list of bytes."""
     return f"""-- {t.made}
 use Rattle.std.proofs.Common.{{◌≡◌, ◌∙◌, ◌+◌, ◌++◌, ◌∷◌, [], refl, sym, arith, length-append}}
@@ -165,10 +181,27 @@ returns g c =
 """
 
 
-def numbers_answers(t: Target, kind: m.List) -> str:
+def kept(kind: Listed) -> str:
+    """Returns what is known of the slice with one item more."""
+    found, width = f"c.keep_{base(kind)}.ensures was.all _ was.size was.keeps", base(kind)[1:]
+    if spec_item(kind) == "ℕ":
+        return found
+    return f"rw (to_z-of_z w{width} c.in_ok-item.item (search (sfits_of, c.in_ok-item))) at ({found})"
+
+
+def signed_uses(kind: Listed) -> tuple[str, str]:
+    """Returns the imports of the proofs of signed items, and the width among those of the standard library."""
+    if spec_item(kind) == "ℕ":
+        return "", ""
+    return "use borrow.Author.Rules.{sfits_of}\n", f", w{base(kind)[1:]}"
+
+
+def numbers_answers(t: Target, kind: Listed) -> str:
     """Returns the answers for a list of numbers."""
+    more, width = signed_uses(kind)
+    more += "use Rattle.std.proofs.lemmas.Int.{to_z-of_z}\n" * bool(more)
     return f"""-- {t.made}
-use Rattle.std.proofs.Common.{{◌≡◌, ◌∙◌, ◌+◌, ◌++◌, ◌∷◌, [], refl, sym, arith, length-append}}
+{more}use Rattle.std.proofs.Common.{{◌≡◌, ◌∙◌, ◌+◌, ◌++◌, ◌∷◌, [], refl, sym, arith, length-append{width}}}
 use Rattle.bitstream_io.proofs.CallerLemmas.{{item-read, items-begin, items-push, items-stop}}
 use Rattle.{t.crate}.proofs.ListLemmas.{{failed_ok, kept_begin}}
 use Rattle.{t.crate}.proofs.{t.f.m}.read_{kind.name}.Goals as goal
@@ -194,7 +227,7 @@ loop-place-preserved g c =
       all = was.all ++ c.in_ok-item.item ∷ [];
       reads = items-push _ _ refl was.reads (item-read c.in_ok-item.ensures.reads);
       size = omega (arith, length-append was.all (c.in_ok-item.item ∷ []), was.size);
-      keeps = c.keep_{base(kind)}.ensures was.all _ was.size was.keeps;
+      keeps = {kept(kind)};
     }}
 
 pub returns : goal.returns
@@ -205,17 +238,81 @@ returns g c =
 """
 
 
+def stated_answers(t: Target, line: Line) -> str:
+    """Returns the answers of the function that reads bytes by the number that states their size."""
+    f, name, goal = t.f, line.name, f"Rattle.{t.crate}.proofs.{t.f.m}.read_stated_{line.name}.Goals"
+    shape = f"{line.units} {line.error} sized_bytes _ _"
+    some = f"stated_own-some {shape} (sym c.in-Some.is ∙ c.stated_size.ensures)"
+    return f"""-- {t.made}
+use Rattle.bitstream_format.specs.Stated.{{sized_bytes}}
+use Rattle.{f.crate}.specs.declared.{f.m}.{f.error}.TheVariants.{{{line.error}}}
+use Rattle.std.proofs.Common.{{◌∙◌, [], refl, sym}}
+use Rattle.bitstream_io.proofs.CallerLemmas.{{next_own_read, exit_own_read, own_end}}
+use Rattle.bitstream_io.proofs.EachLemmas.{{own_map_err}}
+use Rattle.{t.crate}.proofs.ListLemmas.{{failed_if, kept_begin}}
+use Rattle.{t.crate}.proofs.StatedLemmas.{{stated_own-none, stated_own-some}}
+use {goal} as goal
+
+pub returns-in-None : goal.returns-in-None
+returns-in-None g c = record {{
+  all = [];
+  reads = stated_own-none {shape} (sym c.in-None.is ∙ c.stated_size.ensures);
+  size = tt;
+  keeps = kept_begin _;
+}}
+
+pub returns-in_err-read_{name}-in-Some : goal.returns-in_err-read_{name}-in-Some
+returns-in_err-read_{name}-in-Some g c =
+    let was = c.in_err-read_{name}-in-Some.ensures in
+    record {{
+      all = was.all;
+      reads = rw (own_map_err _ c.from_residual.result c.from_residual.ensures.1)
+          ({some} (exit_own_read _ refl was.reads));
+      size = failed_if _ _ c.from_residual.result c.from_residual.ensures.1;
+      keeps = was.keeps;
+    }}
+
+pub returns-in_ok-read_{name}-in-Some : goal.returns-in_ok-read_{name}-in-Some
+returns-in_ok-read_{name}-in-Some g c =
+    let was = c.in_ok-read_{name}-in-Some.ensures in
+    record {{
+      all = was.all;
+      reads = {some} (next_own_read _ was.reads (own_end _ _));
+      size = was.size refl;
+      keeps = was.keeps;
+    }}
+"""
+
+
+def optional_files(t: Target, use: m.Use) -> dict[str, str]:
+    """Returns the proofs of the functions that read and write a part that may be there or not."""
+    f, name, out = t.f, m.snake(use.name), dict[str, str]()
+    goals = f"Rattle.{t.crate}.proofs.{f.m}"
+    read = calls.optional_answers(f, use).replace(f.made, t.made).replace(f.goals, goals)
+    out[f"proofs/{f.m}/read_{name}_if/Answers.antt"] = read
+    none = "use Rattle.bitstream_io.proofs.WriteParts.{all_none}"
+    for path, lines in part_writes(f, use).items():
+        text = "\n".join([f"-- {t.made}", none, *lines]).replace(f.goals, goals)
+        out[f"proofs/{f.m}/{path}/Answers.antt"] = f"{text}\n"
+    return out
+
+
 def keep_answers(t: Target, number: str) -> str:
     """Returns the answers of the function that keeps an item."""
+    signed, more, width, made = number[0] == "i", "", "", ""
+    if signed:
+        more = "use Rattle.std.proofs.lemmas.Int.{to_z-of_z}\nuse borrow.Author.Rules.{sfits_of}\n"
+        width, made = f", w{number[1:]}", f"rw (to_z-of_z w{number[1:]} c.args.item (search sfits_of)) "
+    last = "ap (λ k. set c.args.items.now k c.args.item) (sym size) ∙ more"
     return f"""-- {t.made}
-use Rattle.std.proofs.Common.{{◌≡◌, ◌∙◌, ◌<◌, ◌≤◌, length, set, sym, ap, subst, arith}}
+{more}use Rattle.std.proofs.Common.{{◌≡◌, ◌∙◌, ◌<◌, ◌≤◌, length, set, sym, ap, subst, arith{width}}}
 use Rattle.{t.crate}.proofs.ListLemmas.{{kept_more, kept_none}}
 use Rattle.{t.crate}.proofs.{t.f.m}.keep_{number}.Goals as goal
 
 pub returns : goal.returns
 returns c = λ all was size is.
     let more = kept_more all was c.args.items.now c.args.item (omega (arith, size, c.if-place-items.false)) is in
-    ap (λ k. set c.args.items.now k c.args.item) (sym size) ∙ more
+    {f"{made}({last})" if signed else last}
 """
 
 
@@ -238,8 +335,13 @@ def files(t: Target) -> dict[str, str]:
     for it in lists(f.description):
         found[f"{home}/read_{it.name}/Invariants.antt"] = invariant(t, it)
         found[f"{home}/read_{it.name}/Answers.antt"] = list_answers(t, it)
-        if isinstance(it.item, m.Integer):
+        if isinstance(it, m.List) and isinstance(it.item, m.Integer):
             found |= loops(t, it)
+    for line in f.lines:
+        if cross.is_listed(line.kind) and is_stated(line.kind):
+            found[f"{home}/read_stated_{line.name}/Answers.antt"] = stated_answers(t, line)
+    for use in cross.optional(f.description):
+        found |= optional_files(t, use)
     for number in dict.fromkeys(base(it) for it in lists(f.description)):
         found[f"{home}/keep_{number}/Answers.antt"] = keep_answers(t, number)
     return found
@@ -248,12 +350,14 @@ def files(t: Target) -> dict[str, str]:
 def loops(t: Target, kind: m.List) -> dict[str, str]:
     """Returns the proofs of the function that writes a list of numbers."""
     f, out = t.f, dict[str, str]()
-    names = "use Rattle.std.proofs.Common.{◌∷◌, [], refl}\nuse Rattle.bitstream_io.specs.Callers.{unsigned}\n"
+    more, width = signed_uses(kind)
+    names = f"use Rattle.std.proofs.Common.{{◌∷◌, [], refl{width}}}\n"
+    names += f"use Rattle.bitstream_io.specs.Callers.{{{'signed' if more else 'unsigned'}}}\n"
     names += "use Rattle.bitstream_io.proofs.CallerLemmas.{written-begin, written-more, written-stop}\n"
     loop = names + "use Rattle.bitstream_io.specs.Loop.{ItemsWritten}\n"
     for file, texts, head in (
         ("Invariants", write_invariants(f, kind), loop),
-        ("Answers", write_answers(f, kind), names),
+        ("Answers", write_answers(f, kind), names + (more and f"{more}{SIGNED}")),
     ):
         for function, lines in texts.items():
             text = "\n".join(lines).replace(f.goals, f"Rattle.{t.crate}.proofs.{f.m}")

@@ -1,15 +1,16 @@
 """A format with lists for C: the caller has their items, and no call allocates. Code, specs and proofs of the two functions."""
 from __future__ import annotations
 
-from typing import Callable
+from typing import Callable, TypeGuard
 
 from describing import model as m
 from describing.c import cross, varying
-from describing.c.cross import Crossed, base, is_partial, lists
+from describing.c.cross import Crossed, Listed, base, is_partial, is_stated, lists, spec_item
 from describing.c.status import DOES_NOT_FIT, END_OF_INPUT, NO_ROOM, rooms
 from describing.layout import Format, Line
 from describing.rust import calls as rust
 from describing.rust.lists import write_code
+from describing.rust.printed import called
 
 Terms = Callable[[Crossed], dict[str, str]]
 
@@ -25,6 +26,13 @@ def uses(f: Format) -> list[str]:
     return sorted(ends | set(varying.uses(f)))
 
 
+def paths(f: Format, text: str) -> list[str]:
+    """Returns the paths of what the code uses of the format's crate and of the library, besides the format itself."""
+    golomb = {it for line in f.lines for it in rust.imports(line) if it.startswith("bitstream_io::golomb")}
+    named = [it for it in cross.parts(f.description) if f"{it.name}::read(" in text or f"Option<{it.name}>" in text]
+    return sorted({f"{f.crate}::{it.module}::{it.name}" for it in named} | golomb | called(text))
+
+
 # ---- code
 
 
@@ -36,7 +44,7 @@ def given_code(f: Format) -> list[str]:
         f"pub(crate) struct {given(f)}<'a> {{",
     ]
     for it in cross.fields(f.description):
-        kind = f"&'a [{base(it)}]" if isinstance(it, m.List) else m.rust_type(it)
+        kind = f"&'a [{base(it)}]" if cross.is_listed(it) else m.rust_type(it)
         out += [f"    {it.name}: {kind},"]
     return [*out, "}", ""]
 
@@ -56,7 +64,7 @@ def fields_code(f: Format, from_c: Callable[[Crossed], str], let_code: Callable[
     all_fields, t = cross.fields(f.description), given(f)
     made = list[str]()
     for it in all_fields:
-        value = f": {it.name}_items" if isinstance(it, m.List) else "" if is_partial(it) else f": {from_c(it)}"
+        value = f": {it.name}_items" if cross.is_listed(it) else "" if is_partial(it) else f": {from_c(it)}"
         made.append(f"            {it.name}{value},")
     now = " ".join(f"{it}.now" for it in items_names(f))
     return [
@@ -75,23 +83,32 @@ def fields_code(f: Format, from_c: Callable[[Crossed], str], let_code: Callable[
     ]
 
 
-def tests(f: Format, kind: m.List) -> list[str]:
+def tests(f: Format, kind: Listed) -> list[str]:
     """Returns the tests that a list fits its bits."""
-    width = next(it.width for it in f.description.kinds if isinstance(it, m.Count) and it.target == kind.name)
-    return [f"value.{kind.name}.len() <= {2**width - 1}", f"{items_name(kind)}(value.{kind.name})"]
+    line, count = cross.counted(f.description, kind), f"value.{kind.name}.len()"
+    most = (1 << line.width) - 1
+    if isinstance(line, m.Size) and line.units:
+        count = f"stored_size({count} as u64, {', '.join(line.units.split())})"
+    return [f"{count} <= {most}", f"{items_name(kind)}(value.{kind.name})"]
 
 
-def items_name(kind: m.List) -> str:
+def items_name(kind: Listed) -> str:
     """Returns the name of the function that tests the items of a list."""
     return f"all_fit_{base(kind)}_{kind.item.width}" if isinstance(kind.item, m.Integer) else "all_bytes"
 
 
-def decoder(f: Format, kind: m.List, order: str, count: str) -> str:
+def needs_loop(kind: Listed) -> TypeGuard[m.List]:
+    """Returns true if a function writes the items of a list one after another."""
+    return isinstance(kind, m.List) and isinstance(kind.item, m.Integer)
+
+
+def decoder(f: Format, kind: Listed, order: str, count: str) -> str:
     """Returns the read of a list."""
     if isinstance(kind.item, m.Octet):
         return f"(vec_decoder {order} {count})"
     assert isinstance(kind.item, m.Integer)
-    return f"(items_decoder (list_item (unsigned_decoder {order} {kind.item.base[1:]} {kind.item.width})) {count})"
+    one = f"{'' if kind.item.signed else 'un'}signed_decoder {order} {kind.item.base[1:]} {kind.item.width}"
+    return f"(items_decoder (list_item ({one})) {count})"
 
 
 def keep_code(number: str) -> list[str]:
@@ -99,7 +116,7 @@ def keep_code(number: str) -> list[str]:
     return [
         "/// Puts an item that was read into its place, if there is room for it.",
         f"fn keep_{number}(items: &mut [{number}], place: u64, item: {number})",
-        "    ensures { (all was : List ℕ) → length all ≡ place → items.old ≡ stored all was",
+        f"    ensures {{ (all was : List {'ℤ' if number[0] == 'i' else 'ℕ'}) → length all ≡ place → items.old ≡ stored all was",
         "        → items.new ≡ stored (all ++ item ∷ []) was }",
         "{",
         "    if place >= items.len() as u64 {",
@@ -111,7 +128,7 @@ def keep_code(number: str) -> list[str]:
     ]
 
 
-def read_list_code(f: Format, kind: m.List) -> list[str]:
+def read_list_code(f: Format, kind: Listed) -> list[str]:
     """Returns the function that reads a list."""
     number, octets = base(kind), isinstance(kind.item, m.Octet)
     return [
@@ -133,9 +150,43 @@ def read_list_code(f: Format, kind: m.List) -> list[str]:
 
 def read_statement(f: Format, line: Line) -> str:
     """Returns the statement that reads a line."""
-    if isinstance(line.kind, m.List):
-        return f"read_{line.name}(reader, {line.name}_items, {line.name}_count)?;"
-    return rust.reads(f, line)
+    if not cross.is_listed(line.kind):
+        return rust.reads(f, line)
+    name, count = line.name, count_name(f, line.kind)
+    if is_stated(line.kind):
+        return f"let {count} = read_stated_{name}(reader, {name}_items, {name}_bytes)?;"
+    read = f"read_{name}(reader, {name}_items, {count})?;"
+    return f"let {count} = {rust.octets_count(line)};\n    {read}" if line.units else read
+
+
+def count_name(f: Format, kind: Listed) -> str:
+    """Returns the name of the number of items of a list in the function that reads it."""
+    line = cross.counted(f.description, kind)
+    return f"{kind.name}_count" if isinstance(line, m.Size) and line.units else m.label(line)
+
+
+def stated_code(f: Format, line: Line) -> list[str]:
+    """Returns the function that reads bytes by the number that states their size."""
+    kind, name = line.kind, line.name
+    if not cross.is_listed(kind) or not is_stated(kind):
+        return []
+    return [
+        f"/// Reads `{name}`, whose size the number `stored` states, keeps the bytes for which there is room, and returns their",
+        "/// number.",
+        f"fn read_stated_{name}<R: BitRead>(reader: &mut R, items: &mut [u8], stored: u64) -> Result<u64, {f.error}>",
+        f"    ensures {{ ReadsStated R.source {f.becomes_name} ({name}_stated R.source.order stored)",
+        "        reader.old items.old result reader.new items.new }",
+        "{",
+        f"    match stated_size(stored, {', '.join(line.units.split())}) {{",
+        "        Some(count) => {",
+        f"            read_{name}(reader, items, count)?;",
+        "            Ok(count)",
+        "        }",
+        f"        None => Err({f.error}::{line.error}),",
+        "    }",
+        "}",
+        "",
+    ]
 
 
 def read_code(f: Format, to_c: Terms) -> list[str]:
@@ -143,8 +194,8 @@ def read_code(f: Format, to_c: Terms) -> list[str]:
     old, new = (" ".join(f"{it}.{when}" for it in items_names(f)) for when in ("old", "new"))
     made = list[str]()
     for it in cross.fields(f.description):
-        if isinstance(it, m.List):
-            made.append(f"        {it.name}: {it.name}_count as usize,")
+        if cross.is_listed(it):
+            made.append(f"        {it.name}: {count_name(f, it)} as usize,")
         else:
             made += [f"        {name}: {term.replace('value.', '')}," for name, term in to_c(it).items()]
     return [
@@ -166,7 +217,7 @@ def answer_code(f: Format) -> list[str]:
     t, arms = f.type, varying.arms(f)
     names = [f"{it.name}_room" for it in lists(f.description)]
     out = [
-        "/// Returns the result of a parse for C, after a read that took `taken` bytes, with room for so many items.",
+        "/// Returns the result of a parse for C, after a read that took `taken` bytes, with some room for the items of each list.",
         f"fn parsed(answer: Result<{t}C, {f.e}>, taken: usize, {', '.join(f'{it}: usize' for it in names)}) -> {t}Parsed",
         f"    ensures {{ result ≡ {f.m}_parsed taken {' '.join(names)} answer }}",
         "{",
@@ -236,10 +287,11 @@ def writing_code(f: Format) -> list[str]:
     """Returns the functions that write the fields."""
     t = given(f)
     statements = [
-        f"        {rust.write(it)}?;".replace("&self.", "self." if it.is_field else "&self.") for it in f.lines
+        f"        {rust.write(it)}?;".replace("&self.", "self." if cross.is_listed(it.kind) else "&self.")
+        for it in f.lines
     ]
     return [
-        *[line for it in lists(f.description) if isinstance(it.item, m.Integer) for line in write_code(it)],
+        *[line for it in lists(f.description) if needs_loop(it) for line in write_code(it)],
         f"impl {t}<'_> {{",
         "    /// Writes the fields in order.",
         "    fn write<W: BitWrite>(&self, writer: &mut W) -> Result<(), Error>",
@@ -296,7 +348,7 @@ def specs(f: Format) -> list[str]:
     names = [f"{it.name}_room" for it in lists(f.description)]
     count, said = len(names), " ".join(names)
     errors = varying.spec_errors(f)
-    fields = [f"  {it.name} = value.{it.name}{'.now' * isinstance(it, m.List)};" for it in cross.fields(f.description)]
+    fields = [f"  {it.name} = value.{it.name}{'.now' * cross.is_listed(it)};" for it in cross.fields(f.description)]
     test = ""
     for it, status in zip(lists(f.description), rooms(f)):
         test += f"if nat_lt {it.name}_room c.{it.name} then {f.m}_short (pos {status.number}) c.{it.name} else "
@@ -340,11 +392,13 @@ def list_arguments(f: Format) -> tuple[str, str]:
 
 def read_specs(f: Format) -> list[str]:
     """Returns the definition of what a read says."""
-    was, now = list_arguments(f)
+    was, now = (
+        " ".join(f"({it.name}_{when} : List {spec_item(it)})" for it in lists(f.description)) for when in ("was", "now")
+    )
     out = [
         "-- A read whose lists are stored: `found` is what the decoder says, and the slices hold the items of its lists.",
-        f"pub record {f.type}Read {{R : Type 0}} (K : BitSource R) (old : R) ({was} : List ℕ)",
-        f"    (result : Result {f.type}C {f.e}) (new : R) ({now} : List ℕ) : Type 0 where",
+        f"pub record {f.type}Read {{R : Type 0}} (K : BitSource R) (old : R) {was}",
+        f"    (result : Result {f.type}C {f.e}) (new : R) {now} : Type 0 where",
         f"  pub found : Result {f.type} {f.e}",
         f"  pub reads : ReadsOwn K {f.becomes_name} ({f.m}_decoder K.order) old found new",
         f"  pub told : result ≡ result_map {f.m}_to_c found",
@@ -362,6 +416,9 @@ def lemmas(f: Format) -> str:
     """Returns the lemmas of a format: when a parse succeeds, and what a read says."""
     mod, t = f.m, f.type
     was, now = list_arguments(f)
+    given_ = " ".join(
+        f"{{{it.name}_{when} : List {spec_item(it)}}}" for when in ("was", "now") for it in lists(f.description)
+    )
     names = " ".join(f"{it.name}_room" for it in lists(f.description))
     result = f"Result {t} {f.e}"
     reads = f"ReadsOwn K {f.becomes_name} ({mod}_decoder K.order) old"
@@ -408,14 +465,14 @@ value_is : {{x y : {t}}} → ok_of x ≡ ok_of y → x ≡ y
 value_is is = cc
 
 -- a read whose error a `?` returned
-pub stopped : {{R : Type 0}} {{K : BitSource R}} {{old new : R}} {{{was} {now} : List ℕ}} {{P : {f.e} → Type 0}}
+pub stopped : {{R : Type 0}} {{K : BitSource R}} {{old new : R}} {given_} {{P : {f.e} → Type 0}}
     (r : Result {t}C {f.e}) → IsErrAnd r P → ((s : {result}) → IsErrAnd s P → {reads} s new)
     → {t}Read K old {was} r new {now}
 stopped (Ok c) bad reads = absurd bad
 stopped (Err e) is reads = record {{ found = Err e; reads = reads (Err e) is; told = refl;{none} }}
 
 -- a read of all fields
-pub read_done : {{R : Type 0}} {{K : BitSource R}} {{old new : R}} {{{was} {now} : List ℕ}} {{value : {t}}}
+pub read_done : {{R : Type 0}} {{K : BitSource R}} {{old new : R}} {given_} {{value : {t}}}
     {{r : Result {t}C {f.e}}} → {reads} (Ok value) new → r ≡ Ok ({mod}_to_c value){kept}
     → {t}Read K old {was} r new {now}
 read_done {{{implicits}}} {{value = value}} reads says {facts} = record {{

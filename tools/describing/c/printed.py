@@ -8,13 +8,14 @@ import tempfile
 
 from describing.c import header, list_shared, python, rust, shared, varied
 from describing.c.code import code
-from describing.c.cross import check, lists, parts
+from describing.c.cross import check, lists, parts, stated
 from describing.c.proofs import answer_files
 from describing.c.specs import specs
 from describing.c.target import Target, target
 from describing.layout import Format
 from describing.model import Refused
-from describing.printing import add_line, format_of, lay_out, put, text_of
+from describing.printing import add_line, format_of, lay_out, plain_format, put, text_of
+from describing.renamed import shown_for_c
 
 ROOT = """//! The functions of the library `LIBRARY` that C, Rust and Python call: a module for each format.
 //!
@@ -25,15 +26,16 @@ mod shared;
 """
 
 
-def files_of(t: Target) -> dict[str, str]:
-    """Returns the texts of the crate by their places in it."""
+def files_of(t: Target, plain: Target) -> dict[str, str]:
+    """Returns the texts of the crate by their places in it; `plain` has no hidden names (`renamed.py`)."""
     f = t.f
     found = {f"src/{f.m}.rt": code(t), f"specs/{f.spec}.antt": specs(t)} | answer_files(t) | shared.files(t.crate)
     if not f.sized:
         found |= varied.files(t.crate)
     if lists(f.description):
-        found |= list_shared.files(t.crate)
-    return found | binding_files(t)
+        found |= list_shared.files(t.crate, bool(stated(f.description)))
+    shown = {shown_for_c(place, ".rt"): shown_for_c(text, place) for place, text in found.items()}
+    return shown | binding_files(plain)
 
 
 def binding_files(t: Target) -> dict[str, str]:
@@ -48,16 +50,20 @@ def binding_files(t: Target) -> dict[str, str]:
     }
 
 
-def target_of(description: str, folder: str) -> Target:
-    """Returns the target of a description `crates/NAME/formats/MODULE.fields`, whose format is printed already."""
+def target_of(description: str, folder: str) -> tuple[Target, Target]:
+    """Returns the target of a description `crates/NAME/formats/MODULE.fields`, whose format is printed already.
+
+    The second one has the names of the description.
+    """
     home = os.path.dirname(os.path.dirname(os.path.abspath(description)))
     name = os.path.basename(description).removesuffix(".fields")
     if not os.path.exists(os.path.join(home, "src", f"{name}.rt")):
         raise Refused(f"`{name}` is not printed: run `./format {description} {os.path.relpath(home)}` first")
-    f = format_of(description, home, name)
-    f.path = os.path.relpath(description, folder)
-    check(f.description)
-    return target(f, os.path.basename(os.path.abspath(folder)))
+    path, crate = os.path.relpath(description, folder), os.path.basename(os.path.abspath(folder))
+    formats = format_of(description, home, name), plain_format(description, home, name)
+    check(formats[1].description)
+    hidden, plain = (target(Format(f.crate, f.m, f.description, path), crate) for f in formats)
+    return hidden, plain
 
 
 def check_parts(f: Format, folder: str) -> None:
@@ -69,10 +75,10 @@ def check_parts(f: Format, folder: str) -> None:
 
 def printed(description: str, folder: str) -> tuple[Target, dict[str, str]]:
     """Returns the target of a description, and the texts of its files by place, as `rt fmt` lays them out."""
-    t = target_of(description, folder)
+    t, plain = target_of(description, folder)
     with tempfile.TemporaryDirectory() as room:
         crate = os.path.join(room, "crates", t.crate)
-        texts = files_of(t)
+        texts = files_of(t, plain)
         for place, text in texts.items():
             put(crate, place, text)
         put(room, "crates.txt", f"{t.crate} staticlib:\n")
@@ -98,6 +104,7 @@ def listed(t: Target) -> dict[str, list[str]]:
             "pub mod SharedLemmas",
             *["pub mod VariedLemmas"] * more,
             *["pub mod ListLemmas"] * some,
+            *["pub mod StatedLemmas"] * bool(stated(t.f.description)),
         ],
     }
 

@@ -8,10 +8,12 @@ from describing.c.cross import (
     Crossed,
     Member,
     base,
+    choice_members,
+    choices,
     comment,
     enums,
     fields,
-    item_width,
+    is_listed,
     layout,
     list_comment,
     lists,
@@ -97,8 +99,10 @@ def module(t: Target) -> str:
     body = [
         *enum_codes(t),
         *errors_code(t),
+        *[line for it in choices(t.f.description) for line in choice_classes(it)],
         *struct_code(t),
         *lists_code(t),
+        *[line for it in choices(t.f.description) for line in choice_calls(it)],
         *fields_code(t),
         *calls_code(t),
         *end_code(t),
@@ -111,10 +115,10 @@ def head_code(t: Target) -> list[str]:
     f = t.f
     out = [f'"""{t.made}', "", *paragraph(f.doc, "", ""), "", *drawn(f.description), '"""']
     out += ["from __future__ import annotations", "", "import ctypes"] + ["import enum"] * bool(enums(f.description))
-    typed = "ClassVar, Sequence" if lists(f.description) else "ClassVar"
+    typed = "ClassVar" + ", Sequence" * bool(lists(f.description)) + ", Union" * bool(choices(f.description))
     out += ["from dataclasses import dataclass", f"from typing import {typed}", "", ""]
     body = "".join(value for it in fields(f.description) for value in to_c(it).values())
-    body += "\n".join(lists_code(t))
+    body += "\n".join([*lists_code(t), *[line for it in choices(f.description) for line in choice_calls(it)]])
     needs = [it for it in ("case", "items", "number", "part") if f"{it}(" in body]
     out[-1] = f"from ._library import {', '.join(sorted([*needs, 'library']))}"
     return out + [f"from . import {it.module} as _{it.module}" for it in parts(f.description)] + ["", ""]
@@ -161,30 +165,40 @@ def errors_code(t: Target) -> list[str]:
     return [*out, f"_ERRORS: dict[int, type[{e}]] = {{{rows}}}", "", ""]
 
 
+def c_number(number: str) -> str:
+    """Returns the type of `ctypes` of a number."""
+    return f"ctypes.c_{'int' if number[0] == 'i' else 'uint'}{number[1:]}"
+
+
 def c_type(member: Member) -> str:
     """Returns the type of `ctypes` of a member."""
     if member.module:
         return f"_{member.module}._C"
     if member.item:
         return f"_{member.name.capitalize()}Items"
-    one = f"ctypes.c_{'int' if member.base[0] == 'i' else 'uint'}{member.base[1:]}"
+    one = c_number(member.base)
     return one if member.count is None else f"{one} * {member.count}"
 
 
 def struct_code(t: Target) -> list[str]:
     """Returns the struct of C, and before it those of the lists."""
     out = list[str]()
+    for kind in choices(t.f.description):
+        out += choice_struct(kind)
     for it in members(t.f.description):
         if it.item:
             out += [f"class _{it.name.capitalize()}Items(ctypes.Structure):", "    _fields_ = ["]
-            out += [f'        ("items", ctypes.POINTER(ctypes.c_uint{it.item[1:]})),']
+            out += [f'        ("items", ctypes.POINTER({c_number(it.item)})),']
             out += ['        ("capacity", ctypes.c_size_t),', '        ("length", ctypes.c_size_t),', "    ]", "", ""]
     return out + fields_struct(t)
 
 
 def fields_struct(t: Target) -> list[str]:
     """Returns the struct of C."""
-    rows = [f'        ("{python_name(it.name)}", {c_type(it)}),' for it in members(t.f.description)]
+    rows = list[str]()
+    for it in members(t.f.description):
+        name, kind = (it.choice, f"_{it.choice.capitalize()}Choice") if it.choice else (it.name, c_type(it))
+        rows += [f'        ("{python_name(name)}", {kind}),'] * (not it.case)
     return ["class _C(ctypes.Structure):", "    _fields_ = [", *rows, "    ]", "", ""]
 
 
@@ -193,7 +207,7 @@ def hint(kind: Crossed) -> str:
     match kind:
         case m.Bool():
             return "bool"
-        case m.Number() | m.NonZero() | m.Unary() | m.Groups() | m.Golomb() | m.Varint():
+        case m.Number() | m.NonZero() | m.Groups() | m.Golomb() | m.Varint():
             return "int"
         case m.MaybeNonZero():
             return "int | None"
@@ -205,14 +219,16 @@ def hint(kind: Crossed) -> str:
             return f"_{kind.use.module}.{kind.use.name}"
         case m.Optional() | m.If():
             return f"_{kind.use.module}.{kind.use.name} | None"
-        case m.List():
+        case m.Choose():
+            return kind.type
+        case m.List() | m.Sized():
             return "bytes" if isinstance(kind.item, m.Octet) else "list[int]"
     assert_never(kind)
 
 
 def said(t: Target, kind: Crossed) -> str:
     """Returns the comment of a field."""
-    if isinstance(kind, m.List):
+    if is_listed(kind):
         return list_comment(t.f.description, kind)
     text = comment(kind)
     if isinstance(kind, m.MaybeNonZero):
@@ -237,7 +253,7 @@ def span(kind: Crossed) -> str:
     match kind:
         case m.Number(integer=number) | m.Array(item=m.Integer() as number) | m.Groups(integer=number):
             return f"{number.least}, {number.most}"
-        case m.Unary() | m.Varint() | m.Golomb():
+        case m.Varint() | m.Golomb():
             least, most = m.range_of(kind) or (0, 0)
             return f"{least}, {most}"
         case m.NonZero():
@@ -256,9 +272,12 @@ def to_c(kind: Crossed) -> dict[str, str]:
         one = f'part({v}, _{kind.use.module}.{kind.use.name}, {at})._to_c({at[:-1]}.")'
         none = f"_{kind.use.module}._C() if {v} is None else {one}"
         return {python_name(f"has_{kind.name}"): f"0 if {v} is None else 1", python_name(kind.name): none}
-    if isinstance(kind, m.List):
+    if is_listed(kind):
         name = python_name(kind.name)
         return {name: f'_{kind.name}(self.{name}, at + "{name}")'}
+    if isinstance(kind, m.Choose):
+        name = python_name(kind.name)
+        return {name: f'_{kind.name}_choice(self.{name}, at + "{name}")'}
     return {python_name(kind.name): one_to_c(kind)}
 
 
@@ -285,7 +304,7 @@ def from_c(kind: Crossed) -> str:
     match kind:
         case m.Bool():
             return f"{v} != 0"
-        case m.Number() | m.NonZero() | m.Unary() | m.Groups() | m.Golomb() | m.Varint():
+        case m.Number() | m.NonZero() | m.Groups() | m.Golomb() | m.Varint():
             return v
         case m.MaybeNonZero():
             return f"{v} or None"
@@ -297,7 +316,9 @@ def from_c(kind: Crossed) -> str:
             return f"_{kind.use.module}.{kind.use.name}._from_c({v})"
         case m.Optional() | m.If():
             return f"_{kind.use.module}.{kind.use.name}._from_c({v}) if out.has_{kind.name} else None"
-        case m.List():
+        case m.Choose():
+            return f"_{kind.name}_chosen({v})"
+        case m.List() | m.Sized():
             return f"{'bytes' if isinstance(kind.item, m.Octet) else 'list'}({v}.items[: {v}.length])"
     assert_never(kind)
 
@@ -306,15 +327,88 @@ def lists_code(t: Target) -> list[str]:
     """Returns the functions that make the structs of lists."""
     out = list[str]()
     for it in lists(t.f.description):
-        kind, most = f"ctypes.c_uint{base(it)[1:]}", 2 ** item_width(it) - 1
+        kind, (least, most) = c_number(base(it)), (it.item.least, it.item.most) if isinstance(it.item, m.Integer) else (
+            0,
+            255,
+        )
         out += [
             f"def _{it.name}(values: Sequence[int], name: str) -> _{it.name.capitalize()}Items:",
-            f'    found = items(values, len(values) if hasattr(values, "__len__") else 0, 0, {most}, name)',
+            f'    found = items(values, len(values) if hasattr(values, "__len__") else 0, {least}, {most}, name)',
             f"    return _{it.name.capitalize()}Items(({kind} * len(found))(*found), len(found), len(found))",
             "",
             "",
         ]
     return out
+
+
+def choice_struct(kind: m.Choose) -> list[str]:
+    """Returns the struct of a choice."""
+    name, held = kind.name.capitalize(), list[str]()
+    for it in choice_members(kind):
+        held += [f'        ("{python_name(m.snake(it.case))}", {c_type(it)}),'] * bool(it.case)
+    union = [f"class _{name}Union(ctypes.Union):", "    _fields_ = [", *held, "    ]", "", ""] * bool(held)
+    union += [f"class _{name}Choice(ctypes.Structure):", "    _fields_ = [", '        ("which", ctypes.c_int),']
+    return [*union, *[f'        ("held", _{name}Union),'] * bool(held), "    ]", "", ""]
+
+
+def choice_classes(kind: m.Choose) -> list[str]:
+    """Returns a dataclass for each case of a choice, and their union."""
+    out = list[str]()
+    for it in kind.arms:
+        said = (
+            f"The case of the number {it.number}."
+            if it.number is not None
+            else "Another number, with nothing after it. No number of another case fits."
+        )
+        out += [
+            "@dataclass",
+            f"class {kind.type}{it.case}:",
+            f'    """{kind.doc or f"The field `{kind.name}`."} {said}"""',
+            "",
+        ]
+        if isinstance(it.held, m.Use):
+            out += [f"    value: _{it.held.module}.{it.held.name}", '    """The content of the case."""', ""]
+        elif it.number is None:
+            out += ["    number: int", f'    """The number. Below 2^{kind.width}."""', ""]
+        out += [""]
+    return [*out, f"{kind.type} = Union[{', '.join(f'{kind.type}{it.case}' for it in kind.arms)}]", "", ""]
+
+
+def choice_calls(kind: m.Choose) -> list[str]:
+    """Returns the functions that make the struct of a choice, and a case of such a struct."""
+    name, named = kind.name.capitalize(), {it.case: python_name(m.snake(it.case)) for it in choice_members(kind)}
+    to_c_, from_c_ = list[str](), list[str]()
+    for k, it in enumerate(kind.arms):
+        there = f"{kind.type}{it.case}"
+        made, given = f"_{name}Choice({k})", f"{there}()"
+        if it.case in named:
+            one, given = (
+                f'number(value.number, 0, {2**kind.width - 1}, name + ".number")',
+                f"{there}(out.held.{named[it.case]})",
+            )
+            if isinstance(it.held, m.Use):
+                module = f"_{it.held.module}.{it.held.name}"
+                one = f'part(value.value, {module}, name + ".value")._to_c(name + ".value.")'
+                given = f"{there}({module}._from_c(out.held.{named[it.case]}))"
+            made = f"_{name}Choice({k}, _{name}Union({named[it.case]}={one}))"
+        to_c_ += [f"    if isinstance(value, {there}):", f"        return {made}"]
+        from_c_ += (
+            [f"    if out.which == {k}:", f"        return {given}"]
+            if it is not kind.arms[-1]
+            else [f"    return {given}"]
+        )
+    wanted = f'f"{{name}}: {kind.type} is wanted, and not {{type(value).__name__}}"'
+    return [
+        f"def _{kind.name}_choice(value: {kind.type}, name: str) -> _{name}Choice:",
+        *to_c_,
+        f"    raise TypeError({wanted})",
+        "",
+        "",
+        f"def _{kind.name}_chosen(out: _{name}Choice) -> {kind.type}:",
+        *from_c_,
+        "",
+        "",
+    ]
 
 
 def refusals(t: Target) -> str:
@@ -447,7 +541,8 @@ def end_code(t: Target) -> list[str]:
     """Returns the test of the layout, and the types of the functions of C."""
     f = t.f
     size, offset, _ = layout(f.description, public=True)
-    last = python_name(members(f.description)[-1].name)
+    member = members(f.description)[-1]
+    last = python_name(member.choice or member.name)
     taken = [] if f.sized else ["    ctypes.POINTER(ctypes.c_size_t),"]
     pointers = "[ctypes.c_char_p, ctypes.c_size_t, ctypes.POINTER(_C)]"
     parse = [f"{f'library.{f.m}'}_parse.argtypes = {pointers}"]

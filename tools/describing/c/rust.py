@@ -8,9 +8,12 @@ from describing.c.cross import (
     Crossed,
     Member,
     base,
+    choice_members,
+    choices,
     comment,
     enums,
     fields,
+    is_listed,
     layout,
     limits,
     list_comment,
@@ -30,7 +33,8 @@ OWNING = "#[derive(Clone, Debug, PartialEq, Eq, Hash)]"  # of a type with lists
 def module(t: Target) -> str:
     """Returns the module."""
     f = t.f
-    body = [*struct_code(t), *[line for it in enums(f.description) for line in enum_code(t, it)], *error_code(t)]
+    body = [*struct_code(t), *[line for it in enums(f.description) for line in enum_code(t, it)]]
+    body += [*[line for it in choices(f.description) for line in choice_code(t, it)], *error_code(t)]
     body += [*crossing_code(t), *calls_code(t)]
     text = "\n".join(body)
     out = [f"//! {t.made}", "//!", f"//! {f.doc}", "//!", "//! ```text", *[f"//! {it}" for it in drawn(f.description)]]
@@ -47,7 +51,7 @@ def struct_code(t: Target) -> list[str]:
     for it in fields(t.f.description):
         said = it.doc if isinstance(it, m.Enum | m.MaybeNonZero) else comment(it)
         said = f"{said} {limits(it).split(';')[0]}." if isinstance(it, m.MaybeNonZero) else said
-        said = list_comment(t.f.description, it) if isinstance(it, m.List) else said
+        said = list_comment(t.f.description, it) if is_listed(it) else said
         out += [*doc(said, "    "), f"    pub {it.name}: {m.rust_type(it)},"]
     return [*out, "}", ""]
 
@@ -85,6 +89,55 @@ def enum_code(t: Target, enum: m.EnumType) -> list[str]:
         "}",
         "",
     ]
+
+
+def choice_code(t: Target, kind: m.Choose) -> list[str]:
+    """Returns the enum of a choice."""
+    out = [*doc(kind.doc or f"The field `{kind.name}`."), DERIVES, f"pub enum {kind.type} {{"]
+    for it in kind.arms:
+        held = f"({it.held.name})" if isinstance(it.held, m.Use) else ""
+        said = f"The case of the number {it.number}."
+        if it.number is None:
+            said = f"Another number below 2^{kind.width}, with nothing after it. No number of a case above fits."
+            held = f"({other_type(kind)})"
+        out += [*doc(said, "    "), f"    {it.case}{held},"]
+    return [*out, "}", ""]
+
+
+def other_type(kind: m.Choose) -> str:
+    """Returns the type of another number."""
+    return f"u{next(it for it in (8, 16, 32) if it >= kind.width)}"
+
+
+def choice_to_c(kind: m.Choose) -> dict[str, str]:
+    """Returns the members of the struct that crosses for a choice."""
+    v = f"value.{kind.name}"
+    rows = []
+    for k, it in enumerate(kind.arms):
+        rows.append(f"{kind.type}::{it.case}{'(_)' * bool(it.held or it.number is None)} => {k}")
+    found = {f"{kind.name}_case": matched(v, rows)}
+    for member in choice_members(kind):
+        if member.case:
+            some = f"{member.base}::new(it)" if member.module else "*it"
+            none = f"{member.base}::ZERO" if member.module else "0"
+            pattern = f"{kind.type}::{member.case}(it)"
+            found[member.name] = f"if let {pattern} = &{v} {{ {some} }} else {{ {none} }}"
+    return found
+
+
+def choice_from_c(kind: m.Choose) -> str:
+    """Returns the choice of the struct that crosses."""
+    named, rows = {it.case: it for it in choice_members(kind)}, list[str]()
+    for k, it in enumerate(kind.arms):
+        held = f"(self.{named[it.case].name}{'.fields()?' * bool(it.held)})" if it.case in named else ""
+        rows.append(f"{k} => {kind.type}::{it.case}{held}")
+    return matched(f"self.{kind.name}_case", [*rows, "_ => return None"])
+
+
+def matched(value: str, rows: list[str]) -> str:
+    """Returns a `match` as the value of a field."""
+    arms = "".join(f"                {it},\n" for it in rows)
+    return f"match {value} {{\n{arms}            }}"
 
 
 def error_name(t: Target) -> str:
@@ -138,7 +191,7 @@ def number(status: Status) -> str:
 def to_c(kind: Crossed) -> dict[str, str]:
     """Returns the members of the struct that crosses for a field."""
     v = f"value.{kind.name}"
-    if isinstance(kind, m.List):
+    if is_listed(kind):
         return {kind.name: f"{v}.len()"}
     if isinstance(kind, m.Optional | m.If):
         there = f"u8::from({v}.is_some())"
@@ -146,6 +199,8 @@ def to_c(kind: Crossed) -> dict[str, str]:
             f"has_{kind.name}": there,
             kind.name: f"{v}.as_ref().map_or({kind.use.name}C::ZERO, {kind.use.name}C::new)",
         }
+    if isinstance(kind, m.Choose):
+        return choice_to_c(kind)
     return {kind.name: one_to_c(kind)}
 
 
@@ -155,7 +210,7 @@ def one_to_c(kind: Crossed) -> str:
     match kind:
         case m.Bool():
             return f"u8::from({v})"
-        case m.Number() | m.Array() | m.Unary() | m.Groups() | m.Golomb() | m.Varint():
+        case m.Number() | m.Array() | m.Groups() | m.Golomb() | m.Varint():
             return v
         case m.NonZero():
             return f"{v}.get()"
@@ -174,7 +229,7 @@ def from_c(kind: Crossed) -> str:
     match kind:
         case m.Bool():
             return f"{v} != 0"
-        case m.Number() | m.Array() | m.Unary() | m.Groups() | m.Golomb() | m.Varint():
+        case m.Number() | m.Array() | m.Groups() | m.Golomb() | m.Varint():
             return v
         case m.NonZero():
             return f"NonZero::<{base(kind)}>::new({v})?"
@@ -186,8 +241,10 @@ def from_c(kind: Crossed) -> str:
             return f"{v}.fields()?"
         case m.Optional() | m.If():
             return f"if self.has_{kind.name} == 0 {{ None }} else {{ Some({v}.fields()?) }}"
-        case m.List():
+        case m.List() | m.Sized():
             return f"{kind.name}_items"
+        case m.Choose():
+            return choice_from_c(kind)
     assert_never(kind)
 
 

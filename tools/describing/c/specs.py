@@ -4,7 +4,7 @@ from __future__ import annotations
 from typing import assert_never
 
 from describing import model as m
-from describing.c import cross, lists, optional, varying
+from describing.c import choices, cross, lists, optional, varying
 from describing.c.cross import Crossed, Member, base, fields, members, partial
 from describing.c.imports import spec_uses
 from describing.c.status import END_OF_INPUT, own
@@ -21,6 +21,7 @@ def specs(t: Target) -> str:
     body = [
         *narrow_specs(t.f),
         *optional.specs(t.f),
+        *choices.specs(t.f),
         *to_c_specs(t),
         *from_c_specs(t),
         *zero_specs(t),
@@ -51,7 +52,9 @@ def to_c(f: Format, kind: Crossed) -> dict[str, str]:
     """Returns the members of C for a field."""
     if isinstance(kind, m.Optional | m.If):
         return optional.to_c_specs(f, kind)
-    if isinstance(kind, m.List):
+    if isinstance(kind, m.Choose):
+        return choices.to_c_specs(f, kind)
+    if cross.is_listed(kind):
         return {kind.name: f"length value.{kind.name}"}
     return {kind.name: one_to_c(kind)}
 
@@ -62,7 +65,7 @@ def one_to_c(kind: Crossed) -> str:
     match kind:
         case m.Bool():
             return f"if {v} then 1 else 0"
-        case m.Number() | m.Array() | m.Unary() | m.Groups() | m.Golomb() | m.Varint():
+        case m.Number() | m.Array() | m.Groups() | m.Golomb() | m.Varint():
             return v
         case m.NonZero():
             return f"non_zero_{base(kind)}_get {v}"
@@ -94,7 +97,7 @@ def from_c(f: Format, kind: Crossed) -> str:
     match kind:
         case m.Bool():
             return f"not ({name} == 0)"
-        case m.Number() | m.Array() | m.Unary() | m.Groups() | m.Golomb() | m.Varint():
+        case m.Number() | m.Array() | m.Groups() | m.Golomb() | m.Varint():
             return name
         case m.NonZero() | m.MaybeNonZero():
             return f"if_any non_zero_{base(kind)} {name}"
@@ -105,7 +108,9 @@ def from_c(f: Format, kind: Crossed) -> str:
             return f"{kind.use.module}_from_c {name}"
         case m.Optional() | m.If():
             return optional.from_c_specs(f, kind)
-        case m.List():
+        case m.Choose():
+            return choices.from_c_specs(f, kind)
+        case m.List() | m.Sized():
             return f"{kind.name}_items"
     assert_never(kind)
 
@@ -123,6 +128,8 @@ def partial_type(t: Target, kind: Crossed) -> str:
             return f"Option {kind.use.name}"
         case m.Optional() | m.If():
             return f"Option (Option {kind.use.name})"
+        case m.Choose():
+            return f"Option {kind.type}"
     raise AssertionError(kind)
 
 
@@ -144,12 +151,18 @@ def from_c_specs(t: Target) -> list[str]:
     made = [f"  {it.name} = {it.name if it in held else from_c(f, it)};" for it in fields(f.description)]
     says = "-- the fields of a struct of C, or none if a number of C is no value of its field"
     kinds = cross.lists(f.description)
-    items, of_items = "".join(f" {it.name}_items" for it in kinds), "List ℕ → " * len(kinds)
+    items = "".join(f" {it.name}_items" for it in kinds)
+    of_items = "".join(f"List {cross.spec_item(it)} → " for it in kinds)
     head = f"abbrev pub {f.m}_from_c : {f.type}C → {of_items}Option {f.type}"
     if not held:
         return [says, head, f"{f.m}_from_c c{items} = Some (record {{", *made, "})", ""]
     types = " → ".join(
-        [f"{f.type}C", *["List ℕ"] * len(kinds), *(partial_type(t, it) for it in held), f"Option {f.type}"]
+        [
+            f"{f.type}C",
+            *[f"List {cross.spec_item(it)}" for it in kinds],
+            *(partial_type(t, it) for it in held),
+            f"Option {f.type}",
+        ]
     )
     somes = [pattern(it)[0] for it in held]
     out = ["-- the fields of a struct of C, of which some are made already", f"abbrev pub {f.m}_made : {types}"]

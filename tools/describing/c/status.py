@@ -6,7 +6,8 @@ from dataclasses import dataclass
 from describing import model as m
 from describing.layout import Format, reader_errors
 from describing.model import snake
-from describing.rust.calls import refusal
+from describing.rust.calls import error_cases
+from describing.text import article
 
 OK, END_OF_INPUT, NO_ROOM, DOES_NOT_FIT, NULL, BAD_NUMBER = range(6)
 
@@ -47,8 +48,7 @@ NUMBER = Status(
 
 def has_numbers(kinds: tuple[m.Kind, ...]) -> bool:
     """Returns true if numbers of variable width may be refused by the reader."""
-    runs = any(isinstance(it, m.Unary) or any(has_numbers(use.description.kinds) for use in m.uses(it)) for it in kinds)
-    return runs or any(True for _ in reader_errors(kinds))
+    return any(True for _ in reader_errors(kinds))
 
 
 def numbers(f: Format) -> list[Status]:
@@ -58,7 +58,7 @@ def numbers(f: Format) -> list[Status]:
 
 def rooms(f: Format) -> list[Status]:
     """Returns the statuses of lists without room for their items."""
-    names = [it.name for it in f.description.fields if isinstance(it, m.List)]
+    names = [it.name for it in f.description.fields if isinstance(it, m.List | m.Sized)]
     last = len(FIRST) + len(numbers(f))
     return [
         Status(last + k, f"NO_ROOM_{it.upper()}", f"The storage has no room for the items of `{it}`.")
@@ -73,9 +73,13 @@ def first(f: Format) -> list[Status]:
 
 def own(f: Format) -> list[Status]:
     """Returns the statuses of the format's own errors."""
-    firsts = {it.error: it for it in reversed(f.tests)}
-    cases = dict.fromkeys(it.error for it in f.tests)
-    return [Status(len(first(f)) + k, snake(it).upper(), refusal(firsts[it]), it) for k, it in enumerate(cases)]
+    texts = dict[str, str]()
+    for it in f.tests:
+        texts = {case: said[0].strip().removeprefix("/// ") for case, said in error_cases(it).items()} | texts
+        for use in m.uses(it.kind):
+            texts |= {use.error: f"Bits of {article(use.name)} are refused."} if use.error else {}
+    cases = dict.fromkeys(case for it in f.tests for case in error_cases(it))
+    return [Status(len(first(f)) + k, snake(it).upper(), texts[it], it) for k, it in enumerate(cases)]
 
 
 def held(f: Format) -> set[str]:

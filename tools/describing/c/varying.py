@@ -2,7 +2,8 @@
 from __future__ import annotations
 
 from describing import model as m
-from describing.c.cross import lists, most
+from describing.c.choices import most_lemma as choice_lemma
+from describing.c.cross import choices, lists, most, most_of
 from describing.c.status import DOES_NOT_FIT, END_OF_INPUT, NO_ROOM, has_numbers, held, own
 from describing.layout import Format, Line
 
@@ -374,13 +375,18 @@ def bound(f: Format, line: Line) -> tuple[str, str]:
     """Returns the statement of a fact about the number of bits of a line, and its name; empty if none is needed."""
     kind, v, fact = line.kind, f"value.{line.name}", f"{line.name}_most"
     match kind:
-        case m.Unary():
-            return f"let {fact} = length-unary {('false', 'true')[kind.stop]} {v} in", fact
-        case m.Groups() if not kind.integer.signed:
-            term = (
-                f"groups_most {f.o} {kind.group} {kind.integer.width} {v} (omega arith) (omega arith) fits.{line.name}"
-            )
+        case m.Groups():
+            width, number, small = kind.integer.width, v, f"fits.{line.name}"
+            if kind.integer.signed:
+                number, small = f"(zig {v})", f"(zig-lt {width} {v} (omega arith) {small})"
+            term = f"groups_most High {kind.group} {width} {number} (omega arith) (omega arith) {small}"
             return f"let {fact} = {term} in", f"{fact}.1, {fact}.2"
+        case m.Varint():
+            return f"let {fact} = width_most (varint_length {v}) in", fact
+        case m.Sized() if line.size and line.units:
+            most_ = f"(2 ^ {line.size.width})"
+            whole = f"stored-whole {line.units} (length {v}) {most_} fits.{m.label(line.size)} refl refl"
+            return f"let {fact} = {whole} in", fact
         case m.Part() if m.bits(kind) is None:
             return f"let {fact} = {kind.use.module}_most {v} fits.{line.name} in", fact
         case m.Optional() | m.If():
@@ -388,6 +394,8 @@ def bound(f: Format, line: Line) -> tuple[str, str]:
             one = f"{use.module}_most" if use.description.bits is None else "(λ it fit. omega arith)"
             says = f"optional_most ({use.module}_size {f.o}) {most(use.description)} {use.name}Fits {v}"
             return f"let {fact} = {says} fits.{line.name} {one} in", fact
+        case m.Choose():
+            return f"let {fact} = {m.snake(kind.type)}_most {v} fits.{line.name} in", fact
     return "", ""
 
 
@@ -396,9 +404,11 @@ def most_lemma(f: Format) -> str:
     bounds = [it for it in (bound(f, line) for line in f.lines if line.is_field) if it[0]]
     lets = "".join(f"\n    {it}" for it, _ in bounds)
     facts = "".join(f", {it}" for _, it in bounds)
-    widths = ""
+    widths = "\n".join(
+        line for it in choices(f.description) for line in choice_lemma(f, it, most_of(f.description, it))
+    )
     if any(isinstance(it.kind, m.Varint) for it in f.lines):
-        widths = "\nwidth_most : (k : ℕ) → varint_width k ≤ 62\nwidth_most k = grind (arith, nat_tests)\n"
+        widths += "\nwidth_most : (k : ℕ) → varint_width k ≤ 62\nwidth_most k = grind (arith, nat_tests)\n"
     return f"""{widths}
 -- the fields have no more bits
 pub {f.m}_most : (value : {f.type}) → Fits value → {f.m}_size {f.o} value ≤ {most(f.description)}

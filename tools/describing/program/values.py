@@ -113,7 +113,8 @@ def printed_value(kind: Shown) -> list[str]:
         case m.Part(use=use):
             return [f"print_{snake(use.name)}(&{value}, out)?;"]
         case m.Optional(use=use) | m.If(use=use):
-            return [f"match {value} {{", f"Some(part) => print_{snake(use.name)}(&part, out)?,", *NULL]
+            held, part = (f"&{value}", "part") if m.allocating(use) else (value, "&part")
+            return [f"match {held} {{", f"Some(part) => print_{snake(use.name)}({part}, out)?,", *NULL]
     assert_never(kind)
 
 
@@ -380,7 +381,8 @@ def part_arm(kind: Shown) -> list[str]:
         case m.Part(use=use):
             return [f'"{kind.name}" => {snake(use.name)}_number(&record.{kind.name}, inner),']
         case m.Optional(use=use) | m.If(use=use):
-            return [f'"{kind.name}" => {snake(use.name)}_number(&record.{kind.name}?, inner),']
+            part = f"record.{kind.name}.as_ref()?" if m.allocating(use) else f"&record.{kind.name}?"
+            return [f'"{kind.name}" => {snake(use.name)}_number({part}, inner),']
     return []
 
 

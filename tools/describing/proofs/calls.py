@@ -7,7 +7,7 @@ from dataclasses import dataclass, field
 from describing import model as m
 from describing.layout import Format, Line, is_octets
 from describing.model import snake
-from describing.proofs.chains import Answers, Call
+from describing.proofs.chains import VIEW, Answers, Call
 from describing.specs.terms import asked_enum, by_enum, short
 
 # Contracts of reads, from the weakest: a plain read, one with errors of its own, one that allocates.
@@ -73,21 +73,21 @@ def read_call(f: Format, line: Line) -> tuple[str, str, str]:
             use = kind.use
             return own_read(f, part_contract(use), becomes(use.description.error, use.module)), "", ""
         case m.Optional() | m.If():
-            return own_read(f, OWN if line.error else PLAIN, f.becomes_name), "", ""
+            return own_read(f, contract(line.error, m.allocating(kind.use)), f.becomes_name), "", ""
         case m.Until() | m.Blocks():
             return "grown", "", ""
         case m.Rest():
             return "growing", "reads", ""
         case m.Sized(item=m.Octet()) if not kind.error:
             return "growing", "reads", ""
-        case m.Sized() | m.Fill():
+        case m.Sized() | m.Fill() | m.UpToLast():
             return "growing part", "", ""
         case m.Choose():
             return own_read(f, contract(line.error, m.allocates(kind)), f.becomes_name), "", ""
         case m.List():
             if isinstance(kind.item, m.Octet):
                 return "growing", "reads", ""
-            return ("growing part" if line.error else "grown"), "", ""
+            return ("growing part" if line.own else "grown"), "", ""
     return "read", "reads", ""
 
 
@@ -125,6 +125,8 @@ def read_answers(f: Format, k: int) -> str:
 def verify_call(line: Line, kind: m.Check, steps: Labels) -> Call:
     """Returns the test of a checksum, with the equations of its arguments."""
     label = f"not-is_{kind.word}"
+    if kind.lines:
+        return Call("if", "", label, label, "if", "not", known=(f"c.{kind.word}.ensures",))
     return Call("if", "", label, label, "if", "not", known=(f"c.{kind.word}_of.ensures", *known_sum(line, steps)))
 
 
@@ -148,7 +150,7 @@ def optional_answers(f: Format, use: m.Use) -> str:
     """Returns the answers of the function that reads an optional part."""
     form = own_read(f, part_contract(use), becomes(use.description.error, use.module))
     calls = [Call("if", "", "not-there", "not-there", "if", "not"), Call(form, "", "read", "read")]
-    answers = Answers(OWN if use.description.error else PLAIN, "", "", True)
+    answers = Answers(part_contract(use), "", "", True)
     return text(f, answers, calls, "", f"read_{snake(use.name)}_if")
 
 
@@ -202,7 +204,7 @@ class Writes:
                 return "call", "write_bytes", "writes", ""
             case m.Part() | m.Choose() | m.Sized():
                 return "list", "write", "", ""
-            case m.Fill():
+            case m.Fill() | m.UpToLast():
                 return "list", f"write_{kind.name}", "", ""
             case m.Optional() | m.If():
                 return "list", f"write_{snake(kind.use.name)}_if", "", ""
@@ -222,11 +224,13 @@ class Writes:
                 return (f"c.{self.steps.next('number')}.ensures",)
             case m.Size():
                 return self.known_size(line, kind)
+            case m.Check() if kind.lines:
+                return (f"c.{kind.word}.ensures", *(VIEW,) * self.f.grows)
             case m.Check():
                 return (f"c.{kind.word}_of.ensures", *known_sum(line, self.steps))
             case m.Count():
                 return (self.known_length(kind.target),)
-            case m.List() | m.Fill() | m.Until() | m.Rest() | m.Blocks() | m.Sized(item=m.Octet()):
+            case m.List() | m.Fill() | m.Until() | m.UpToLast() | m.Rest() | m.Blocks() | m.Sized(item=m.Octet()):
                 return (f"c.{self.steps.next('deref')}.ensures.value",)
         return ()
 
@@ -249,18 +253,19 @@ class Writes:
         return (f"size-wrote _ _ _ _ _ _ _ _ {counted}",)
 
 
-def write_answers(f: Format, k: int) -> str:
+def write_answers(f: Format, called: str, pieces: list[tuple[Line, ...]], k: int) -> str:
     """Returns the answers of the function that writes a piece."""
-    pieces, writes = f.pieces(), Writes(f)
-    calls = [writes.call(it) for it in pieces[k] if it in f.written]
-    answers = Answers("WritesAll", "", "rw (← c.self.view_is)" if f.grows else "", True)
+    writes = Writes(f)
+    calls = [writes.call(it) for it in pieces[k] if not isinstance(it.kind, m.Verify)]
+    answers = Answers("WritesAll", "", f"rw {VIEW}" if f.grows else "", True)
     if k + 1 < len(pieces):
-        name, known = f"write_{k + 2}", ("(← c.self.view_is)",) * f.grows
+        name, known = f"{called}_{k + 2}", (VIEW,) * f.grows
         calls.append(Call("list", "", name, name, "end", known=known))
     if f.grows:
-        of_self = [not isinstance(it.kind, m.Const | m.Skip) for it in pieces[k]] + [k + 1 < len(pieces)]
+        lines = [it.kind for it in pieces[k]]
+        of_self = [not isinstance(it, m.Const | m.Skip) and it not in f.summed for it in lines] + [k + 1 < len(pieces)]
         answers.opened = of_self.index(True) if True in of_self else 0
-    return text(f, answers, calls, f.type, f"write_{k + 1}" if k else "write")
+    return text(f, answers, calls, f.type, f"{called}_{k + 1}" if k else called)
 
 
 # ---- all of them
@@ -275,10 +280,14 @@ def text(f: Format, answers: Answers, calls: list[Call], owner: str, name: str) 
 
 def files(f: Format) -> dict[str, str]:
     """Returns the answers of the functions that read and write the format, by their places in the crate."""
-    count = len(f.pieces())
-    found = {f"{f.type}/read": read_answers(f, 0), f"{f.type}/write": write_answers(f, 0)}
-    found |= {f"{f.type}/read_{k + 1}": read_answers(f, k) for k in range(1, count)}
-    found |= {f"{f.type}/write_{k + 1}": write_answers(f, k) for k in range(1, count)}
+    pieces = f.pieces()
+    found = {f"{f.type}/read": read_answers(f, 0), f"{f.type}/write": write_answers(f, "write", pieces, 0)}
+    found |= {f"{f.type}/read_{k + 1}": read_answers(f, k) for k in range(1, len(pieces))}
+    found |= {f"{f.type}/write_{k + 1}": write_answers(f, "write", pieces, k) for k in range(1, len(pieces))}
+    for kind in f.summed:
+        called, covers = f"write_for_{kind.word}", f.covered(kind)
+        found[f"{f.type}/{called}"] = write_answers(f, called, covers, 0)
+        found |= {f"{f.type}/{called}_{k + 1}": write_answers(f, called, covers, k) for k in range(1, len(covers))}
     for it in f.lines:
         if isinstance(it.kind, m.Optional | m.If):
             found.setdefault(f"read_{snake(it.kind.use.name)}_if", optional_answers(f, it.kind.use))

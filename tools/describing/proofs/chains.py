@@ -2,11 +2,13 @@
 from __future__ import annotations
 
 import re
-from dataclasses import dataclass
+from dataclasses import dataclass, replace
 
 from describing.text import COLUMNS, filled
 
 Table = dict[str, dict[str, str]]
+# What contracts see of the value that a function writes. It is known once a field was taken.
+VIEW = "(← c.self.view_is)"
 
 
 @dataclass(eq=False)
@@ -26,6 +28,11 @@ class Call:
     wide: str = ""
     line: int = 0
     known: tuple[str, ...] = ()
+
+
+def without_view(call: Call) -> Call:
+    """Returns a call before any field of the value was taken."""
+    return replace(call, known=tuple(it for it in call.known if it != VIEW))
 
 
 class UnknownCall(Exception):
@@ -236,7 +243,7 @@ class Answers:
 
     def all(self, calls: list[Call]) -> list[str]:
         """Returns the answers in order: at each `?`, and at the end."""
-        found, front = list[str](), list[str]()
+        found, front, early = list[str](), list[str](), list[str]()
         last = calls[-1] if calls and calls[-1].way == "end" else None
         stops = 0
         for k, call in enumerate(calls[: -1 if last else None]):
@@ -254,9 +261,12 @@ class Answers:
                 arm = f"in_err-{call.label}"
                 residual = f"c.from_residual{f'-{arm}' if stops else ''}.ensures.1"
                 stops += 1
-                terms = front + [self.of_call(call, STOP, arm, residual)]
-                found.append(self.answer(f"returns-{arm}", terms, k >= self.opened))
-            front = front + [self.of_call(call, NEXT, f"in_ok-{call.label}" if call.way else call.step)]
+                inside = k >= self.opened
+                stop = self.of_call(call if inside else without_view(call), STOP, arm, residual)
+                found.append(self.answer(f"returns-{arm}", [*(front if inside else early), stop], inside))
+            arm = f"in_ok-{call.label}" if call.way else call.step
+            early = [*early, self.of_call(without_view(call), NEXT, arm)]
+            front = [*front, self.of_call(call, NEXT, arm)]
         if not last and self.signed:
             front = front + [f"rw ({self.known_signed()})"]
         end = self.of_call(last, LAST, last.step) if last else self.term(END[self.kind])

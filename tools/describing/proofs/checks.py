@@ -32,6 +32,8 @@ def state(kind: m.Check, k: int, covered: m.Kind) -> str:
 
 def answers(f: Format, kind: m.Check, covers: Sequence[m.Kind]) -> Answers:
     """Returns the answers of the function that computes a checksum."""
+    if kind.lines:
+        return lines_answers(f, kind)
     name, then = f"{kind.word}_of", f"over-then {STEPS.get(kind.sum, '')}" if kind.sum in STEPS else "sum-then 0 0"
     blanks = "_ _ _ _ _" if kind.sum in STEPS else "_ _ _ _"
     term = state(kind, 1, covers[0])
@@ -41,3 +43,13 @@ def answers(f: Format, kind: m.Check, covers: Sequence[m.Kind]) -> Answers:
         term = f"ap ({ENDS[kind.sum]}) ({term})"
     out = [f"use {f.goals}.{name}.Goals as goal", "", "pub returns : goal.returns", f"returns c = {term}"]
     return {name: out}
+
+
+def lines_answers(f: Format, kind: m.Check) -> Answers:
+    """Returns the answers of the function that computes the checksum of lines."""
+    path, given = f"{f.type}/{kind.word}", "_ _ _ _ _ _ _ _ c.summing_writer-writer.ensures"
+    out = [f"use {f.goals}.{f.type}.{kind.word}.Goals as goal", ""]
+    out += ["pub returns-in-Ok : goal.returns-in-Ok"]
+    out += [f"returns-in-Ok c = summed {given} c.in-Ok.ensures _ c.sum_of.ensures", ""]
+    out += ["pub returns-in-Err : goal.returns-in-Err"]
+    return {path: [*out, f"returns-in-Err c = unsummed {given} (λ x may. may.refused) _ c.in-Err.ensures"]}

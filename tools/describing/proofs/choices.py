@@ -1,73 +1,15 @@
-"""The lemmas of a choice, and the answers of its functions."""
+"""The answers of the functions of a choice."""
 from __future__ import annotations
 
 from describing import model as m
 from describing.layout import Format, Line
 from describing.model import snake
-from describing.proofs.back import is_read
 from describing.proofs.calls import GROWING, Labels, becomes, contract, own_read, part_contract
 from describing.proofs.chains import END, NEXT, STOP, TESTS, Answers, Call
 from describing.specs.choices import called, module, pattern
 from describing.specs.terms import here
 
 Printed = dict[str, list[str]]
-
-
-def lemmas(f: Format, line: Line, kind: m.Choose) -> list[str]:
-    """Returns the lemmas of each case: its number fits, it is read back behind its number, and its writes are accepted."""
-    s, ok = snake(kind.type), "(Ok it)" if line.stops else "it"
-    out = ["-- the number of each case fits its bits"]
-    out += [f"{s}_small : (it : {kind.type}) → {s}_fits it → {s}_number it < 2 ^ {kind.width}"]
-    small = {True: "fits.0", False: "omega arith"}
-    out += [f"{s}_small {pattern(kind, arm)} fits = {small[arm.number is None]}" for arm in kind.arms]
-    size = f" ({s}_size High it / 8)" * bool(kind.unnamed)
-    read = f"IsReadAs ({s}_writes o it) ({s}_read o ({s}_number it){size}) {ok}"
-    out += ["", "-- each case is read back behind its number"]
-    out += [f"{s}_back : (o : Order) (it : {kind.type}) → {s}_fits it → {read}"]
-    out += [f"{s}_back o {pattern(kind, arm)} fits = {case_back(f, line, kind, arm, part)}" for arm, part in line.arms]
-    out += ["", "-- the writes of each case are accepted, and its size is their number of bits"]
-    says = f"Packs ({s}_writes o it) ({s}_size o it)"
-    out += [f"{s}_packs : (o : Order) (it : {kind.type}) → {s}_fits it → {says}"]
-    for arm, part in line.arms:
-        packs = f"{module(part)}_packs o it fits" if part else "packs-none"
-        if arm.held and not part:
-            packs = "packs-is (packs-more (bytes-written o (length it.bytes) it.bytes refl) packs-none) (omega arith)"
-        out.append(f"{s}_packs o {pattern(kind, arm)} fits = {packs}")
-    return [*out, ""]
-
-
-def case_back(f: Format, line: Line, kind: m.Choose, arm: m.Arm, part: Line | None) -> str:
-    """Returns the term that a case is read back."""
-    if part and part.use:
-        read = is_read(f, part, part.use, "it", "fits")
-        case, writes = called(kind, arm), f"({module(part)}_writes o it)"
-        if part.stops:
-            return f"then_made-read ({here(f, part)}) (λ v. {case} v) {writes} it {read}"
-        answer = f"Ok ({case} v)" if line.stops else f"{case} v"
-        return f"mapped-read (λ v. {answer}) {writes} ({here(f, part)}) it {read}"
-    if arm.number is not None:
-        return "λ len p more. refl"
-    if arm.held:
-        return unnamed_back(kind)
-    misses = ", ".join(f"ne_eqb n {it.number} fits.{k + 1}" for k, it in enumerate(kind.tested))
-    return f"λ len p more. rw ({misses}) refl"
-
-
-def unnamed_back(kind: m.Choose) -> str:
-    """Returns the term that another number is read back, with the bytes after it."""
-    misses = ", ".join(f"ne_eqb it.number {it.number} fits.{k + 1}" for k, it in enumerate(kind.tested))
-    s, writes, count = snake(kind.unnamed), "(buffer o it.bytes ∷ [])", "(8 * length it.bytes / 8)"
-    record = "(λ bytes. Ok (record { number = it.number; bytes = bytes }))"
-    octets = f"(bytes-read o it.bytes fits.{len(kind.tested) + 1})"
-    read = f"mapped-read {record} {writes} (vec_decoder o (length it.bytes)) it.bytes {octets}"
-    same = "(let same : length it.bytes ≡ 8 * length it.bytes / 8 = omega arith in same)"
-    whole = f"(subst (λ (k : ℕ). IsReadAs {writes} ({s}_read o it.number k) (Ok it)) {same} ({read}))"
-    case = f"(λ v. {kind.type}{kind.other.case if kind.other else ''} v)"
-    made = f"then_made-read ({s}_read o it.number {count}) {case} {writes} it {whole}"
-    return f"λ len p more. rw ({misses}) (({made}) len p more)"
-
-
-# ---- answers
 
 
 def number_answers(f: Format, kind: m.Choose) -> list[str]:
@@ -108,9 +50,19 @@ def write_answers(f: Format, line: Line, kind: m.Choose) -> list[str]:
 
 def answers(f: Format, line: Line, kind: m.Choose) -> Printed:
     """Returns the answers of the functions of a choice, except its read."""
+    if len(kind.arms) == 1:  # a search finds the number
+        return {} if kind.arms[0].held else {f"{kind.type}/write": alone_answers(f, kind)}
     found = {f"{kind.type}/number": number_answers(f, kind)}
     write = write_answers(f, line, kind)
     return found | ({f"{kind.type}/write": write} if len(write) > 1 else {})
+
+
+def alone_answers(f: Format, kind: m.Choose) -> list[str]:
+    """Returns the answers of the function that writes the only case, which holds no part."""
+    s, case = snake(kind.type), pattern(kind, kind.arms[0])
+    out = [f"use {f.goals}.{kind.type}.write.Goals as goal", ""]
+    out += [f"alone : (o : Order) (it : {kind.type}) → {s}_writes o it ≡ []", f"alone o {case} = refl", ""]
+    return [*out, "pub returns : goal.returns", "returns g c = rw (alone _ c.args.self.now) (all_none _ _)"]
 
 
 def read_contract(f: Format, line: Line) -> str:

@@ -4,23 +4,15 @@ from __future__ import annotations
 from describing import model as m
 from describing.layout import Format, Line
 from describing.model import snake
-from describing.proofs.back import ok
 from describing.proofs.loops import write_answers, write_invariants
 from describing.specs.terms import called
 
 Answers = dict[str, list[str]]
 
 
-def lemmas(line: Line, enum: m.EnumType) -> list[str]:
-    """Returns the lemmas that the number of each case fits its bits and has that case."""
-    if enum.other or line.repeats:
-        return []
-    s, cases = snake(enum.name), [called(line, case) for _, case in enum.cases]
-    out = ["-- the number of each case fits its bits, and decodes to that case"]
-    out += [f"{s}_small : (it : {enum.name}) → {s}_number it < 2 ^ {enum.width}"]
-    out += [f"{s}_small {case} = omega arith" for case in cases]
-    out += ["", f"{s}_again : (it : {enum.name}) → {s}_of ({s}_number it) ≡ {'' if enum.total else 'Ok '}it"]
-    return out + [f"{s}_again {case} = refl" for case in cases] + [""]
+def ok(line: Line) -> str:
+    """Returns the function from a case to what its number says."""
+    return "(λ x. Ok x)" if line.error else "(λ x. x)"
 
 
 def answers(f: Format, line: Line, enum: m.EnumType) -> Answers:

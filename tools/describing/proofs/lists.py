@@ -14,7 +14,7 @@ COUNTED = "let all : c.loop.counter ≡ c.args.count = omega (arith, c.loop-test
 def invariants(f: Format, line: Line, kind: m.List) -> Answers:
     """Returns the invariants of the loops, by the function."""
     read = f"read_{kind.name}"
-    so_far = f"PartsRead K {f.becomes_name}" if line.error else "ItemsRead K"
+    so_far = f"PartsRead K {f.becomes_name}" if line.own else "ItemsRead K"
     stored_at = placed(stored(f, line, kind), "K.order")
     lines = [
         f"use {f.goals}.{read}.Given as goal",
@@ -30,7 +30,7 @@ def invariants(f: Format, line: Line, kind: m.List) -> Answers:
 def answers(f: Format, line: Line, kind: m.List) -> Answers:
     """Returns the answers of the functions of a list."""
     goals = f"use {f.goals}.read_{kind.name}.Goals as goal"
-    found = own_answers(f, line, kind) if line.error else list_answers(f, line, kind)
+    found = own_answers(f, line, kind) if line.own else list_answers(f, line, kind)
     return {f"read_{kind.name}": [goals, *found]} | write_answers(f, kind)
 
 
@@ -77,19 +77,25 @@ def list_answers(f: Format, line: Line, kind: m.List) -> list[str]:
     ]
 
 
-def own_read(item: m.Item, arm: str) -> str:
-    """Returns what is known of the read of an item that may be refused."""
-    if isinstance(item, m.Use):
+def own_read(f: Format, line: Line, item: m.Item, arm: str, label: str = "read") -> str:
+    """Returns what is known of the read of an item that may be refused, or that allocates."""
+    fact = read_clause(item, arm).replace("-read.", f"-{label}.")
+    allocates = isinstance(item, m.Use) and m.allocating(item)
+    if isinstance(item, m.Use) and f.mapped(line.kind):
         term, shown = ("(Ok _)", "absurd is") if arm == "ok" else ("(Err _)", "rw is refl")
-        return f"(if_grown false (own_made _ {term} {read_clause(item, arm)} (λ error is. {shown})))"
-    return f"(if_grown false {read_clause(item, arm)})"
+        fact = f"({'grown_made' if allocates else 'own_made'} _ {term} {fact} (λ error is. {shown}))"
+    return fact if allocates else f"(if_grown false {fact})"
+
+
+def stopped(residual: str) -> str:
+    """Returns the words that rewrite a result by the error that a `?` returned."""
+    return f"rw (own_map_err _ c.{residual}.result c.{residual}.ensures.1)"
 
 
 def own_answers(f: Format, line: Line, kind: m.List) -> list[str]:
     """Returns the answers of a list whose items may be refused."""
     item = f"({placed(item_decoder(f, line, kind.item), 'g.R.BitRead.source.order')})"
-    ok, err = own_read(kind.item, "ok"), own_read(kind.item, "err")
-    stopped = "rw (own_map_err _ c.{0}.result c.{0}.ensures.1)"
+    ok, err = own_read(f, line, kind.item, "ok"), own_read(f, line, kind.item, "err")
     return [
         "",
         "pub loop-init : goal.loop-init",
@@ -97,13 +103,13 @@ def own_answers(f: Format, line: Line, kind: m.List) -> list[str]:
         "",
         "pub returns-in_err-read : goal.returns-in_err-read",
         "returns-in_err-read g c =",
-        f"    {stopped.format('from_residual')} (parts-stop {item} _ c.args.count c.loop-test.true c.loop.invariant"
+        f"    {stopped('from_residual')} (parts-stop {item} _ c.args.count c.loop-test.true c.loop.invariant"
         f" {err})",
         "",
         "pub returns-in_err-push : goal.returns-in_err-push",
         f"unfolding {opened(line)}",
         "returns-in_err-push g c =",
-        f"    {stopped.format('from_residual-in_err-push')}",
+        f"    {stopped('from_residual-in_err-push')}",
         f"    (parts-refused {item} _ c.args.count refl c.loop-test.true c.loop.invariant {ok} refl)",
         "",
         "pub loop-preserved : goal.loop-preserved",

@@ -1,11 +1,14 @@
 """The invariants and the answers of the function that writes the items of a list or an array."""
 from __future__ import annotations
 
+from typing import TypeAlias
+
 from describing import model as m
 from describing.layout import Format
 from describing.specs.terms import item_writes, placed, width
 
 Answers = dict[str, list[str]]
+Many: TypeAlias = m.List | m.Array | m.Fill | m.UpToLast
 
 
 def wrote(item: m.Item, arm: str) -> str:
@@ -20,12 +23,12 @@ def wrote(item: m.Item, arm: str) -> str:
     return known
 
 
-def item_of(kind: m.List | m.Array | m.Fill) -> m.Item:
+def item_of(kind: Many) -> m.Item:
     """Returns the item of a line that has many."""
-    return kind.use if isinstance(kind, m.Fill) else kind.item
+    return kind.use if isinstance(kind, m.Fill | m.UpToLast) else kind.item
 
 
-def write_invariants(f: Format, kind: m.List | m.Array | m.Fill) -> Answers:
+def write_invariants(f: Format, kind: Many) -> Answers:
     """Returns the invariant of the loop."""
     write = f"write_{kind.name}"
     return {
@@ -41,12 +44,18 @@ def write_invariants(f: Format, kind: m.List | m.Array | m.Fill) -> Answers:
     }
 
 
-def write_answers(f: Format, kind: m.List | m.Array | m.Fill) -> Answers:
+def has_non_zero(use: m.Use) -> bool:
+    """Returns true if a part has a `NonZero`, or an optional one."""
+    kinds, own = use.description.kinds, (m.NonZero, m.MaybeNonZero)
+    return any(isinstance(it, own) or isinstance(it, m.Part) and has_non_zero(it.use) for it in kinds)
+
+
+def write_answers(f: Format, kind: Many) -> Answers:
     """Returns the answers of the function."""
     sink, item = "g.W.BitWrite.sink", item_of(kind)
     calls = f"({placed(item_writes(item), 'K.order')})"
-    # contracts see an item that has a list by its model
-    same = "c.item-item.is" if isinstance(item, m.Use) and m.allocating(item) else "refl"
+    # contracts see an item that has a list, or a `NonZero`, by its model
+    same = "c.item-item.is" if isinstance(item, m.Use) and (m.allocating(item) or has_non_zero(item)) else "refl"
     after = f"c.loop-item-test.true {same} c.loop-item.invariant"
     lines = [f"use {f.goals}.write_{kind.name}.Goals as goal", ""]
     lines += ["pub loop-item-init : goal.loop-item-init", f"loop-item-init g c = let K = {sink} in"]

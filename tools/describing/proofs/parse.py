@@ -38,10 +38,10 @@ def back_term(f: Format) -> str:
     back = f"c.{f.m}_round_trip.ensures.back {f.o} value 0 0 more fits"
     front = f"(ap (({f.m}_decoder {f.o}).reads 0) {is_} ∙ {back})"
     if f.rest:
-        packs, written = f"({f.m}_packs {f.o} value fits)", f"({f.m}_writes {f.o} value)"
+        written, size = f"({f.m}_writes {f.o} value)", "omega arith"
         if f.rest_line and f.rest_line.measured:
-            whole = f"let whole = fits.{f.rest.name}_whole {f.o} in omega (arith, whole)"
-            packs = f"(packs-is {packs} ({whole}))"
+            size = f"let whole = fits.{f.rest.name}_whole {f.o} in omega (arith, whole)"
+        packs = f"(packs-is ({f.m}_packs {f.o} value fits) ({size}))"
         shape = f"({f.m}_decoder {f.o}) {f.o} c.args.packet.now {written} {f.head} {rest_count(f)} _"
         front = f"(rest-back {shape} {packs} is (λ more. {back}))"
     if f.grows:

@@ -4,11 +4,12 @@ from __future__ import annotations
 from describing import model as m
 from describing.imports import own_lemmas, own_specs, parts_lemmas, types
 from describing.layout import Format, Line
-from describing.names import PROOFS, Table, modules_of, uses
-from describing.proofs import checks, choices, enums, lists, parts, sizes
+from describing.names import PROOFS, VALUES, Table, modules_of, uses
+from describing.proofs import checks, choices, enums, last, lists, parts, sizes
 from describing.proofs.laws import lemmas
 from describing.proofs.parse import parse_lines
 from describing.proofs.rows import rows
+from describing.specs.values import ATOMS
 from describing.text import article, wrapped
 
 Answers = dict[str, list[str]]
@@ -17,7 +18,8 @@ Answers = dict[str, list[str]]
 def files(f: Format) -> dict[str, str]:
     """Returns the lemmas and the test vectors by their places in the crate."""
     head = f"-- A written `{f.type}` is read back, and its number of bits."
-    found = {f"proofs/{f.spec}Lemmas.antt": text(f, [head], lemmas(f), parts_lemmas(f))}
+    own = {} if f.valued else VALUES
+    found = {f"proofs/{f.spec}Lemmas.antt": text(f, [head], lemmas(f), parts_lemmas(f), own)}
     if f.description.examples:
         out, unfolded = rows(f)
         found[f"proofs/{f.spec}Rows.antt"] = text(f, [f"-- Worked rows of {article(f.type)}."], out, unfolded)
@@ -50,6 +52,7 @@ def text(f: Format, head: list[str], lines: list[str], *tables: Table) -> str:
     goals, rest = [it for it in lines if it.startswith("use ")], [it for it in lines if not it.startswith("use ")]
     unfolded = modules_of({name for it in rest if it.startswith("unfolding ") for name in it.split()[1:]})
     found = uses("\n".join(rest), own_specs(f), unfolded, *tables, types(f), PROOFS)
+    found += [ATOMS] * any("(atom." in it or " atom." in it for it in rest)
     return wrapped("\n".join([f"-- {f.made}", *head, *found, *goals, *[""] * bool(rest[0]), *rest]).rstrip()) + "\n"
 
 
@@ -60,6 +63,8 @@ def line_invariants(f: Format, line: Line) -> Answers:
         return enums.array_invariants(f, line, line.enum, kind)
     if isinstance(kind, m.List) and not isinstance(kind.item, m.Octet):
         return lists.invariants(f, line, kind)
+    if isinstance(kind, m.UpToLast):
+        return last.invariants(f, line, kind)
     return sizes.invariants(f, line, kind) if isinstance(kind, m.Fill) else {}
 
 
@@ -80,6 +85,8 @@ def line_answers(f: Format, line: Line) -> Answers:
         found |= sizes.stated_answers(f, line, kind)
     if isinstance(kind, m.List) and not isinstance(kind.item, m.Octet):
         found |= lists.answers(f, line, kind)
+    if isinstance(kind, m.UpToLast):
+        found |= last.answers(f, line, kind)
     if isinstance(kind, m.Check):
         found |= checks.answers(f, kind, line.covers)
     return found

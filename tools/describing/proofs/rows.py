@@ -24,7 +24,7 @@ def term(line: Line, value: Value, within: str = "") -> str:
             return "None" if value is None else f"Some (non_zero_{kind.integer.base} {number(value) - 1})"
         case m.Array() | m.List() | m.Until() | m.Rest():
             return list_term(line, kind.item, value, within)
-        case m.Fill():
+        case m.Fill() | m.UpToLast():
             return list_term(line, kind.use, value, within)
         case m.Blocks():
             assert isinstance(value, list)

@@ -88,9 +88,10 @@ def count_answers(f: Format, kind: m.Fill) -> list[str]:
     return out
 
 
-def put(out: list[str], goal: str, given: str, term: str) -> None:
-    """Appends an answer."""
-    out += ["", f"pub {goal} : goal.{goal}", f"{goal} {given} = {term}"]
+def put(out: list[str], goal: str, given: str, term: str, opened: str = "") -> None:
+    """Appends an answer, in which some definitions are unfolded."""
+    unfolding = [f"unfolding {opened}"] * bool(opened)
+    out += ["", f"pub {goal} : goal.{goal}", *unfolding, f"{goal} {given} = {term}"]
 
 
 def grown(f: Format, line: Line, kind: m.Measured, arm: str, ok: bool) -> str:

@@ -29,7 +29,8 @@ def unfolds(line: Line) -> list[str]:
         case m.Enum() | m.Count() | m.Tag():
             return [*NUMBER]
         case m.Check():
-            return [*NUMBER, *(["sum16_state"] if kind.sum == "sum16" else ["crc_over", "steps"])]
+            lines = ["lines_sum", "whole_bytes", "bytes_of"] * kind.lines
+            return [*NUMBER, *lines, *(["sum16_state"] if kind.sum == "sum16" else ["crc_over", "steps"])]
         case m.Verify():
             return []
         case m.Varint() | m.Size(varint=True):
@@ -53,6 +54,8 @@ def unfolds(line: Line) -> list[str]:
             return of_items(line, kind)
         case m.Part() | m.Optional() | m.If():
             return [*of_lines(line.inner)]
+        case m.UpToLast():
+            return ["up_to_last_from", *of_lines(line.inner)]
         case m.Choose() | m.Sized() | m.Fill():
             within = ["bytes_decoder", "bytes_of"] * bool(line.measured)
             return [*within, *(it for part in line.parts for it in of_lines(part.inner))]

@@ -44,6 +44,8 @@ def limits(line: Line) -> str:
             return f"No byte is {kind.stop}, which ends it."
         case m.Blocks():
             return "Each has 1 to 255 bytes."
+        case m.UpToLast():
+            return f"The last one, and no other one, has `{kind.condition}`."
         case m.Golomb():
             return "From -2^31 + 1 on." if kind.signed else "Below 2^32 - 1."
     return ""
@@ -72,12 +74,21 @@ def imports(line: Line) -> list[str]:
         found.append("bitstream_format::blocks::{Block, read_blocks, write_blocks}")
     if isinstance(kind, m.Golomb):
         found.append(f"bitstream_io::golomb::{{read_{short(kind)}, write_{short(kind)}}}")
+    if isinstance(kind, m.Check) and kind.lines:
+        found.append(f"bitstream_format::checksums::{kind.type}")
     for use in m.uses(kind):
-        error = use.description.error
-        found.append(f"crate::{use.module}::{f'{{{use.name}, {error}}}' if error else use.name}")
-    if isinstance(kind, m.List) and line.error or isinstance(kind, m.Fill):
-        found.append("std::alloc::AllocFailed")
+        names = [use.name, *[use.description.error] * bool(use.description.error), *tested_types(kind)]
+        several = "{" + ", ".join(names) + "}"
+        found.append(f"crate::{use.module}::{several if names[1:] else use.name}")
     return found
+
+
+def tested_types(kind: m.Printed) -> list[str]:
+    """Returns the types of the choices of a part in whose cases the test of the last part looks."""
+    tests = kind.tests if isinstance(kind, m.UpToLast) else ()
+    fields = {it.name: it for use in m.uses(kind) for it in use.description.fields}
+    found = [fields[it.field] for it in tests if it.inner]
+    return sorted({it.type for it in found if isinstance(it, m.Choose)})
 
 
 # ---- errors
@@ -98,6 +109,9 @@ def refusal(line: Line) -> str:
     """Returns the comment of the case of the error for a line."""
     if line.use:
         return f"An error of {article(line.use.name)} that is not the reader's."
+    if isinstance(line.kind, m.Sized):
+        least = line.size.plus if line.size else 0
+        return f"The size of `{line.name}` is below the {least} bytes that it counts too."
     if line.enum:
         what = f"`{line.name}`" if isinstance(line.kind, m.Enum) else f"An item of `{line.name}`"
         return f"{what} is not the number of a case of `{line.enum.name}`."
@@ -130,8 +144,7 @@ def overrun_case(name: str, error: str) -> dict[str, list[str]]:
 
 def small_case(line: Line, kind: m.Sized) -> list[str]:
     """Returns the case of the error for a size that is too small."""
-    least = line.size.plus if line.size else 0
-    why = f"The size of `{kind.name}` is below the {least} bytes that it counts too."
+    why = refusal(line)
     return [f"    /// {why}", f'    #[error("{shown(why)}")]', f"    {kind.error},"]
 
 
@@ -164,7 +177,8 @@ def reads(f: Format, line: Line) -> str:
 def verify(f: Format, line: Line, kind: m.Check) -> str:
     """Returns the statements that compare a checksum."""
     name = f"is_{kind.word}"
-    test = f"let {name} = {m.label(kind)} == {kind.word}_of({arguments(line.covers)});"
+    found = f"value.{kind.word}()" if kind.lines else f"{kind.word}_of({arguments(line.covers)})"
+    test = f"let {name} = {m.label(kind)} == {found};"
     return f"{test}\n        if !{name} {{\n            return Err({f.error}::{line.error});\n        }}"
 
 
@@ -193,6 +207,8 @@ def read(f: Format, line: Line) -> str:
             return f"read_until(reader, alloc, {kind.stop})"
         case m.Blocks():
             return "read_blocks(reader, alloc)"
+        case m.UpToLast():
+            return f"read_{kind.name}(reader, alloc)"
         case m.Rest():
             return f"reader.read_to_vec(alloc, {kind.name}_bytes as usize)"
         case m.Count():
@@ -213,7 +229,7 @@ def read(f: Format, line: Line) -> str:
         case m.Part():
             return f"{kind.use.name}::read(reader{', alloc' * m.allocating(kind.use)})"
         case m.Optional() | m.If():
-            return f"read_{snake(kind.use.name)}_if(reader, {there(f, kind)})"
+            return f"read_{snake(kind.use.name)}_if(reader{', alloc' * m.allocating(kind.use)}, {there(f, kind)})"
         case m.List():
             if isinstance(kind.item, m.Octet):
                 return f"reader.read_to_vec(alloc, {kind.name}_count as usize)"
@@ -266,7 +282,8 @@ def read_item(item: m.Item) -> str:
     """Returns the call that reads an item of a list."""
     if isinstance(item, m.Integer):
         return f"reader.read::<Bits<{item.width}>, {item.base}>()"
-    return f"{m.item_type(item)}::read(reader)"
+    allocates = isinstance(item, m.Use) and m.allocating(item)
+    return f"{m.item_type(item)}::read(reader{', alloc' * allocates})"
 
 
 # ---- writes
@@ -313,16 +330,17 @@ def write(line: Line) -> str:
         case m.Size():
             return write_size(line, kind)
         case m.Check():
-            given = arguments(line.covers, "self.")
-            return f"writer.write::<Bits<{kind.width}>, {value_type(kind)}>({kind.word}_of({given}))"
+            number = f"{kind.word}_of({arguments(line.covers, 'self.')})"
+            number = f"self.{kind.word}()" if kind.lines else number
+            return f"writer.write::<Bits<{kind.width}>, {value_type(kind)}>({number})"
         case m.Verify():
             raise AssertionError(kind)
-        case m.Fill():
+        case m.Fill() | m.UpToLast():
             return f"write_{kind.name}(writer, &self.{kind.name})"
         case m.Choose() | m.Part() | m.Sized():
             return f"self.{kind.name}.write(writer)"
         case m.Optional() | m.If():
-            return f"write_{snake(kind.use.name)}_if(writer, self.{kind.name})"
+            return f"write_{snake(kind.use.name)}_if(writer, {'&' * m.allocating(kind.use)}self.{kind.name})"
     assert_never(kind)
 
 
@@ -360,7 +378,7 @@ def value_type(kind: m.Printed) -> str:
         case m.Tag():
             return f"u{tag_bits(kind.width)}"
         case m.Check():
-            return f"u{kind.width}"
+            return f"u{kind.type_bits}"
         case m.Const() | m.Skip() | m.Verify():
             raise AssertionError(kind)
     return m.rust_type(kind)

@@ -38,6 +38,8 @@ def parameters(covers: Sequence[m.Kind]) -> list[tuple[str, str, str]]:
 
 def check_code(kind: m.Check, covers: Sequence[m.Kind]) -> list[str]:
     """Returns the function that computes the checksum of the bytes of fields."""
+    if kind.lines:
+        return []
     more, state, end = CALLS[kind.sum]
     given, body, at = parameters(covers), list[str](), 0
     for k, (it, (name, _, _)) in enumerate(zip(covers, given), 1):

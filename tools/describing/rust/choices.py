@@ -4,6 +4,7 @@ from __future__ import annotations
 from describing import model as m
 from describing.layout import Format, Line
 from describing.model import snake
+from describing.rust.writes import write_head
 from describing.text import article
 
 
@@ -157,14 +158,7 @@ def write_code(line: Line, kind: m.Choose) -> list[str]:
         for arm, part in line.arms
     )
     return [
-        "    /// Writes what follows the number of the case.",
-        "    ///",
-        "    /// # Errors",
-        "    ///",
-        "    /// `Checked` for a field that does not fit its bits. The fields before it have been written.",
-        "    /// Otherwise the sink's errors.",
-        "    pub fn write<W: BitWrite>(&self, writer: &mut W) -> Result<(), Error>",
-        f"        ensures {{ WritesAll W.sink ({snake(kind.type)}_writes W.sink.order self.now) writer.old result writer.new }}",
+        *write_head("what follows the number of the case", snake(kind.type)),
         "    {",
         "        match self {",
         *(f"            {it}" for it in writes),

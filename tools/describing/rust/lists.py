@@ -4,6 +4,7 @@ from __future__ import annotations
 from describing import model as m
 from describing.layout import Format, Line
 from describing.rust.calls import read_item, write_item
+from describing.rust.parts import part_in_order
 from describing.specs.terms import all_items, item_writes, placed, stored
 
 
@@ -12,9 +13,15 @@ def list_code(f: Format, line: Line, kind: m.List) -> list[str]:
     return [*refused_memory(f, line), *read_code(f, line, kind), *write_code(kind)]
 
 
+def pushes(f: Format, line: Line) -> bool:
+    """Returns true if the function that reads a line pushes items, and has the errors of the format."""
+    many = isinstance(line.kind, m.List | m.UpToLast) and line.own
+    return many and bool(f.error) or isinstance(line.kind, m.Fill)
+
+
 def refused_memory(f: Format, line: Line) -> list[str]:
     """Returns the conversion of a failed allocation, with the first list whose function has the errors of the format."""
-    lists = [it for it in f.lines if isinstance(it.kind, m.List) and it.error or isinstance(it.kind, m.Fill)]
+    lists = [it for it in f.lines if pushes(f, it)]
     if lists[:1] != [line]:
         return []
     return [
@@ -32,13 +39,14 @@ def refused_memory(f: Format, line: Line) -> list[str]:
 def read_code(f: Format, line: Line, kind: m.List) -> list[str]:
     """Returns the function that reads the items of a list."""
     entry = f"({all_items(line)} ({placed(stored(f, line, kind), 'R.source.order')}) count)"
-    error = f.error if line.error else "Error"
-    reads = f"GrowsOwn R.source {f.becomes_name}" if line.error else "GrowingOutcome R.source"
+    error = f.e if line.own else "Error"
+    reads = f"GrowsOwn R.source {f.becomes_name}" if line.own else "GrowingOutcome R.source"
     result = f"Result<{m.rust_type(kind)}, {error}>"
     stopping = "that is rejected, or whose allocation fails" if line.error else "whose allocation fails"
     return [
         f"/// Reads `count` items of `{kind.name}`. Stops after an item {stopping}.",
         f"fn read_{kind.name}<R: BitRead>(reader: &mut R, alloc: Global, count: u64) -> {result}",
+        *part_in_order(f, kind.item),
         f"    ensures {{ {reads} {entry}",
         "        reader.old (result_map (λ found. found.items) result) reader.new }",
         "{",
@@ -52,9 +60,9 @@ def read_code(f: Format, line: Line, kind: m.List) -> list[str]:
     ]
 
 
-def write_code(kind: m.List | m.Array | m.Fill) -> list[str]:
+def write_code(kind: m.List | m.Array | m.Fill | m.UpToLast) -> list[str]:
     """Returns the function that writes items."""
-    item = kind.use if isinstance(kind, m.Fill) else kind.item
+    item = kind.use if isinstance(kind, m.Fill | m.UpToLast) else kind.item
     writes = placed(item_writes(item), "W.sink.order")
     items = f"&[{m.item_type(item)}]"
     return [

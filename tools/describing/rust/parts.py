@@ -5,6 +5,7 @@ from describing import model as m
 from describing.imports import part_cases
 from describing.layout import Format, Line
 from describing.model import snake
+from describing.specs.terms import here, placed
 
 
 def error_code(f: Format, line: Line, use: m.Use) -> list[str]:
@@ -34,25 +35,31 @@ def optional_code(f: Format, line: Line, use: m.Use) -> list[str]:
     """Returns the functions that read and write an optional part."""
     if not f.is_first_optional(line):
         return []
-    return [*read_code(f, use), *write_code(use)]
+    return [*read_code(f, line, use), *write_code(use)]
 
 
-def read_code(f: Format, use: m.Use) -> list[str]:
+def part_in_order(f: Format, item: m.Item) -> list[str]:
+    """Returns the premise of a read of parts with sizes: the reader has the order of the format."""
+    return [f"    requires {{ R.source.order ≡ {f.o} }}"] * (isinstance(item, m.Use) and m.ordered(item.description))
+
+
+def read_code(f: Format, line: Line, use: m.Use) -> list[str]:
     """Returns the function that reads a part if it is there."""
-    reads, entry, error = "Reads R.source", f"optional there ({use.module}_decoder R.source.order)", "Error"
-    if use.description.error:
-        reads, error = f"ReadsOwn R.source {f.becomes_name}", f.error
-        entry = f"own_optional there ({use.module}_here R.source.order)"
-    result = f"Result<Option<{use.name}>, {error}>"
+    grows, own = m.allocating(use), "own_" * line.own
+    reads, error = ("ReadsOwn", f.e) if line.own else ("Reads", "Error")
+    reads = f"{'GrowsOwn' if grows else reads} R.source{f' {f.becomes_name}' * line.own}"
+    entry = f"{own}optional there ({placed(here(f, line), 'R.source.order')})"
+    result, memory = f"Result<Option<{use.name}>, {error}>", ", alloc: Global" * grows
     return [
         f"/// Reads a `{use.name}` if it is there.",
-        f"fn read_{snake(use.name)}_if<R: BitRead>(reader: &mut R, there: bool) -> {result}",
+        f"fn read_{snake(use.name)}_if<R: BitRead>(reader: &mut R{memory}, there: bool) -> {result}",
+        *part_in_order(f, use),
         f"    ensures {{ {reads} ({entry}) reader.old result reader.new }}",
         "{",
         "    if !there {",
         "        return Ok(None);",
         "    }",
-        f"    Ok(Some({use.name}::read(reader)?))",
+        f"    Ok(Some({use.name}::read(reader{', alloc' * grows})?))",
         "}",
         "",
     ]
@@ -61,10 +68,12 @@ def read_code(f: Format, use: m.Use) -> list[str]:
 def write_code(use: m.Use) -> list[str]:
     """Returns the function that writes a part if it is there."""
     name, writes = f"write_{snake(use.name)}_if", f"{use.module}_writes W.sink.order"
+    grows = m.allocating(use)
+    value, given = f"value{'.now' * grows}", f"{'&' * grows}Option<{use.name}>"
     return [
         f"/// Writes a `{use.name}` if there is one.",
-        f"fn {name}<W: BitWrite>(writer: &mut W, value: Option<{use.name}>) -> Result<(), Error>",
-        f"    ensures {{ WritesAll W.sink (optional_writes ({writes}) value) writer.old result writer.new }}",
+        f"fn {name}<W: BitWrite>(writer: &mut W, value: {given}) -> Result<(), Error>",
+        f"    ensures {{ WritesAll W.sink (optional_writes ({writes}) {value}) writer.old result writer.new }}",
         "{",
         "    match value {",
         "        Some(value) => value.write(writer),",

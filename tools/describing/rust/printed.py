@@ -15,7 +15,8 @@ from describing.rust.checks import check_code
 from describing.rust.choices import choice_code
 from describing.rust.clauses import clauses
 from describing.rust.enums import enum_code
-from describing.rust.lists import list_code, refused_memory, write_code as write_items
+from describing.rust.last import last_code
+from describing.rust.lists import list_code, pushes, refused_memory, write_code as write_items
 from describing.rust.parts import error_code as part_error, optional_code
 from describing.rust.reads import parse_code, read_code
 from describing.rust.sizes import count_code, sized_code, stated_code
@@ -29,6 +30,7 @@ CALLED = {
     "stated": "size_in_units stated_size stored_size write_stored_size",
     "checks": "crc16_low_more crc16_more crc32_more crc32_mpeg_more octets_of_u16 octets_of_u32 octets_of_u8 sum16_more",
     "rest": "rest_of",
+    "summed": "sum_of summing_writer",
     "until": "read_until write_until",
     "varint": "read_varint write_varint",
     "within": "is_end write_size",
@@ -67,6 +69,8 @@ def declares(f: Format, line: Line) -> list[str]:
         out += write_items(kind)
     if isinstance(kind, m.List) and not isinstance(kind.item, m.Octet):
         out += list_code(f, line, kind)
+    if isinstance(kind, m.UpToLast):
+        out += [*refused_memory(f, line), *last_code(f, line, kind), *write_items(kind)]
     return out
 
 
@@ -81,6 +85,16 @@ def code(f: Format) -> str:
     return "\n".join([f"//! {f.doc}", "//!", f"//! {f.made}", *imported(f, text), "", text]) + "\n"
 
 
+def called(code: str) -> set[str]:
+    """Returns the paths of the functions of `bitstream_format` that some code calls."""
+    found = set[str]()
+    for module, names in CALLED.items():
+        named = [it for it in names.split() if re.search(rf"\b{it}(::<[^;]*>)?\(", code)]
+        if named:
+            found.add(f"bitstream_format::{module}::" + (f"{{{', '.join(named)}}}" if named[1:] else named[0]))
+    return found
+
+
 def imported(f: Format, text: str) -> list[str]:
     """Returns the imports of some code."""
     # but before an order `number` is a parameter there
@@ -89,11 +103,8 @@ def imported(f: Format, text: str) -> list[str]:
     traits = "BitReadExt " * ("reader.read" in text) + "BitWriteExt " * ("writer.write" in text)
     code = "\n".join(it for it in text.split("\n") if not it.strip().startswith("///"))
     words = set(re.findall(r"\w+", code + traits))
-    found = {path for it in f.lines for path in imports(it)}
-    for module, names in CALLED.items():
-        named = [it for it in names.split() if re.search(rf"\b{it}\(", code)]
-        if named:
-            found.add(f"bitstream_format::{module}::" + (f"{{{', '.join(named)}}}" if named[1:] else named[0]))
+    found = {path for it in f.lines for path in imports(it)} | called(code)
+    found |= {"std::alloc::AllocFailed"} if any(pushes(f, it) for it in f.lines) else set()
     paths = sorted(found | {"std::alloc::Global", "std::marker::Model"} if f.grows else found)
     library = f"use bitstream_io::{{{', '.join(it for it in LIBRARY.split() if it in words)}}};"
     mine = [f"use {it};" for it in paths if it.startswith(("crate", "bitstream_"))]

@@ -1,6 +1,7 @@
 """The functions that read a format, with their contracts."""
 from __future__ import annotations
 
+from describing import model as m
 from describing.layout import Format, reader_errors
 from describing.rust.calls import reads, value_type
 from describing.rust.clauses import clause, first_of, in_order, memory, of_reader, or_refused, rejections
@@ -45,11 +46,16 @@ def given(f: Format) -> str:
 def read_body(f: Format, k: int) -> list[str]:
     """Returns the body that reads the lines of a piece, and calls the function of the next one."""
     pieces = f.pieces()
-    end = f"Ok({f.type} {{ {', '.join(it.name for it in f.fields)} }})"
+    made = f"{f.type} {{ {', '.join(it.name for it in f.fields)} }}"
+    end = "Ok(value)" if f.summed else f"Ok({made})"
     if k + 1 < len(pieces):
         seen = ["reader", *["alloc"] * f.grows, *(it.name for it in f.entry_at(pieces[k + 1][0])[1])]
         end = f"{f.type}::read_{k + 2}({', '.join(seen)})"
-    return ["    {", *[f"        {reads(f, it)}" for it in pieces[k]], f"        {end}", "    }", ""]
+    statements = [reads(f, it) for it in pieces[k]]
+    if f.summed and k + 1 == len(pieces):
+        first = next(n for n, it in enumerate(pieces[k]) if isinstance(it.kind, m.Verify) and it.kind.check.lines)
+        statements.insert(first, f"let value = {made};")
+    return ["    {", *[f"        {it}" for it in statements], f"        {end}", "    }", ""]
 
 
 def later_reads(f: Format, outcome: str) -> list[str]:
@@ -73,17 +79,17 @@ def later_reads(f: Format, outcome: str) -> list[str]:
 
 def parse_code(f: Format) -> list[str]:
     """Returns the function that reads a slice."""
-    m, t, o = f.m, f.type, f.o
+    name, t, o = f.m, f.type, f.o
     decoder = f.decoder(o, f"(length packet.now - {f.head})")
     answer = f"(sure_answer (({decoder}).reads 0 (bits {o} packet.now)))"
     reached = f"MayAllocate ({decoder}) 0 (bits {o} packet.now)"
     told = or_refused(f, f"OwnAnswer {f.becomes_name} (λ answer. answer)\n            {answer} result", reached)
-    bits, few = f"write_sequence ({m}_writes {o} value) 0", "if the bytes end before the fields do"
+    bits, few = f"write_sequence ({name}_writes {o} value) 0", "if the bytes end before the fields do"
     errors = dict.fromkeys(reader_errors(f.description.kinds))
     more = [f"    /// `{of_reader(f, error)}` {when}." for error, when in errors]
     more += [f"    /// `{of_reader(f, 'OutOfMemory')}` if the allocation for an item of a list fails."] * f.grows
     if f.sized:
-        bits, few = f"{m}_bits value", f"for fewer than {f.bytes} bytes"
+        bits, few = f"{name}_bits value", f"for fewer than {f.bytes} bytes"
     end, behind = f"`{of_reader(f, 'EndOfInput')}`", "\n            " if f.grows else " "
     more_bits = "" if f.rest else " ++ more"
     sizes = f"rest_of(packet, {f.head})"
@@ -101,7 +107,7 @@ def parse_code(f: Format) -> list[str]:
         f"        ensures back {{ (value : {t}){' (more : List Bool)' * (not f.rest)} → Fits value",
         f"            → bits {o} packet.now ≡ {bits}{more_bits}{behind}→ {or_refused(f, 'result ≡ Ok value')} }}",
         "    {",
-        f"        {m}_round_trip();",
+        f"        {name}_round_trip();",
         *[f"        let {it.name} = {sizes};" for it in f.given],
         f"        {t}::read(&mut BitReader::<_, {f.order}>::over(packet){', alloc' * f.grows}"
         f"{f', {given_name(f)}' * bool(f.given)})",

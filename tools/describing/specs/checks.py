@@ -22,16 +22,25 @@ def octets_of(covers: Sequence[m.Kind], before: str = "", behind: str = "") -> s
     return " ++ ".join(octets(it, f"{before}{m.label(it)}{behind}") for it in covers)
 
 
-def read_sum(kind: m.Check, covers: Sequence[m.Kind]) -> str:
-    """Returns the checksum of the values that were read."""
+def read_sum(kind: m.Check, covers: Sequence[m.Kind], fields: Sequence[str]) -> str:
+    """Returns the checksum of the values that were read, of the record with these fields."""
+    if kind.lines:
+        return f"{kind.word}_sum (record {{ {'; '.join(f'{it} = {it}' for it in fields)} }})"
     return f"{kind.word} ({octets_of(covers)})"
 
 
 def written_sum(kind: m.Check, covers: Sequence[m.Kind]) -> str:
     """Returns the checksum of the fields of the record."""
-    return f"{kind.word} ({octets_of(covers, 'value.')})"
+    return f"{kind.word}_sum value" if kind.lines else f"{kind.word} ({octets_of(covers, 'value.')})"
+
+
+def small_sum(kind: m.Check, covers: Sequence[m.Kind]) -> str:
+    """Returns the term that the checksum of the fields of the record fits its bits."""
+    if kind.lines:
+        return f"(lines_sum-small {kind.word} _ _ {kind.width} {kind.word}-small)"
+    return f"({kind.word}-small ({octets_of(covers, 'value.')}))"
 
 
 def shape(kind: m.Check) -> str:
     """Returns the order, the bits of the type and the bits of a checksum."""
-    return f"o {kind.width} {kind.width}"
+    return f"o {kind.type_bits} {kind.width}"

@@ -5,7 +5,7 @@ from describing import model as m
 from describing.imports import part_cases
 from describing.layout import Format, Line, enum_bits
 from describing.model import snake
-from describing.specs import choices, sizes
+from describing.specs import choices, last, sizes
 from describing.specs.values import array_value, choice_values, enum_laws, enum_value
 from describing.specs.terms import called
 
@@ -15,13 +15,14 @@ def definitions(f: Format, line: Line) -> list[str]:
     if isinstance(line.kind, m.Const):
         return const_at(f, line, line.kind) if f.sized else []
     if line.enum:
-        laws = enum_value(f, line, line.enum) if f.valued else []
-        if f.valued and isinstance(line.kind, m.Array):
+        laws = enum_value(f, line, line.enum)
+        if isinstance(line.kind, m.Array):
             laws = enum_laws(line, line.enum) + array_value(f, line, line.enum, line.kind.count)
         return [] if line.repeats else [*case_specs(f, line, line.enum), *read_specs(f, line, line.enum), *laws]
     parts = [it for it in line.parts if it.use and f.mapped(it.kind) and f.is_first(it)]
     found = [said for it in parts if it.use for said in mapped_specs(f, it, it.use)]
     found += choices.definitions(f, line, line.kind) if isinstance(line.kind, m.Choose) else []
+    found += last.definitions(line.kind) if isinstance(line.kind, m.UpToLast) else []
     if isinstance(line.kind, m.Sized) and line.error and not line.measured:
         found += sizes.stated_specs(f, line, line.kind)
     found += sizes.definitions(f, line, line.measured) if line.measured else []
@@ -97,11 +98,7 @@ def mapped_specs(f: Format, line: Line, use: m.Use) -> list[str]:
         out.append(f"{module}_error {said} = {use.error} {said}")
     answers = f"Result {part} {theirs} → Result {part} {f.error}"
     out += ["", "-- a result with these errors", f"abbrev pub {module}_answer : {answers}"]
-    if f.valued:
-        out += [f"{module}_answer = error_of {module}_error"]
-    else:
-        out += [f"{module}_answer (Ok value) = Ok value"]
-        out += [f"{module}_answer (Err error) = Err ({module}_error error)"]
+    out += [f"{module}_answer = error_of {module}_error"]
     out += ["", f"-- the reads of a `{part}`, with the errors of the type"]
     out += [f"abbrev pub {module}_here : Order → Decoder (Result {part} {f.error})"]
     here = f"and_then ({module}_decoder o) (λ answer. pure ({module}_answer answer))"

@@ -6,7 +6,7 @@ from describing.layout import Format, Line, is_octets
 from describing.model import snake
 from describing.specs.choices import called, pattern
 from describing.specs.sizes import overrun
-from describing.specs.terms import measured_module, selected, sized_bytes, tag_of
+from describing.specs.terms import Of, measured_module, selected, sized_bytes, tag_of
 
 REFL = "refl"
 
@@ -70,10 +70,10 @@ def part_value(f: Format, line: Line, use: m.Use) -> str:
     return f"(with_error {use.module}_error {name})" if f.mapped(line.kind) else name
 
 
-def choice_of(f: Format, kind: m.Choose, size: str) -> str:
+def choice_of(f: Format, kind: m.Choose, size: str, of: Of) -> str:
     """Returns the format of the case that a choice has at a number, or at a number and a size."""
     s = snake(kind.type)
-    return f"(chosen {f'({s}_choice {size})' if kind.unnamed else f'{s}_choice'} {selected(f, kind)})"
+    return f"(chosen {f'({s}_choice {size})' if kind.unnamed else f'{s}_choice'} {selected(f, kind, of)})"
 
 
 def choice_facts(f: Format, kind: m.Choose) -> str:
@@ -128,14 +128,14 @@ def written_value(f: Format, kind: m.Choose) -> list[str]:
 # ---- parts of a stated size
 
 
-def measured_format(f: Format, line: Line, kind: m.Measured) -> str:
+def measured_format(f: Format, line: Line, kind: m.Measured, of: Of) -> str:
     """Returns the format of a part of a stated size."""
+    bytes_read = of(f, f"{kind.name}_bytes")
     if is_octets(kind):
-        return octets_format(line, kind)
-    bytes_read = f"{kind.name}_bytes"
+        return octets_format(line, kind, bytes_read)
     if not line.size or not line.size.units:
-        return f"({over(f, line, kind, bytes_read)})"
-    measure, inner = f"(λ a. {measured_bytes(kind, 'a')})", f"(λ n. {over(f, line, kind, 'n')})"
+        return f"({over(f, line, kind, bytes_read, of)})"
+    measure, inner = f"(λ a. {measured_bits(kind, 'a')} / 8)", f"(λ n. {over(f, line, kind, 'n', of)})"
     return f"({in_units(line.size, overrun(kind), measure, inner, bytes_read)})"
 
 
@@ -144,9 +144,8 @@ def in_units(size: m.Size, error: str, measure: str, inner: str, number: str) ->
     return f"in_units {size.units} (2 ^ {size.width}) refl refl {error} {measure} {inner} {number}"
 
 
-def octets_format(line: Line, kind: m.Sized | m.Measured) -> str:
+def octets_format(line: Line, kind: m.Sized | m.Measured, number: str) -> str:
     """Returns the format of bytes of a stated size."""
-    number = f"{kind.name}_bytes"
     if not kind_error(kind):
         return f"(vec {sized_bytes(line, number)})"
     assert line.size
@@ -158,11 +157,11 @@ def kind_error(kind: m.Measured) -> str:
     return kind.error if isinstance(kind, m.Sized) else ""
 
 
-def over(f: Format, line: Line, kind: m.Measured, size: str) -> str:
+def over(f: Format, line: Line, kind: m.Measured, size: str, of: Of) -> str:
     """Returns the format of a part over the bytes of its size."""
     behind = f"{overrun(kind)} (λ error. Reader error) {kind.name}_ended {size}"
     if isinstance(kind, m.Choose):
-        return f"over_bytes {choice_of(f, kind, size)} {behind}"
+        return f"over_bytes {choice_of(f, kind, size, of)} {behind}"
     assert line.use
     inner = part_value(f, line, line.use)
     inner = inner if f.mapped(kind) else f"(as_own {inner})"
@@ -171,13 +170,13 @@ def over(f: Format, line: Line, kind: m.Measured, size: str) -> str:
     return f"over_bytes {inner} {behind}"
 
 
-def measured_bytes(kind: m.Measured, term: str) -> str:
-    """Returns the number of bytes of a value."""
+def measured_bits(kind: m.Measured, term: str) -> str:
+    """Returns the number of bits of a value."""
     if isinstance(kind, m.Fill):
-        return f"parts_size {kind.use.module}_format.size {term} / 8"
+        return f"parts_size {kind.use.module}_format.size {term}"
     if isinstance(kind, m.Choose):
-        return f"{snake(kind.type)}_size High {term} / 8"
-    return f"{measured_module(kind)}_format.size {term} / 8"
+        return f"{snake(kind.type)}_size High {term}"
+    return f"{measured_module(kind)}_format.size {term}"
 
 
 def wide_value(f: Format, kind: m.Fill) -> list[str]:
@@ -193,7 +192,9 @@ def wide_value(f: Format, kind: m.Fill) -> list[str]:
 def measured_facts(f: Format, line: Line, kind: m.Measured) -> list[str]:
     """Returns what must fit of a part of a stated size, in the order of its format."""
     name, size = kind.name, line.size
-    assert size
+    if not size:
+        bits = f"λ (k : ℕ). {measured_bits(kind, f's.{name}')} ≡ 8 * k"
+        return [f"fits.{name}", f"subst ({bits}) fits.1 (fits.{name}_whole High)"]
     if is_octets(kind):
         same = REFL
         if size.units and not kind_error(kind):

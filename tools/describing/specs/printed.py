@@ -6,7 +6,7 @@ import re
 from describing import model as m
 from describing.imports import parts_specs, types
 from describing.layout import Format, Line
-from describing.names import SPECS, VALUES, uses
+from describing.names import ENUMS, SPECS, VALUES, uses
 from describing.specs import values
 from describing.specs.definitions import definitions
 from describing.specs.terms import binds, fits, place, size, spec_type, word
@@ -39,12 +39,13 @@ def specs(f: Format) -> str:
     """Returns the text of the definitions."""
     out = becomes(f) + (BITS_AT if f.sized else [])
     out += [line for it in f.lines for line in definitions(f, it)]
+    out += [line for it in f.summed for line in sum_definitions(f, it)]
     out += [*values.lines(f), *values.reads(f), *values.writes(f)] if f.valued else [*entries(f), *writes(f)]
     out += [*fits_record(f), *sizes(f), *(values.value(f) if f.valued else []), *all_bits(f)]
     out += at_places(f) if f.sized else []
     text = "\n".join(out)
     # here `bits` is bound in each definition that names it
-    own = VALUES if f.valued else {}
+    own = VALUES if f.valued else ENUMS
     imports = uses(re.sub(r"\bbits\b", "", text), types(f), parts_specs(f), own, SPECS)
     imports += [values.ATOMS] * (" atom." in text or "(atom." in text)
     return wrapped("\n".join([f"-- {f.doc}", *imports, "", f"-- {f.made}", "", text.rstrip()])) + "\n"
@@ -108,28 +109,34 @@ def gives(f: Format) -> str:
 
 def writes(f: Format) -> list[str]:
     """Returns the definitions of the writes, the last one first."""
+    return writes_of(f, f"{f.m}_writes", "the writes, in order", f.pieces())
+
+
+def writes_of(f: Format, called: str, says: str, pieces: list[tuple[Line, ...]]) -> list[str]:
+    """Returns the definitions of the writes of some lines, the last one first."""
     out: list[str] = []
-    pieces = f.pieces()
     for k, piece in enumerate(pieces):
-        name, more = (f"{f.m}_writes_{k + 1}", ", the next of them") if k else (f"{f.m}_writes", "")
-        head = [f"-- the writes, in order{more}", f"abbrev pub {name} : Order → {f.type} → List Encoder"]
-        out = [*head, f"{name} o value =", *written_list(piece, after(f, k)), "", *out]
+        name, more = (f"{called}_{k + 1}", ", the next of them") if k else (called, "")
+        head = [f"-- {says}{more}", f"abbrev pub {name} : Order → {f.type} → List Encoder"]
+        out = [*head, f"{name} o value =", *written_list(piece, after(called, pieces, k)), "", *out]
     return out
 
 
-def after(f: Format, k: int) -> str:
+def after(called: str, pieces: list[tuple[Line, ...]], k: int) -> str:
     """Returns the writes after a piece."""
-    return f"{f.m}_writes_{k + 2} o value" if k + 1 < len(f.pieces()) else "[]"
+    return f"{called}_{k + 2} o value" if k + 1 < len(pieces) else "[]"
 
 
-def writes_behind(f: Format) -> list[str]:
-    """Returns for each line the writes of the lines after it."""
-    found = []
-    for k, piece in enumerate(f.pieces()):
-        for n in range(len(piece)):
-            rest = written_list(piece[n + 1 :], after(f, k)) if piece[n + 1 :] else [f"    {after(f, k)}"]
-            found.append(" ".join(it.strip() for it in rest))
-    return found
+def sum_definitions(f: Format, kind: m.Check) -> list[str]:
+    """Returns the definitions of the lines of a checksum, and of the checksum."""
+    called = f"{kind.word}_writes"
+    return [
+        *writes_of(f, called, f"the writes that the {kind.sum} covers, in order", f.covered(kind)),
+        f"-- the {kind.sum} of these lines",
+        f"abbrev pub {kind.word}_sum : {f.type} → ℕ",
+        f"{kind.word}_sum value = lines_sum {kind.word} {f.o} ({called} {f.o} value)",
+        "",
+    ]
 
 
 def written_list(lines: tuple[Line, ...], behind: str) -> list[str]:

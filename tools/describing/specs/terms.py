@@ -5,12 +5,21 @@ In the terms `o` is the order of bits, and `value` the record that is written.
 from __future__ import annotations
 
 import re
-from typing import assert_never
+from typing import Callable, TypeAlias, assert_never
 
 from describing import model as m
 from describing.layout import Format, Line, enum_bits, is_octets
 from describing.model import snake
 from describing.specs import checks
+
+
+# A function from the name of an earlier value to its term.
+Of: TypeAlias = Callable[[Format, str], str]
+
+
+def as_read(f: Format, name: str) -> str:
+    """Returns the variable that a read binds to a value."""
+    return name
 
 
 def value(line: Line) -> str:
@@ -47,7 +56,7 @@ def spec_type(kind: m.Printed) -> str:
             return "List (List ℕ)"
         case m.Sized():
             return item_type(kind.item)
-        case m.Fill():
+        case m.Fill() | m.UpToLast():
             return f"List {kind.use.name}"
         case m.Unary() | m.Varint() | m.Count() | m.Tag() | m.Size() | m.Check() | m.Const() | m.Skip() | m.Verify():
             return "ℕ"
@@ -73,7 +82,8 @@ def item_type(item: m.Item) -> str:
 
 def seen(kind: m.Printed) -> str:
     """Returns the suffix after a value of code for what contracts see of it."""
-    return ".items" if isinstance(kind, m.List | m.Fill | m.Until | m.Rest | m.Blocks) or is_octets(kind) else ""
+    many = isinstance(kind, m.List | m.Fill | m.Until | m.UpToLast | m.Rest | m.Blocks)
+    return ".items" if many or is_octets(kind) else ""
 
 
 def placed(text: str, order: str) -> str:
@@ -251,15 +261,10 @@ def by_number(f: Format, kind: m.Choose, term: str) -> str:
     return f"({enum_number(enum, term)})" if enum else term
 
 
-def selected(f: Format, kind: m.Choose) -> str:
+def selected(f: Format, kind: m.Choose, of: Of = as_read) -> str:
     """Returns the number that selects a case, of the values that were read."""
     tag = tag_of(f, kind)
-    return m.label(tag) if tag else by_number(f, kind, kind.by)
-
-
-def written_number(f: Format, kind: m.Choose) -> str:
-    """Returns the number that selects a case, of the fields of the record."""
-    return by_number(f, kind, f"value.{kind.by}")
+    return of(f, m.label(tag)) if tag else by_number(f, kind, of(f, kind.by))
 
 
 # ---- reads
@@ -294,6 +299,8 @@ def entry(f: Format, line: Line) -> str:
             return f"until_decoder o {kind.stop}"
         case m.Blocks():
             return "blocks_decoder o"
+        case m.UpToLast():
+            return f"up_to_last_decoder ({own_decoder(f, line)}) {kind.name}_last"
         case m.Rest():
             return f"vec_decoder o {kind.name}_bytes"
         case m.Count():
@@ -360,13 +367,13 @@ def item_decoder(f: Format, line: Line, item: m.Item) -> str:
 
 def all_items(line: Line) -> str:
     """Returns the read of a list: of items that may be refused, or of others."""
-    return "parts_decoder" if line.error else "items_decoder"
+    return "parts_decoder" if line.own else "items_decoder"
 
 
 def stored(f: Format, line: Line, kind: m.List) -> str:
     """Returns the read of an item as the read of a list takes it."""
     one = item_decoder(f, line, kind.item)
-    return one if line.error else f"list_item ({one})"
+    return one if line.own else f"list_item ({one})"
 
 
 def list_decoder(f: Format, line: Line, kind: m.List) -> str:
@@ -382,9 +389,15 @@ def here(f: Format, line: Line) -> str:
     return f"{module}_{'here' if f.mapped(line.kind) else 'decoder'} o"
 
 
+def own_decoder(f: Format, line: Line) -> str:
+    """Returns the read of a part as one that has errors of its own."""
+    plain = not f.mapped(line.kind) and not (line.use and m.allocating(line.use))
+    return f"plain_reads ({here(f, line)})" if plain else here(f, line)
+
+
 def if_there(f: Format, line: Line, there: str) -> str:
     """Returns the read of an optional part; `there` is the term that it is there."""
-    own = "own_" if line.use and line.use.description.error else ""
+    own = "own_" * line.own
     return f"{own}optional {there} ({here(f, line)})"
 
 
@@ -409,9 +422,9 @@ def test(f: Format, kind: m.If, term: str) -> str:
     return f"({number} == {kind.value})"
 
 
-def when(f: Format, kind: m.Optional | m.If) -> str:
+def when(f: Format, kind: m.Optional | m.If, of: Of = as_read) -> str:
     """Returns the term that an optional part is there, of the values that were read."""
-    return test(f, kind, kind.field) if isinstance(kind, m.If) else f"has_{kind.name}"
+    return test(f, kind, of(f, kind.field)) if isinstance(kind, m.If) else of(f, f"has_{kind.name}")
 
 
 def known(f: Format, kind: m.Optional | m.If) -> str:
@@ -428,7 +441,7 @@ def binds(f: Format, line: Line, behind: str) -> str:
     if isinstance(kind, m.Skip):
         return f"  skipped_{line.index} ← {entry(f, line)}"
     if isinstance(kind, m.Verify):
-        test_ = f"{m.label(kind.check)} == {checks.read_sum(kind.check, line.covers)}"
+        test_ = f"{m.label(kind.check)} == {checks.read_sum(kind.check, line.covers, [it.name for it in f.fields])}"
         return f"  if {test_} then {behind} else pure (Err {line.error})"
     if line.stops:
         return f"  and_then ({entry(f, line)}) (part_then (λ {line.name}. {behind}))"
@@ -464,6 +477,8 @@ def word(line: Line) -> str:
             return f"until_writes o {kind.stop} {term}"
         case m.Blocks():
             return f"blocks_writes o {term}"
+        case m.UpToLast():
+            return f"flat_map ({item_writes(kind.use)}) {term}"
         case m.Const():
             return f"plain (word o {kind.width} {kind.value})"
         case m.Skip():
@@ -524,7 +539,7 @@ def size(line: Line) -> str:
         case m.Unary():
             return f"length (unary {bit(kind.stop)} {term})"
         case m.Groups():
-            return f"length (vbr_word o {kind.group} {groups_number(kind)})"
+            return f"length (vbr_word High {kind.group} {groups_number(kind)})"
         case m.Golomb():
             return f"{short(kind)}_size {term}"
         case m.Varint():
@@ -533,6 +548,8 @@ def size(line: Line) -> str:
             return f"until_size {term}"
         case m.Blocks():
             return f"blocks_size {term}"
+        case m.UpToLast():
+            return f"parts_size ({kind.use.module}_size o) {term}"
         case m.Size():
             return f"varint_size ({number_stored(line, kind)})"
         case m.Part():
@@ -596,6 +613,10 @@ def fits(f: Format, line: Line) -> list[tuple[str, str]]:
             return [(kind.name, f"{term} < 2 ^ 62")]
         case m.Blocks():
             return [(kind.name, f"All IsBlock {term}"), (f"{kind.name}_most", f"length {term} < 2 ^ 32")]
+        case m.UpToLast():
+            once = (f"{kind.name}_once", f"EndsOnce {kind.name}_last {term}")
+            most = (f"{kind.name}_most", f"length {term} ≤ 2 ^ 32")
+            return [(kind.name, f"All {kind.use.name}Fits {term}"), once, most]
         case m.Until():
             return [(kind.name, f"IsUnended {kind.stop} {term}"), (f"{kind.name}_most", f"length {term} < 2 ^ 32")]
         case m.Golomb():
@@ -618,9 +639,9 @@ def fits(f: Format, line: Line) -> list[tuple[str, str]]:
 
 def choice_fits(f: Format, kind: m.Choose) -> list[tuple[str, str]]:
     """Returns the facts that a case of a choice fits, and that the field that selects it has its number."""
-    s, term = snake(kind.type), f"value.{kind.name}"
+    s, term, by = snake(kind.type), f"value.{kind.name}", by_number(f, kind, f"value.{kind.by}")
     found = [(kind.name, f"{s}_fits {term}")]
-    return found + [(f"{kind.name}_tag", f"{s}_number {term} ≡ {written_number(f, kind)}")] * (tag_of(f, kind) is None)
+    return found + [(f"{kind.name}_tag", f"{s}_number {term} ≡ {by}")] * (tag_of(f, kind) is None)
 
 
 def whole_fits(kind: m.Measured) -> tuple[str, str]:

@@ -8,11 +8,14 @@ from describing.layout import Format, Line, enum_bits, is_octets
 from describing.model import snake
 from describing.specs import measured
 from describing.specs.terms import (
+    Of,
     bit,
+    as_read,
     called,
     fits,
     measured_size,
     number_stored,
+    rest_count,
     short,
     sign,
     spec_type,
@@ -73,7 +76,7 @@ def array_value(f: Format, line: Line, enum: m.EnumType, count: int) -> list[str
 
 def lines(f: Format) -> list[str]:
     """Returns the definitions of the lines, the last ones first."""
-    parts, seen, out = f.entry_parts(), list[Line](), list[str]()
+    parts, seen, out = f.entry_parts(), list(f.given), list[str]()
     for k, part in enumerate(parts):
         out = [*lines_definition(f, k, part, seen), "", *out]
         seen = seen + [it for it in part if it.name]
@@ -119,21 +122,21 @@ def end(f: Format) -> str:
 # ---- one line
 
 
-def line_part(f: Format, line: Line) -> str:
-    """Returns a line as a part of the record `s`."""
+def line_part(f: Format, line: Line, of: Of = as_read) -> str:
+    """Returns a line as a part of the record `s`, after the values of the lines before it."""
     kind, get = line.kind, f"(λ s. {of_record(line, 's')})"
     match kind:
         case m.Const():
             return f"const {kind.width} {kind.value} refl {kind.error}"
         case m.Optional():
-            return if_there(f, line, kind, get)
+            return if_there(f, line, kind, get, of)
         case m.If():
-            return f"free ({if_there(f, line, kind, get)})"
+            return f"free ({if_there(f, line, kind, get, of)})"
         case m.List():
-            return list_part(f, line, kind, get)
+            return list_part(f, line, kind, get, of(f, f"{kind.name}_count"))
         case m.Size():
             return measured.size_part(line, kind, of_record(line, "s"))
-    return f"{'own_' * line.stops}field {line_format(f, line)} {get}"
+    return f"{'own_' * line.stops}field {line_format(f, line, of)} {get}"
 
 
 def of_record(line: Line, record: str) -> str:
@@ -162,7 +165,12 @@ def placed_in(term: str, record: str) -> str:
     return re.sub(r"\bvalue\.", f"{record}.", term)
 
 
-def line_format(f: Format, line: Line) -> str:
+def placed_at(term: str, record: str) -> str:
+    """Returns a term of the record `s`, of another record."""
+    return re.sub(r"(?<![\w.])s\.", f"{record}.", term)
+
+
+def line_format(f: Format, line: Line, of: Of) -> str:
     """Returns the format of the value of a line."""
     kind = line.kind
     match kind:
@@ -193,12 +201,20 @@ def line_format(f: Format, line: Line) -> str:
             return part_format(f, line, kind.use)
         case m.Varint():
             return "varint"
+        case m.Until():
+            return f"(atom.until {kind.stop} refl)"
+        case m.Blocks():
+            return "atom.blocks"
+        case m.Rest():
+            return f"(vec {of(f, f'{kind.name}_bytes')})"
         case m.Tag():
             return f"(atom.unsigned {tag_bits(kind.width)} {kind.width} refl)"
+        case m.UpToLast():
+            return f"(up_to_last {kind.name}_last {own_part_format(f, line, kind.use)})"
         case m.Choose(sized=False):
-            return measured.choice_of(f, kind, "")
+            return measured.choice_of(f, kind, "", of)
         case m.Choose() | m.Sized() | m.Fill():
-            return measured.measured_format(f, line, kind)
+            return measured.measured_format(f, line, kind, of)
         case m.Array(item=m.Octet()):
             return f"(atom.bytes {kind.count})"
         case m.Array(item=m.EnumType() as enum):
@@ -219,21 +235,27 @@ def part_format(f: Format, line: Line, use: m.Use) -> str:
     return f"(with_error {use.module}_error {name})" if f.mapped(line.kind) else name
 
 
-def if_there(f: Format, line: Line, kind: m.Optional | m.If, get: str) -> str:
+def own_part_format(f: Format, line: Line, use: m.Use) -> str:
+    """Returns a part as a format with errors of its own."""
+    plain = not f.mapped(line.kind) and not m.allocating(use)
+    return f"(as_own {{E = {f.e}}} {use.module}_format)" if plain else part_format(f, line, use)
+
+
+def if_there(f: Format, line: Line, kind: m.Optional | m.If, get: str, of: Of) -> str:
     """Returns an optional part."""
-    return f"{'own_' * bool(line.error)}optional {when(f, kind)} {part_format(f, line, kind.use)} {get}"
+    return f"{'own_' * line.own}optional {when(f, kind, of)} {part_format(f, line, kind.use)} {get}"
 
 
-def list_part(f: Format, line: Line, kind: m.List, get: str) -> str:
-    """Returns a list."""
-    item, own = kind.item, "own_" * bool(line.error)
+def list_part(f: Format, line: Line, kind: m.List, get: str, count: str) -> str:
+    """Returns a list of so many items."""
+    item, own = kind.item, "own_" * line.own
     match item:
         case m.Octet():
-            return f"byte_list {kind.name}_count {get}"
+            return f"byte_list {count} {get}"
         case m.Use():
-            return f"{own}list {kind.name}_count {part_format(f, line, item)} {get}"
+            return f"{own}list {count} {part_format(f, line, item)} {get}"
     one = number(item) if isinstance(item, m.Integer) else f"{snake(item.name)}_cases"
-    found = f"{own}even_list {kind.name}_count {item.width} {one} (λ x. refl) {get}"
+    found = f"{own}even_list {count} {item.width} {one} (λ x. refl) {get}"
     return found if fits(f, line) else f"sure ({found}) (λ s. {FEW})"
 
 
@@ -242,11 +264,11 @@ def list_part(f: Format, line: Line, kind: m.List, get: str) -> str:
 
 def reads(f: Format) -> list[str]:
     """Returns the definitions of the reads."""
-    seen, out = list[Line](), list[str]()
+    seen, out = list(f.given), list[str]()
     for k, part in enumerate(f.entry_parts()):
         args, kinds = "".join(f" {it.name}" for it in seen), "".join(f" {spec_type(it.kind)} →" for it in seen)
         name, more = (f"{f.m}_decoder_{k}", ", the next of them") if k else (f"{f.m}_decoder", "")
-        whole = f"({lines_name(f, k)}{args})" if k else lines_name(f, k)
+        whole = f"({lines_name(f, k)}{args})" if args else lines_name(f, k)
         out += [f"-- the reads, in order{more}", f"abbrev pub {name} : Order →{kinds} Decoder {f.result}"]
         out += [f"{name} o{args} = {whole}.read o", ""]
         seen = seen + [it for it in part if it.name]
@@ -258,9 +280,9 @@ def writes(f: Format) -> list[str]:
     seen, out = list[Line](), list[str]()
     for k, part in enumerate(f.entry_parts()):
         terms = [of_record(it, "value") for it in seen]
-        args = "".join(f" ({it})" if " " in it else f" {it}" for it in terms)
+        args = rest_given(f) + "".join(f" ({it})" if " " in it else f" {it}" for it in terms)
         name, more = (f"{f.m}_writes_{k + 1}", ", the next of them") if k else (f"{f.m}_writes", "")
-        whole = f"({lines_name(f, k)}{args})" if k else lines_name(f, k)
+        whole = f"({lines_name(f, k)}{args})" if args else lines_name(f, k)
         out += [f"-- the writes, in order{more}", f"abbrev pub {name} : Order → {f.type} → List Encoder"]
         out += [f"{name} o value = {whole}.write o value", ""]
         seen = seen + [it for it in part if it.name]
@@ -269,20 +291,32 @@ def writes(f: Format) -> list[str]:
 
 def size(f: Format) -> str:
     """Returns the number of bits."""
-    return str(f.total) if f.sized else f"{f.m}_lines.size value"
+    if f.sized:
+        return str(f.total)
+    return f"({f.m}_lines{rest_given(f)}).size value" if f.rest else f"{f.m}_lines.size value"
+
+
+def rest_given(f: Format) -> str:
+    """Returns the number of bytes of the rest of a record behind a blank, or an empty text if there is no rest."""
+    return f" {rest_count(f)}" if f.rest else ""
 
 
 def value(f: Format) -> list[str]:
-    """Returns the definition of the format."""
+    """Returns the definition of the format: of a rest, for a number of bytes that a record has to have."""
     made = ["refl"] * sum(isinstance(it.kind, m.List | m.Optional) for it in f.lines) + ["refl {a = s}"]
     facts = [fact for it in f.lines for fact in line_facts(f, it)]
     names = "; ".join(f"{it.removeprefix('fits.')} = facts{place(k, len(facts))}" for k, it in enumerate(facts))
     kind = f"OwnFormat {f.e}" if f.own else "PlainFormat"
+    named, lines_of, given, terms = "Fits", f"{f.m}_lines", "", " & ".join(facts) or "tt"
+    if f.rest:
+        given = f" {f.given[0].name}"
+        named = f"(λ s. Fits s × ({placed_in(rest_count(f)[1:-1], 's')} ≡{given}))"
+        lines_of, terms = f"({f.m}_lines{given})", re.sub(r"\bfits\.(?!1\b)", "fits.0.", terms)
     out = [
         "-- the format, with the facts that must fit by name",
-        f"abbrev pub {f.m}_format : {kind} {f.type}",
-        f"{f.m}_format = {'re' * f.fitting}named Fits (format {f.m}_lines (λ s. {pairs(made)}))",
-        f"    (λ s fits. {' & '.join(facts) or 'tt'})",
+        f"abbrev pub {f.m}_format : {'ℕ → ' * bool(given)}{kind} {f.type}",
+        f"{f.m}_format{given} = {'re' * f.fitting}named {named} (format {lines_of} (λ s. {pairs(made)}))",
+        f"    (λ s fits. {terms})",
     ]
     if f.fitting:
         out.append(f"    (λ s facts. record {{{f' {names} ' * bool(names)}}})")
@@ -303,6 +337,8 @@ def line_facts(f: Format, line: Line) -> list[str]:
             return [f"fits.{kind.name}", "refl" if tag_of(f, kind) else f"fits.{kind.name}_tag"]
         case m.Choose() | m.Sized() | m.Fill():
             return measured.measured_facts(f, line, kind)
+        case m.Rest():
+            return [f"fits.{kind.name}", "fits.1"]
     return [f"fits.{name}" for name, _ in fits(f, line)]
 
 
