@@ -1,26 +1,20 @@
 -- Made by `./format` from formats/gif_comment.fields: edit that file and make this one anew.
 -- A written `GifComment` is read back, and its number of bits.
-use Rattle.bitstream_messages.specs.GifComment.{gif_comment_decoder, gif_comment_writes, gif_comment_size, gif_comment_bits, Fits}
+use Rattle.bitstream_messages.specs.GifComment.{gif_comment_decoder, gif_comment_writes, gif_comment_size, gif_comment_format, gif_comment_bits, Fits}
 use Rattle.bitstream_messages.specs.declared.gif_comment.GifComment.{GifComment}
-use Rattle.std.proofs.Common.{◌≡◌, ◌++◌, ◌∷◌, [], Ok, refl, arith}
-use Rattle.bitstream_io.proofs.CallerLemmas.{RoundTrip, Packs, pure-back, literal-back, part-back, const-written, packs-none, packs-more, packs-part, packs-is}
-use Rattle.bitstream_format.proofs.BlocksLemmas.{blocks-back, blocks-packs}
+use Rattle.std.proofs.Common.{◌≡◌, ◌++◌, ◌∷◌, [], Ok, refl}
+use Rattle.bitstream_io.proofs.CallerLemmas.{RoundTrip, Packs}
 use Rattle.bitstream_io.specs.Callers.{Order, High, align, write_sequence}
-use Rattle.bitstream_format.specs.Blocks.{blocks_decoder, blocks_writes}
 
 -- a written value is read back
 pub gif_comment_goes : (o : Order) (value : GifComment) → Fits value
     → RoundTrip (gif_comment_decoder o) (gif_comment_writes o value) (Ok value)
-gif_comment_goes o value fits =
-    literal-back _ _ o 8 33 _ refl (literal-back _ _ o 8 254 _ refl (part-back (blocks_decoder o) _ (blocks_writes o
-    value.text) _ value.text _ (blocks-back o value.text fits.text fits.text_most).back (pure-back _)))
+gif_comment_goes = gif_comment_format.round_trip
 
 -- each write is accepted, and the value's size is the number of bits written
 pub gif_comment_packs : (o : Order) (value : GifComment) → Fits value
     → Packs (gif_comment_writes o value) (gif_comment_size o value)
-gif_comment_packs o value fits =
-    packs-is (packs-more (const-written o 8 33) (packs-more (const-written o 8 254) (packs-part (blocks-packs o
-    value.text fits.text) (packs-none)))) (omega arith)
+gif_comment_packs = gif_comment_format.packs
 
 -- the bits, of which a search is to see no part
 pub told : (value : GifComment)

@@ -1,24 +1,20 @@
 -- Made by `./format` from formats/tftp_data.fields: edit that file and make this one anew.
 -- A written `TftpData` is read back, and its number of bits.
-use Rattle.bitstream_messages.specs.TftpData.{tftp_data_decoder, tftp_data_writes, tftp_data_size, tftp_data_bits, Fits}
+use Rattle.bitstream_messages.specs.TftpData.{tftp_data_decoder, tftp_data_writes, tftp_data_size, tftp_data_format, tftp_data_bits, Fits}
 use Rattle.bitstream_messages.specs.declared.tftp_data.TftpData.{TftpData}
-use Rattle.std.proofs.Common.{◌≡◌, ◌++◌, ◌∷◌, [], Ok, length, refl, arith}
-use Rattle.bitstream_io.proofs.CallerLemmas.{RoundTrip, Packs, unsigned-back, pure-back, literal-back, unsigned-written, bytes-written, const-written, packs-none, packs-more, packs-is, vec-back}
+use Rattle.std.proofs.Common.{◌≡◌, ◌++◌, ◌∷◌, [], Ok, length, refl}
+use Rattle.bitstream_io.proofs.CallerLemmas.{RoundTrip, Packs}
 use Rattle.bitstream_io.specs.Callers.{Order, High, align, write_sequence}
 
 -- a written value is read back
 pub tftp_data_goes : (o : Order) (value : TftpData) → Fits value
     → RoundTrip (tftp_data_decoder o (length value.data)) (tftp_data_writes o value) (Ok value)
-tftp_data_goes o value fits =
-    literal-back _ _ o 16 3 _ refl (unsigned-back o 16 _ _ 16 value.block _ refl fits.block (vec-back _ _ o (length
-    value.data) value.data _ refl fits.data_ (pure-back _)))
+tftp_data_goes o value fits = (tftp_data_format (length value.data)).round_trip o value (fits, refl)
 
 -- each write is accepted, and the value's size is the number of bits written
 pub tftp_data_packs : (o : Order) (value : TftpData) → Fits value
     → Packs (tftp_data_writes o value) (tftp_data_size o value)
-tftp_data_packs o value fits =
-    packs-is (packs-more (const-written o 16 3) (packs-more (unsigned-written o 16 16 value.block refl fits.block)
-    (packs-more (bytes-written o (length value.data) value.data refl) (packs-none)))) (omega arith)
+tftp_data_packs o value fits = (tftp_data_format (length value.data)).packs o value (fits, refl)
 
 -- the bits, of which a search is to see no part
 pub told : (value : TftpData)

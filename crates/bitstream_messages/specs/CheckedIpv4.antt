@@ -4,7 +4,10 @@ use Rattle.bitstream_messages.specs.declared.checked_ipv4.CheckedIpv4Error.{Chec
 use Rattle.bitstream_messages.specs.declared.checked_ipv4.CheckedIpv4Error.TheVariants.{Reader, NoStart, WrongSum}
 use Rattle.bitstream_messages.specs.declared.checked_ipv4.Start.{Start}
 use Rattle.bitstream_messages.specs.declared.checked_ipv4.Start.TheVariants.{NoOptions}
-use Rattle.std.specs.Prelude.{◌≡◌, ◌^◌, ◌<◌, ◌++◌, ◌∷◌, [], ◌==◌, if◌then◌else◌, ℕ, Bool, List, Result, Ok, Err, length}
+use Rattle.std.proofs.Common.{refl, true}
+use Rattle.bitstream_format.specs.Format.{Own as OwnFormat}
+use Rattle.bitstream_format.specs.Cases.{cases}
+use Rattle.std.specs.Prelude.{◌≡◌, ◌^◌, ◌<◌, ◌++◌, ◌∷◌, [], ◌==◌, if◌then◌else◌, ℕ, Bool, List, Result, Ok, Err, length, nat_lt}
 use Rattle.bitstream_io.specs.Callers.{◌>>=◌, Decoder, Encoder, pure, Error, Order, High, and_then, unsigned_decoder, unsigned, align, write_sequence, part_then}
 use Rattle.bitstream_format.specs.Checks.{bytes1, bytes2, bytes4, sum16}
 
@@ -25,6 +28,17 @@ start_number NoOptions = 69
 -- the read of a case
 abbrev pub start_read : Order → Decoder (Result Start CheckedIpv4Error)
 start_read o = and_then (unsigned_decoder o 8 8) (λ v. pure (start_of v))
+
+-- the number of each case fits its bits, and decodes to that case
+pub start_small : (it : Start) → nat_lt (start_number it) (2 ^ 8) ≡ true
+start_small NoOptions = refl
+
+pub start_again : (it : Start) → start_of (start_number it) ≡ Ok it
+start_again NoOptions = refl
+
+-- the cases, by their numbers
+abbrev pub start_cases : OwnFormat CheckedIpv4Error Start
+start_cases = cases 8 8 refl start_of start_number start_small start_again
 
 -- the reads, in order, after 2 that may be refused
 abbrev pub checked_ipv4_decoder_2 : Order → Start → ℕ → ℕ → ℕ → ℕ → ℕ → ℕ → ℕ → ℕ → ℕ → Decoder (Result CheckedIpv4

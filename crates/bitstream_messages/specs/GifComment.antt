@@ -2,10 +2,13 @@
 use Rattle.bitstream_messages.specs.declared.gif_comment.GifComment.{GifComment}
 use Rattle.bitstream_messages.specs.declared.gif_comment.GifCommentError.{GifCommentError}
 use Rattle.bitstream_messages.specs.declared.gif_comment.GifCommentError.TheVariants.{Reader, NoExtension, NoComment}
-use Rattle.std.specs.Prelude.{◌≡◌, ◌^◌, ◌<◌, ◌+◌, ◌++◌, ◌∷◌, [], if◌then◌else◌, ℕ, Bool, List, Result, Ok, Err, length}
+use Rattle.std.proofs.Common.{refl}
+use Rattle.bitstream_format.specs.Format.{◌>>=◌, Own as OwnFormat, Parts as FormatParts, format, named, field, const, ◌&◌, own_done}
+use Rattle.std.specs.Prelude.{◌≡◌, ◌^◌, ◌<◌, ◌++◌, ◌∷◌, [], ℕ, Bool, List, Result, Ok, length}
 use Rattle.std.specs.List.{All}
-use Rattle.bitstream_io.specs.Callers.{◌>>=◌, Decoder, Encoder, pure, Error, Order, High, word, const_decoder, plain, align, write_sequence}
-use Rattle.bitstream_format.specs.Blocks.{blocks_decoder, blocks_writes, blocks_size, IsBlock}
+use Rattle.bitstream_io.specs.Callers.{Decoder, Encoder, Error, Order, High, align, write_sequence}
+use Rattle.bitstream_format.specs.Blocks.{IsBlock}
+use Rattle.bitstream_format.specs.Atoms as atom
 
 -- Made by `./format` from formats/gif_comment.fields: edit that file and make this one anew.
 
@@ -13,31 +16,21 @@ use Rattle.bitstream_format.specs.Blocks.{blocks_decoder, blocks_writes, blocks_
 abbrev pub becomes_gif_comment : Error → GifCommentError → Type 0
 becomes_gif_comment error own = own ≡ Reader error
 
--- the reads, in order, after 2 that may be refused
-abbrev pub gif_comment_decoder_2 : Order → Decoder (Result GifComment GifCommentError)
-gif_comment_decoder_2 o = do
-  text ← blocks_decoder o
-  pure (Ok (record { text = text }))
-
--- the reads, in order, after 1 that may be refused
-abbrev pub gif_comment_decoder_1 : Order → Decoder (Result GifComment GifCommentError)
-gif_comment_decoder_1 o = do
-  is_1 ← const_decoder o 8 254
-  if is_1 then gif_comment_decoder_2 o else pure (Err NoComment)
+-- the lines, in order
+abbrev pub gif_comment_lines : FormatParts GifComment (Result GifComment GifCommentError) (λ s. Ok s)
+gif_comment_lines = do
+  constant_0 ← const 8 33 refl NoExtension
+  constant_1 ← const 8 254 refl NoComment
+  text ← field atom.blocks (λ s. s.text)
+  own_done (record { text = text })
 
 -- the reads, in order
 abbrev pub gif_comment_decoder : Order → Decoder (Result GifComment GifCommentError)
-gif_comment_decoder o = do
-  is_0 ← const_decoder o 8 33
-  if is_0 then gif_comment_decoder_1 o else pure (Err NoExtension)
+gif_comment_decoder o = gif_comment_lines.read o
 
 -- the writes, in order
 abbrev pub gif_comment_writes : Order → GifComment → List Encoder
-gif_comment_writes o value =
-    plain (word o 8 33)
-    ∷ plain (word o 8 254)
-    ∷ blocks_writes o value.text
-    ++ []
+gif_comment_writes o value = gif_comment_lines.write o value
 
 -- each field fits its bits
 pub record Fits (value : GifComment) : Type 0 where
@@ -46,7 +39,12 @@ pub record Fits (value : GifComment) : Type 0 where
 
 -- the number of bits
 abbrev pub gif_comment_size : Order → GifComment → ℕ
-gif_comment_size o value = 16 + blocks_size value.text
+gif_comment_size o value = gif_comment_lines.size value
+
+-- the format, with the facts that must fit by name
+abbrev pub gif_comment_format : OwnFormat GifCommentError GifComment
+gif_comment_format = named Fits (format gif_comment_lines (λ s. refl {a = s}))
+    (λ s fits. fits.text & fits.text_most)
 
 -- the bits of all fields, up to a whole byte
 unfoldable pub gif_comment_bits : GifComment → List Bool

@@ -4,7 +4,10 @@ use Rattle.bitstream_messages.specs.declared.icmp_message.IcmpMessageError.{Icmp
 use Rattle.bitstream_messages.specs.declared.icmp_message.IcmpMessageError.TheVariants.{Reader, NoEcho, WrongSum}
 use Rattle.bitstream_messages.specs.declared.icmp_message.Echo.{Echo}
 use Rattle.bitstream_messages.specs.declared.icmp_message.Echo.TheVariants.{Reply, Request}
-use Rattle.std.specs.Prelude.{◌≡◌, ◌^◌, ◌<◌, ◌+◌, ◌*◌, ◌++◌, ◌∷◌, [], ◌==◌, if◌then◌else◌, ℕ, Bool, List, Result, Ok, Err, length}
+use Rattle.std.proofs.Common.{refl, true}
+use Rattle.bitstream_format.specs.Format.{Own as OwnFormat}
+use Rattle.bitstream_format.specs.Cases.{cases}
+use Rattle.std.specs.Prelude.{◌≡◌, ◌^◌, ◌<◌, ◌+◌, ◌*◌, ◌++◌, ◌∷◌, [], ◌==◌, if◌then◌else◌, ℕ, Bool, List, Result, Ok, Err, length, nat_lt}
 use Rattle.std.specs.List.{All}
 use Rattle.bitstream_io.specs.Callers.{◌>>=◌, Decoder, Encoder, pure, Error, Order, High, and_then, unsigned_decoder, vec_decoder, unsigned, buffer, align, write_sequence, part_then}
 use Rattle.bitstream_format.specs.Checks.{bytes1, bytes2, sum16}
@@ -27,6 +30,19 @@ echo_number Request = 8
 -- the read of a case
 abbrev pub echo_read : Order → Decoder (Result Echo IcmpMessageError)
 echo_read o = and_then (unsigned_decoder o 8 8) (λ v. pure (echo_of v))
+
+-- the number of each case fits its bits, and decodes to that case
+pub echo_small : (it : Echo) → nat_lt (echo_number it) (2 ^ 8) ≡ true
+echo_small Reply = refl
+echo_small Request = refl
+
+pub echo_again : (it : Echo) → echo_of (echo_number it) ≡ Ok it
+echo_again Reply = refl
+echo_again Request = refl
+
+-- the cases, by their numbers
+abbrev pub echo_cases : OwnFormat IcmpMessageError Echo
+echo_cases = cases 8 8 refl echo_of echo_number echo_small echo_again
 
 -- the reads, in order, after 2 that may be refused
 abbrev pub icmp_message_decoder_2 : Order → ℕ → Echo → ℕ → ℕ → ℕ → ℕ → List ℕ → Decoder (Result IcmpMessage

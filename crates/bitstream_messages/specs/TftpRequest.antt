@@ -4,9 +4,13 @@ use Rattle.bitstream_messages.specs.declared.tftp_request.TftpRequestError.{Tftp
 use Rattle.bitstream_messages.specs.declared.tftp_request.TftpRequestError.TheVariants.{Reader, NoRequest}
 use Rattle.bitstream_messages.specs.declared.tftp_request.Request.{Request}
 use Rattle.bitstream_messages.specs.declared.tftp_request.Request.TheVariants.{Read, Write}
-use Rattle.std.specs.Prelude.{◌≡◌, ◌^◌, ◌<◌, ◌+◌, ◌++◌, ◌∷◌, [], ◌==◌, if◌then◌else◌, ℕ, Bool, List, Result, Ok, Err, length}
-use Rattle.bitstream_io.specs.Callers.{◌>>=◌, Decoder, Encoder, pure, Error, Order, High, and_then, unsigned_decoder, unsigned, align, write_sequence, part_then}
-use Rattle.bitstream_format.specs.Until.{until_decoder, until_writes, until_size, IsUnended}
+use Rattle.std.proofs.Common.{refl, true}
+use Rattle.bitstream_format.specs.Format.{◌>>=◌, Own as OwnFormat, Parts as FormatParts, format, named, field, own_field, ◌&◌, own_done}
+use Rattle.bitstream_format.specs.Cases.{cases}
+use Rattle.std.specs.Prelude.{◌≡◌, ◌^◌, ◌<◌, ◌++◌, ◌∷◌, [], ◌==◌, if◌then◌else◌, ℕ, Bool, List, Result, Ok, Err, length, nat_lt}
+use Rattle.bitstream_io.specs.Callers.{Decoder, Encoder, pure, Error, Order, High, and_then, unsigned_decoder, align, write_sequence}
+use Rattle.bitstream_format.specs.Until.{IsUnended}
+use Rattle.bitstream_format.specs.Atoms as atom
 
 -- Made by `./format` from formats/tftp_request.fields: edit that file and make this one anew.
 
@@ -27,24 +31,34 @@ request_number Write = 2
 abbrev pub request_read : Order → Decoder (Result Request TftpRequestError)
 request_read o = and_then (unsigned_decoder o 16 16) (λ v. pure (request_of v))
 
--- the reads, in order, after 1 that may be refused
-abbrev pub tftp_request_decoder_1 : Order → Request → Decoder (Result TftpRequest TftpRequestError)
-tftp_request_decoder_1 o opcode = do
-  name ← until_decoder o 0
-  mode ← until_decoder o 0
-  pure (Ok (record { opcode = opcode; name = name; mode = mode }))
+-- the number of each case fits its bits, and decodes to that case
+pub request_small : (it : Request) → nat_lt (request_number it) (2 ^ 16) ≡ true
+request_small Read = refl
+request_small Write = refl
+
+pub request_again : (it : Request) → request_of (request_number it) ≡ Ok it
+request_again Read = refl
+request_again Write = refl
+
+-- the cases, by their numbers
+abbrev pub request_cases : OwnFormat TftpRequestError Request
+request_cases = cases 16 16 refl request_of request_number request_small request_again
+
+-- the lines, in order
+abbrev pub tftp_request_lines : FormatParts TftpRequest (Result TftpRequest TftpRequestError) (λ s. Ok s)
+tftp_request_lines = do
+  opcode ← own_field request_cases (λ s. s.opcode)
+  name ← field (atom.until 0 refl) (λ s. s.name)
+  mode ← field (atom.until 0 refl) (λ s. s.mode)
+  own_done (record { opcode = opcode; name = name; mode = mode })
 
 -- the reads, in order
 abbrev pub tftp_request_decoder : Order → Decoder (Result TftpRequest TftpRequestError)
-tftp_request_decoder o = and_then (request_read o) (part_then (λ opcode. tftp_request_decoder_1 o opcode))
+tftp_request_decoder o = tftp_request_lines.read o
 
 -- the writes, in order
 abbrev pub tftp_request_writes : Order → TftpRequest → List Encoder
-tftp_request_writes o value =
-    unsigned o 16 16 (request_number value.opcode)
-    ∷ until_writes o 0 value.name
-    ++ (until_writes o 0 value.mode
-    ++ [])
+tftp_request_writes o value = tftp_request_lines.write o value
 
 -- each field fits its bits
 pub record Fits (value : TftpRequest) : Type 0 where
@@ -55,7 +69,12 @@ pub record Fits (value : TftpRequest) : Type 0 where
 
 -- the number of bits
 abbrev pub tftp_request_size : Order → TftpRequest → ℕ
-tftp_request_size o value = 16 + until_size value.name + until_size value.mode
+tftp_request_size o value = tftp_request_lines.size value
+
+-- the format, with the facts that must fit by name
+abbrev pub tftp_request_format : OwnFormat TftpRequestError TftpRequest
+tftp_request_format = named Fits (format tftp_request_lines (λ s. refl {a = s}))
+    (λ s fits. fits.name & fits.name_most & fits.mode & fits.mode_most)
 
 -- the bits of all fields, up to a whole byte
 unfoldable pub tftp_request_bits : TftpRequest → List Bool

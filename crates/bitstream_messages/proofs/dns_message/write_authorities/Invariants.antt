@@ -1,0 +1,10 @@
+-- Made by `./format` from formats/dns_message.fields: edit that file and make this one anew.
+use Rattle.bitstream_messages.specs.DnsRecord.{dns_record_writes}
+use Rattle.bitstream_io.specs.Loop.{ItemsWritten}
+use Rattle.bitstream_messages.proofs.dns_message.write_authorities.Given as goal
+
+-- the items so far were written
+abbrev pub invariant-loop-item : goal.invariant-loop-item
+invariant-loop-item g l =
+    let K = g.W.BitWrite.sink in
+    ItemsWritten K (dns_record_writes K.order) l.items l.item-index l.initial.writer l.writer

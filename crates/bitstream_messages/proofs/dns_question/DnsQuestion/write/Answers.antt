@@ -1,0 +1,22 @@
+-- Made by `./format` from formats/dns_question.fields: edit that file and make this one anew.
+use Rattle.bitstream_io.proofs.OwnLemmas.{is_error}
+use Rattle.bitstream_io.proofs.WriteParts.{all_append, all_none, all_stop}
+use Rattle.bitstream_io.proofs.WriteSteps.{next_write, stop_write}
+use Rattle.bitstream_messages.proofs.dns_question.DnsQuestion.write.Goals as goal
+
+pub returns-in_err-write : goal.returns-in_err-write
+returns-in_err-write g c = rw (← c.self.view_is) (all_stop _ _ _ _ _ _ _ (is_error _ _ c.from_residual.ensures.1)
+    c.in_err-write.ensures)
+
+pub returns-in_err-write-2 : goal.returns-in_err-write-2
+returns-in_err-write-2 g c = rw (← c.self.view_is) (all_append _ _ _ _ _ _ _ c.in_ok-write.ensures (stop_write _ _ _ _ _
+    _ _ c.from_residual-in_err-write-2.ensures.1 c.in_err-write-2.ensures.writes))
+
+pub returns-in_err-write-3 : goal.returns-in_err-write-3
+returns-in_err-write-3 g c = rw (← c.self.view_is) (all_append _ _ _ _ _ _ _ c.in_ok-write.ensures (next_write _ _ _ _ _
+    _ _ c.in_ok-write-2.ensures.writes (stop_write _ _ _ _ _ _ _ c.from_residual-in_err-write-3.ensures.1
+    c.in_err-write-3.ensures.writes)))
+
+pub returns : goal.returns
+returns g c = rw (← c.self.view_is) (all_append _ _ _ _ _ _ _ c.in_ok-write.ensures (next_write _ _ _ _ _ _ _
+    c.in_ok-write-2.ensures.writes (next_write _ _ _ _ _ _ _ c.in_ok-write-3.ensures.writes (all_none _ _))))

@@ -1,0 +1,9 @@
+-- Made by `./format` from formats/dns_text.fields: edit that file and make this one anew.
+use Rattle.bitstream_messages.proofs.DnsTextLemmas.{dns_text_goes, dns_text_packs}
+use Rattle.bitstream_messages.proofs.dns_text.dns_text_round_trip.Goals as goal
+
+pub returns-clause-back : goal.returns-clause-back
+returns-clause-back c = λ o value at from more fits. (dns_text_goes o value fits).back at from more
+
+pub returns-clause-size : goal.returns-clause-size
+returns-clause-size c = λ o value at fits. (dns_text_packs o value fits).size at
