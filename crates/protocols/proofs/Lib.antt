@@ -5,6 +5,9 @@ pub mod CoapHeaderLemmas
 pub mod DnsHeaderLemmas
 pub mod EthernetHeaderLemmas
 pub mod IcmpEchoLemmas
+pub mod IcmpGatewayLemmas
+pub mod IcmpHeaderLemmas
+pub mod IcmpIdsLemmas
 pub mod Ipv4HeaderLemmas
 pub mod Ipv6HeaderLemmas
 pub mod J1939FrameLemmas
@@ -18,6 +21,7 @@ pub mod PngStartLemmas
 pub mod QuicLongHeaderLemmas
 pub mod ReportBlockLemmas
 pub mod RtcpSenderReportLemmas
+pub mod SocksLoginLemmas
 pub mod TcpHeaderLemmas
 pub mod TsHeaderLemmas
 pub mod UdpHeaderLemmas
@@ -29,6 +33,7 @@ mod CoapHeaderRows
 mod DnsHeaderRows
 mod EthernetHeaderRows
 mod IcmpEchoRows
+mod IcmpHeaderRows
 mod Ipv4HeaderRows
 mod Ipv6HeaderRows
 mod J1939FrameRows
@@ -42,6 +47,7 @@ mod PngStartRows
 mod QuicLongHeaderRows
 mod ReportBlockRows
 mod RtcpSenderReportRows
+mod SocksLoginRows
 mod TcpHeaderRows
 mod TsHeaderRows
 mod UdpHeaderRows

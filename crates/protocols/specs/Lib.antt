@@ -6,6 +6,9 @@ pub mod CoapHeaderFields
 pub mod DnsHeader
 pub mod EthernetHeader
 pub mod IcmpEcho
+pub mod IcmpGateway
+pub mod IcmpHeader
+pub mod IcmpIds
 pub mod Ipv4Header
 pub mod Ipv6Header
 pub mod J1939Frame
@@ -20,6 +23,8 @@ pub mod QuicLongHeader
 pub mod QuicLongHeaderFields
 pub mod ReportBlock
 pub mod RtcpSenderReport
+pub mod SocksLogin
+pub mod SocksLoginFields
 pub mod TcpHeader
 pub mod TsHeader
 pub mod UdpHeader

@@ -8,6 +8,7 @@
 //! - [`dns_header`]: the header of a DNS message
 //! - [`ethernet_header`]: the header of an Ethernet frame, with [`vlan_tag`]: the tag of a virtual network
 //! - [`icmp_echo`]: the header of an echo message of ICMP
+//! - [`icmp_header`]: the header of each message of ICMP, with [`icmp_ids`] and [`icmp_gateway`]: its parts
 //! - [`ipv4_header`]: the header of an IPv4 packet without options
 //! - [`ipv6_header`]: the header of an IPv6 packet without extension headers
 //! - [`j1939_frame`]: a CAN frame of SAE J1939 in a capture
@@ -19,6 +20,7 @@
 //! - [`png_start`]: the start of a PNG file, with its first chunk
 //! - [`quic_long_header`]: the start of a long header of QUIC
 //! - [`rtcp_sender_report`]: a sender report of RTCP, with [`report_block`]: a block of one
+//! - [`socks_login`]: the name and the password of a user of SOCKS
 //! - [`tcp_header`]: the header of a TCP segment without options
 //! - [`ts_header`]: the header of a packet of an MPEG transport stream
 //! - [`udp_header`]: the header of a UDP datagram
@@ -31,6 +33,9 @@ pub mod coap_header;
 pub mod dns_header;
 pub mod ethernet_header;
 pub mod icmp_echo;
+pub mod icmp_gateway;
+pub mod icmp_header;
+pub mod icmp_ids;
 pub mod ipv4_header;
 pub mod ipv6_header;
 pub mod j1939_frame;
@@ -44,6 +49,7 @@ pub mod png_start;
 pub mod quic_long_header;
 pub mod report_block;
 pub mod rtcp_sender_report;
+pub mod socks_login;
 pub mod tcp_header;
 pub mod ts_header;
 pub mod udp_header;

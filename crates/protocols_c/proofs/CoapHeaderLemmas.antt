@@ -51,14 +51,14 @@ value_is : {x y : CoapHeader} → ok_of x ≡ ok_of y → x ≡ y
 value_is is = cc
 
 -- a read whose error a `?` returned
-pub stopped : {R : Type 0} {K : BitSource R} {old new : R} {token_was token_now : List ℕ} {P : CoapError → Type 0}
+pub stopped : {R : Type 0} {K : BitSource R} {old new : R} {token_was : List ℕ} {token_now : List ℕ} {P : CoapError → Type 0}
     (r : Result CoapHeaderC CoapError) → IsErrAnd r P → ((s : Result CoapHeader CoapError) → IsErrAnd s P → ReadsOwn K becomes_coap_header (coap_header_decoder K.order) old s new)
     → CoapHeaderRead K old token_was r new token_now
 stopped (Ok c) bad reads = absurd bad
 stopped (Err e) is reads = record { found = Err e; reads = reads (Err e) is; told = refl; token_items = λ value no. cc }
 
 -- a read of all fields
-pub read_done : {R : Type 0} {K : BitSource R} {old new : R} {token_was token_now : List ℕ} {value : CoapHeader}
+pub read_done : {R : Type 0} {K : BitSource R} {old new : R} {token_was : List ℕ} {token_now : List ℕ} {value : CoapHeader}
     {r : Result CoapHeaderC CoapError} → ReadsOwn K becomes_coap_header (coap_header_decoder K.order) old (Ok value) new → r ≡ Ok (coap_header_to_c value)
     → token_now ≡ stored value.token token_was
     → CoapHeaderRead K old token_was r new token_now

@@ -1,7 +1,11 @@
 pub mod CoapHeaderLemmas
 pub mod EthernetHeaderLemmas
+pub mod IcmpGatewayLemmas
+pub mod IcmpHeaderLemmas
+pub mod IcmpIdsLemmas
 pub mod ListLemmas
 pub mod MqttHeaderLemmas
 pub mod SharedLemmas
+pub mod SocksLoginLemmas
 pub mod VariedLemmas
 pub mod VlanTagLemmas

@@ -1,7 +1,11 @@
 pub mod CoapHeader
 pub mod EthernetHeader
+pub mod IcmpGateway
+pub mod IcmpHeader
+pub mod IcmpIds
 pub mod Lists
 pub mod MqttHeader
 pub mod Shared
+pub mod SocksLogin
 pub mod Varied
 pub mod VlanTag

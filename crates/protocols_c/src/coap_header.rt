@@ -160,7 +160,7 @@ fn read<R: BitRead>(reader: &mut R, token_items: &mut [u8]) -> Result<CoapHeader
     })
 }
 
-/// Returns the result of a parse for C, after a read that took `taken` bytes, with room for so many items.
+/// Returns the result of a parse for C, after a read that took `taken` bytes, with some room for the items of each list.
 fn parsed(
     answer: Result<CoapHeaderC, CoapError>,
     taken: usize,

@@ -5,7 +5,11 @@
 
 mod coap_header;
 mod ethernet_header;
+mod icmp_gateway;
+mod icmp_header;
+mod icmp_ids;
 mod mqtt_header;
 mod shared;
+mod socks_login;
 mod status;
 mod vlan_tag;

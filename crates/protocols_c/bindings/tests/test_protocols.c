@@ -2,13 +2,15 @@
  * values. Plain shifts say what is right. Prints the number of calls. */
 #include "coap_header.h"
 #include "ethernet_header.h"
+#include "icmp_header.h"
 #include "mqtt_header.h"
+#include "socks_login.h"
 
 #include <stdio.h>
 #include <stdlib.h>
 #include <string.h>
 
-enum { MOST = 24 }; /* the bytes of the longest buffer */
+enum { MOST = 64 }; /* the bytes of the longest buffer */
 
 static unsigned long calls;
 
@@ -315,6 +317,176 @@ static void coap_nulls(void)
     calls += 4;
 }
 
+/* ---- ICMP, with a choice */
+
+static int icmp_pack(const void *it, uint8_t *buffer, size_t length, size_t *written)
+{
+    return icmp_header_pack(it, buffer, length, written);
+}
+
+/* The bytes of fields. */
+static size_t icmp_bytes(const struct icmp_header *it, uint8_t *b)
+{
+    const struct icmp_ids *ids = &it->body.as.echo;
+    b[0] = it->body.as.other;
+    b[1] = it->code;
+    b[2] = (uint8_t)(it->checksum >> 8);
+    b[3] = (uint8_t)it->checksum;
+    switch (it->body.which) {
+    case ICMP_HEADER_BODY_OTHER:
+        return 4;
+    case ICMP_HEADER_BODY_REDIRECT:
+        b[0] = 5;
+        memcpy(b + 4, it->body.as.redirect.address, 4);
+        return 8;
+    case ICMP_HEADER_BODY_ECHO_REPLY:
+        b[0] = 0;
+        ids = &it->body.as.echo_reply;
+        break;
+    case ICMP_HEADER_BODY_ECHO:
+        b[0] = 8;
+        break;
+    }
+    b[4] = (uint8_t)(ids->identifier >> 8);
+    b[5] = (uint8_t)ids->identifier;
+    b[6] = (uint8_t)(ids->sequence >> 8);
+    b[7] = (uint8_t)ids->sequence;
+    return 8;
+}
+
+/* Parses bytes. */
+static void icmp_parses(const uint8_t *bytes, size_t length)
+{
+    struct icmp_header it, before;
+    uint8_t packed[MOST], *part = block(bytes, length);
+    size_t taken = 99, size = length && (bytes[0] == 0 || bytes[0] == 5 || bytes[0] == 8) ? 8 : 4;
+    int status = length < size ? ICMP_HEADER_END_OF_INPUT : ICMP_HEADER_OK;
+    memset(&it, 0xA5, sizeof it);
+    memcpy(&before, &it, sizeof it);
+    HOLDS((int)icmp_header_parse(part, length, &it, &taken) == status);
+    HOLDS(taken == (status ? 0 : size));
+    calls++;
+    if (status)
+        HOLDS(!memcmp(&it, &before, sizeof it));
+    else {
+        HOLDS(it.body.which == (bytes[0] == 0 ? ICMP_HEADER_BODY_ECHO_REPLY
+                : bytes[0] == 5               ? ICMP_HEADER_BODY_REDIRECT
+                : bytes[0] == 8               ? ICMP_HEADER_BODY_ECHO
+                                              : ICMP_HEADER_BODY_OTHER));
+        HOLDS(icmp_bytes(&it, packed) == size && !memcmp(packed, bytes, size));
+        packs(icmp_pack, &it, packed, size, 1);
+    }
+    free(part);
+}
+
+/* Packs random fields, some of which do not fit, and parses them again. */
+static void random_icmp(void)
+{
+    struct icmp_header it, again;
+    uint8_t b[MOST] = {0}, other[MOST];
+    unsigned which = next() % 5;
+    size_t size, taken;
+    memset(&it, (int)(next() & 255), sizeof it);
+    it.code = (uint8_t)next();
+    it.checksum = (uint16_t)next();
+    it.body.which = (enum icmp_header_body_case)which;
+    if (which == ICMP_HEADER_BODY_OTHER)
+        it.body.as.other = next() & 1 ? next() % 10 : (uint8_t)next();
+    size = icmp_bytes(&it, b);
+    if (which > 3 || (which == ICMP_HEADER_BODY_OTHER && (b[0] == 0 || b[0] == 5 || b[0] == 8))) {
+        packs(icmp_pack, &it, b, size, 0);
+        return;
+    }
+    packs(icmp_pack, &it, b, size, 1);
+    HOLDS(icmp_header_parse(b, MOST, &again, &taken) == ICMP_HEADER_OK && taken == size);
+    HOLDS(again.body.which == it.body.which && icmp_bytes(&again, other) == size && !memcmp(other, b, size));
+    calls++;
+}
+
+/* ---- SOCKS, with bytes of stated sizes */
+
+static int socks_pack(const void *it, uint8_t *buffer, size_t length, size_t *written)
+{
+    return socks_login_pack(it, buffer, length, written);
+}
+
+/* The bytes of fields. */
+static size_t socks_bytes(const struct socks_login *it, uint8_t *b)
+{
+    size_t size = 2;
+    b[0] = 1;
+    b[1] = (uint8_t)it->name.length;
+    for (size_t i = 0; i < it->name.length; i++)
+        b[size++] = it->name.items[i];
+    b[size++] = (uint8_t)it->password.length;
+    for (size_t i = 0; i < it->password.length; i++)
+        b[size++] = it->password.items[i];
+    return size;
+}
+
+/* Parses bytes with some room for the name and the password, each storage at the end of its block. */
+static void socks_rooms(const uint8_t *bytes, size_t length, int status, size_t name_room, size_t password_room)
+{
+    struct socks_login it, before;
+    uint8_t fill[300], packed[MOST], *part = block(bytes, length), *name, *password;
+    size_t taken = 99, n = status ? 0 : bytes[1], m = status ? 0 : bytes[2 + n];
+    int wanted = status        ? status
+        : name_room < n        ? SOCKS_LOGIN_NO_ROOM_NAME
+        : password_room < m    ? SOCKS_LOGIN_NO_ROOM_PASSWORD
+                               : SOCKS_LOGIN_OK;
+    memset(fill, 0xEE, sizeof fill);
+    name = block(fill, name_room);
+    password = block(fill, password_room);
+    memset(&it, 0xA5, sizeof it);
+    it.name.items = name_room ? name : NULL;
+    it.name.capacity = name_room;
+    it.password.items = password;
+    it.password.capacity = password_room;
+    memcpy(&before, &it, sizeof it);
+    HOLDS((int)socks_login_parse(part, length, &it, &taken) == wanted);
+    HOLDS(taken == (status ? 0 : name_room < n ? n : password_room < m ? m : 3 + n + m));
+    calls++;
+    if (wanted)
+        HOLDS(!memcmp(&it, &before, sizeof it));
+    else {
+        HOLDS(it.name.length == n && it.password.length == m);
+        HOLDS(socks_bytes(&it, packed) == taken && !memcmp(packed, bytes, taken));
+        HOLDS(!memcmp(name + n, fill, name_room - n) && !memcmp(password + m, fill, password_room - m));
+        packs(socks_pack, &it, packed, taken, 1);
+    }
+    free(part);
+    free(name);
+    free(password);
+}
+
+/* Parses bytes, of which there are at most MOST. */
+static void socks_parses(const uint8_t *bytes, size_t length)
+{
+    size_t n = length > 1 ? bytes[1] : 0, m = length > 2 + n ? bytes[2 + n] : 0;
+    int status = length && bytes[0] != 1                       ? SOCKS_LOGIN_OTHER_VERSION
+        : length < 2 || length < 3 + n || length < 3 + n + m ? SOCKS_LOGIN_END_OF_INPUT
+                                                               : SOCKS_LOGIN_OK;
+    for (size_t i = 0; i < 3; i++)
+        for (size_t j = 0; j < 3; j++)
+            socks_rooms(bytes, length, status, i + n ? i + n - 1 : 0, j + m ? j + m - 1 : 0);
+}
+
+/* Packs random fields, some of which do not fit. */
+static void random_socks(void)
+{
+    uint8_t items[300], b[700];
+    struct socks_login it;
+    size_t most = next() % 8 ? 30 : 300;
+    for (int i = 0; i < 300; i++)
+        items[i] = (uint8_t)next();
+    it.name.items = items;
+    it.name.length = next() % most;
+    it.password.items = items + 1;
+    it.password.length = next() % 30;
+    if (it.name.length > 255 || socks_bytes(&it, b) <= MOST)
+        packs(socks_pack, &it, b, 3 + it.name.length + it.password.length, it.name.length < 256);
+}
+
 /* Null pointers. */
 static void nulls(void)
 {
@@ -352,6 +524,10 @@ int main(void)
                 ethernet_parses(bytes, part);
             else if (line[0] == 'c')
                 coap_parses(bytes, part);
+            else if (line[0] == 'i')
+                icmp_parses(bytes, part);
+            else if (line[0] == 's')
+                socks_parses(bytes, part);
         }
     }
     for (unsigned k = 0; k < 10000; k++) {
@@ -368,6 +544,14 @@ int main(void)
         bytes[0] = (uint8_t)(k % 4 ? 0x40 | (bytes[0] & 63) : bytes[0]);
         if (k % 8 == 0)
             coap_parses(bytes, next() % 19);
+        bytes[0] = (uint8_t)(k % 4 ? bytes[0] % 10 : bytes[0]);
+        icmp_parses(bytes, next() % 10);
+        random_icmp();
+        random_socks();
+        bytes[0] = (uint8_t)(k % 4 ? 1 : bytes[0]);
+        bytes[1] %= 16;
+        bytes[2 + bytes[1]] %= 32;
+        socks_parses(bytes, next() % 19);
     }
     nulls();
     coap_nulls();

@@ -6,10 +6,14 @@ import random
 import sys
 from typing import Callable
 
-from protocols import coap_header, ethernet_header, mqtt_header
+from protocols import coap_header, ethernet_header, icmp_header, mqtt_header, socks_login
 from protocols.coap_header import CoapHeader, Message
 from protocols.ethernet_header import EthernetHeader, EtherType
+from protocols.icmp_gateway import IcmpGateway
+from protocols.icmp_header import Body, BodyEcho, BodyEchoReply, BodyOther, BodyRedirect, IcmpHeader
+from protocols.icmp_ids import IcmpIds
 from protocols.mqtt_header import MqttHeader, Packet
+from protocols.socks_login import SocksLogin
 from protocols.vlan_tag import VlanTag
 
 calls = 0
@@ -26,7 +30,7 @@ def parsed(parse: Callable[[bytes], tuple[object, int]], data: bytes) -> Answer:
         return type(it)
 
 
-def packed(it: CoapHeader | MqttHeader | EthernetHeader) -> bytes | type[ValueError]:
+def packed(it: CoapHeader | MqttHeader | EthernetHeader | IcmpHeader | SocksLogin) -> bytes | type[ValueError]:
     """Returns the bytes, or the class of the exception."""
     global calls
     calls += 1
@@ -85,8 +89,44 @@ def coap_fields(b: bytes) -> Answer:
     return CoapHeader(Message(b[0] >> 4 & 3), b[1] >> 5, b[1] & 31, b[2] << 8 | b[3], b[4:size]), size
 
 
+def icmp_fields(b: bytes) -> Answer:
+    """Returns what a parse of an ICMP header is to return."""
+    size = 8 if b[:1] in (b"\x00", b"\x05", b"\x08") else 4
+    if len(b) < size:
+        return icmp_header.EndOfInput
+    ids, body = IcmpIds(int.from_bytes(b[4:6], "big"), int.from_bytes(b[6:8], "big")), b[0]
+    cases: dict[int, Body] = {0: BodyEchoReply(ids), 5: BodyRedirect(IcmpGateway(b[4:8])), 8: BodyEcho(ids)}
+    return IcmpHeader(b[1], b[2] << 8 | b[3], cases.get(body, BodyOther(body))), size
+
+
+def socks_fields(b: bytes) -> Answer:
+    """Returns what a parse of the login of SOCKS is to return."""
+    if b and b[0] != 1:
+        return socks_login.OtherVersion
+    second = 2 + b[1] if len(b) > 1 else 2
+    size = second + 1 + b[second] if len(b) > second else 256
+    if len(b) < size:
+        return socks_login.EndOfInput
+    return SocksLogin(b[2:second], b[second + 1 : size]), size
+
+
+def check_messages(name: str, data: bytes) -> None:
+    """Parses bytes with a choice or a size, and packs their fields again."""
+    if name == "icmp_header":
+        icmp = parsed(IcmpHeader.parse, data)
+        assert icmp == icmp_fields(data), data
+        if isinstance(icmp, tuple) and isinstance(icmp[0], IcmpHeader):
+            assert packed(icmp[0]) == data[: icmp[1]], data
+    if name == "socks_login":
+        found = parsed(SocksLogin.parse, data)
+        assert found == socks_fields(data), data
+        if isinstance(found, tuple) and isinstance(found[0], SocksLogin):
+            assert packed(found[0]) == data[: found[1]], data
+
+
 def check(name: str, data: bytes) -> None:
     """Parses bytes, and packs their fields again."""
+    check_messages(name, data)
     if name == "coap_header":
         coap = parsed(CoapHeader.parse, data)
         assert coap == coap_fields(data), data
@@ -136,6 +176,31 @@ def check_coap() -> None:
         assert isinstance(data, bytes) and parsed(CoapHeader.parse, data + b"\xff") == (it, len(data)), it
 
 
+def check_icmp() -> None:
+    """Packs random choices, some of which do not fit, and parses them again."""
+    ids, other = IcmpIds(random.getrandbits(16), random.randint(0, 65536)), random.randint(0, 257)
+    cases: list[Body] = [BodyEcho(ids), BodyEchoReply(ids), BodyRedirect(IcmpGateway(random.randbytes(4)))]
+    it = IcmpHeader(1, random.getrandbits(16), random.choice([*cases, BodyOther(other), BodyOther(5)]))
+    data = packed(it)
+    wide = isinstance(it.body, BodyEcho | BodyEchoReply) and ids.sequence > 65535
+    if wide or isinstance(it.body, BodyOther) and (it.body.number in (0, 5, 8) or it.body.number > 255):
+        assert data is icmp_header.DoesNotFit, it
+    else:
+        assert isinstance(data, bytes) and parsed(IcmpHeader.parse, data + b"\xff") == (it, len(data)), it
+
+
+def check_socks() -> None:
+    """Packs random bytes, some of which do not fit, and parses them again."""
+    it = SocksLogin(
+        random.randbytes(random.choice([0, 5, 255, 256])), random.randbytes(random.choice([0, 7, 255, 300]))
+    )
+    data = packed(it)
+    if len(it.name) > 255 or len(it.password) > 255:
+        assert data is socks_login.DoesNotFit, it
+    else:
+        assert isinstance(data, bytes) and parsed(SocksLogin.parse, data + b"\xff") == (it, len(data)), it
+
+
 random.seed(1)
 for line in sys.stdin:
     format_, digits = line.split()
@@ -149,6 +214,12 @@ for _ in range(10000):
     check_mqtt()
     check_ethernet()
     check_coap()
+    check("icmp_header", bytes([random.randint(0, 9), *random.randbytes(random.randint(0, 9))]))
+    name = random.randbytes(random.randint(0, 12))
+    login = bytes([1, len(name), *name, random.randint(0, 12), *random.randbytes(12)])
+    check("socks_login", login[: random.randint(0, len(login))])
+    check_icmp()
+    check_socks()
 try:
     EthernetHeader(bytes(6), bytes(6), 0x8100, VlanTag(8, True, 1, 1)).pack()
 except ethernet_header.DoesNotFit as it:

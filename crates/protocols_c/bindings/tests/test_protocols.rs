@@ -3,7 +3,11 @@
 
 use protocols::coap_header::{CoapError, CoapHeader, Message};
 use protocols::ethernet_header::{EtherType, EthernetHeader, EthernetHeaderError};
+use protocols::icmp_gateway::IcmpGateway;
+use protocols::icmp_header::{Body, IcmpHeader, IcmpHeaderError};
+use protocols::icmp_ids::IcmpIds;
 use protocols::mqtt_header::{MqttError, MqttHeader, Packet};
+use protocols::socks_login::{SocksLogin, SocksLoginError};
 use protocols::vlan_tag::VlanTag;
 use std::io::BufRead;
 
@@ -124,13 +128,45 @@ fn coap_wanted(b: &[u8]) -> Result<(CoapHeader, usize), CoapError> {
     Ok((it, size))
 }
 
-/// Tries a pack into buffers of all lengths up to 24.
+/// What a parse of an ICMP header is to return.
+fn icmp_wanted(b: &[u8]) -> Result<(IcmpHeader, usize), IcmpHeaderError> {
+    let kind = *b.first().ok_or(IcmpHeaderError::EndOfInput)?;
+    let size = if matches!(kind, 0 | 5 | 8) { 8 } else { 4 };
+    let b = b.get(..size).ok_or(IcmpHeaderError::EndOfInput)?;
+    let number = |k: usize| u16::from(b[k]) << 8 | u16::from(b[k + 1]);
+    let it = IcmpHeader {
+        code: b[1],
+        checksum: number(2),
+        body: match kind {
+            0 => Body::EchoReply(IcmpIds { identifier: number(4), sequence: number(6) }),
+            5 => Body::Redirect(IcmpGateway { address: b[4..].try_into().unwrap() }),
+            8 => Body::Echo(IcmpIds { identifier: number(4), sequence: number(6) }),
+            other => Body::Other(other),
+        },
+    };
+    Ok((it, size))
+}
+
+/// What a parse of the login of SOCKS is to return.
+fn socks_wanted(b: &[u8]) -> Result<(SocksLogin, usize), SocksLoginError> {
+    let end = || SocksLoginError::EndOfInput;
+    if *b.first().ok_or_else(end)? != 1 {
+        return Err(SocksLoginError::OtherVersion);
+    }
+    let second = 2 + usize::from(*b.get(1).ok_or_else(end)?);
+    let name = b.get(2..second).ok_or_else(end)?.to_vec();
+    let size = second + 1 + usize::from(*b.get(second).ok_or_else(end)?);
+    let password = b.get(second + 1..size).ok_or_else(end)?.to_vec();
+    Ok((SocksLogin { name, password }, size))
+}
+
+/// Tries a pack into buffers of all lengths up to 64.
 fn packs<E: PartialEq + std::fmt::Debug>(
     pack: impl Fn(&mut [u8]) -> Result<usize, E>,
     right: Result<&[u8], E>,
     short: &E,
 ) -> u64 {
-    for length in 0..=24 {
+    for length in 0..=64 {
         let mut buffer = vec![0xEE; length];
         let mut after = buffer.clone();
         let answer = pack(&mut buffer);
@@ -144,7 +180,7 @@ fn packs<E: PartialEq + std::fmt::Debug>(
         }
         assert_eq!(buffer, after);
     }
-    25
+    65
 }
 
 /// Parses bytes, and packs their fields again.
@@ -168,6 +204,20 @@ fn parses(name: &str, bytes: &[u8]) -> u64 {
         assert_eq!(found, ethernet_wanted(bytes));
         return found.map_or(1, |(it, size)| {
             1 + packs(|b| it.pack_into(b), Ok(&bytes[..size]), &EthernetHeaderError::NoRoom)
+        });
+    }
+    if name == "icmp_header" {
+        let found = IcmpHeader::parse(bytes);
+        assert_eq!(found, icmp_wanted(bytes));
+        return found.map_or(1, |(it, size)| {
+            1 + packs(|b| it.pack_into(b), Ok(&bytes[..size]), &IcmpHeaderError::NoRoom)
+        });
+    }
+    if name == "socks_login" {
+        let found = SocksLogin::parse(bytes);
+        assert_eq!(found, socks_wanted(bytes));
+        return found.map_or(1, |(it, size)| {
+            1 + packs(|b| it.pack_into(b), Ok(&bytes[..size]), &SocksLoginError::NoRoom)
         });
     }
     0
@@ -206,7 +256,34 @@ fn random_fields(random: &mut Random) -> u64 {
         Ok(bytes) => assert_eq!(CoapHeader::parse(&bytes), Ok((message, bytes.len()))),
         Err(error) => assert!(error == CoapError::DoesNotFit && message.token.len() > 15),
     }
-    5
+    5 + random_messages(random)
+}
+
+/// Packs random choices and bytes, some of which do not fit, and parses them again.
+fn random_messages(random: &mut Random) -> u64 {
+    let ids = IcmpIds { identifier: random.next() as u16, sequence: random.next() as u16 };
+    let body = match random.next() % 4 {
+        0 => Body::EchoReply(ids),
+        1 => Body::Redirect(IcmpGateway { address: (random.next() as u32).to_be_bytes() }),
+        2 => Body::Echo(ids),
+        _ => Body::Other((random.next() % 12) as u8),
+    };
+    let it = IcmpHeader { code: 3, checksum: random.next() as u16, body };
+    match it.pack() {
+        Ok(bytes) => assert_eq!(IcmpHeader::parse(&bytes), Ok((it, bytes.len()))),
+        Err(error) => {
+            assert!(error == IcmpHeaderError::DoesNotFit && matches!(body, Body::Other(0 | 5 | 8)));
+        }
+    }
+    let login = SocksLogin {
+        name: vec![1; (random.next() % 300) as usize],
+        password: vec![2; (random.next() % 20) as usize],
+    };
+    match login.pack() {
+        Ok(bytes) => assert_eq!(SocksLogin::parse(&bytes), Ok((login, bytes.len()))),
+        Err(error) => assert!(error == SocksLoginError::DoesNotFit && login.name.len() > 255),
+    }
+    4
 }
 
 fn main() {
@@ -229,6 +306,13 @@ fn main() {
         calls += parses("mqtt_header", &bytes[..length % 9]) + parses("ethernet_header", &bytes[..length]);
         bytes[0] = 0x40 | bytes[0] & 63;
         calls += parses("coap_header", &bytes[..length]) + random_fields(&mut random);
+        bytes[0] = if k % 4 == 0 { bytes[1] } else { bytes[0] % 10 };
+        calls += parses("icmp_header", &bytes[..length % 10]);
+        bytes[0] = if k % 4 == 0 { bytes[1] } else { 1 };
+        bytes[1] %= 16;
+        let second = 2 + usize::from(bytes[1]);
+        bytes[second] %= 32;
+        calls += parses("socks_login", &bytes[..length]);
     }
     let error: Box<dyn std::error::Error> = Box::new(MqttError::NoPacket);
     assert_eq!(error.to_string(), "`kind` is not the number of a case of `Packet`");

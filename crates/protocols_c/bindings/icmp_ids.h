@@ -1,0 +1,66 @@
+/* Made by `./format --c` from ../protocols/formats/icmp_ids.fields: edit that file and make this one anew.
+ *
+ * Which echo it is.
+ *
+ *  0                   1                   2                   3
+ *  0 1 2 3 4 5 6 7 8 9 0 1 2 3 4 5 6 7 8 9 0 1 2 3 4 5 6 7 8 9 0 1
+ * +-+-+-+-+-+-+-+-+-+-+-+-+-+-+-+-+-+-+-+-+-+-+-+-+-+-+-+-+-+-+-+-+
+ * |           identifier          |            sequence           |
+ * +-+-+-+-+-+-+-+-+-+-+-+-+-+-+-+-+-+-+-+-+-+-+-+-+-+-+-+-+-+-+-+-+
+ */
+#ifndef ICMP_IDS_H
+#define ICMP_IDS_H
+
+#include <stdbool.h>
+#include <stddef.h>
+#include <stdint.h>
+
+#ifdef __cplusplus
+extern "C" {
+#endif
+
+/* The bytes that the fields take. */
+#define ICMP_IDS_SIZE 4
+
+struct icmp_ids {
+    /* The number that a reply shares with its request. */
+    uint16_t identifier;
+    /* The number of the request among its sender's requests. */
+    uint16_t sequence;
+};
+
+/* The result of a call. */
+enum icmp_ids_status {
+    /* The call did its work. */
+    ICMP_IDS_OK = 0,
+    /* The bytes end before the fields do. */
+    ICMP_IDS_END_OF_INPUT = 1,
+    /* The buffer is too short. */
+    ICMP_IDS_NO_ROOM = 2,
+    /* A field has a value that the format does not allow. */
+    ICMP_IDS_DOES_NOT_FIT = 3,
+    /* A pointer is null. */
+    ICMP_IDS_NULL = 4
+};
+
+/* Returns the text of a status, in lower case and without a full stop. */
+const char *icmp_ids_status_text(enum icmp_ids_status status);
+
+/* Parses the fields at the start of `length` bytes into `*out`, and returns ICMP_IDS_OK. After an
+ * error `*out` is as before. The errors are: ICMP_IDS_NULL if `out` is null, or `bytes` is null and
+ * `length` is not 0; else ICMP_IDS_END_OF_INPUT for fewer than 4 bytes. */
+enum icmp_ids_status icmp_ids_parse(const uint8_t *bytes, size_t length, struct icmp_ids *out);
+
+/* Writes the fields to the first 4 of `length` bytes, sets `*written` to 4 unless `written` is
+ * null, and returns ICMP_IDS_OK. The bytes after them are as before. After an error all bytes are
+ * as before, and `*written` is 0. `*in` and the buffer may not overlap. The errors are:
+ * ICMP_IDS_NULL if `in` is null, or `buffer` is null and `length` is not 0; else
+ * ICMP_IDS_DOES_NOT_FIT if a field has a value that the format does not allow; else
+ * ICMP_IDS_NO_ROOM for fewer than 4 bytes. */
+enum icmp_ids_status icmp_ids_pack(
+    const struct icmp_ids *in, uint8_t *buffer, size_t length, size_t *written);
+
+#ifdef __cplusplus
+}
+#endif
+#endif
