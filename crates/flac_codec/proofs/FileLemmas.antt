@@ -22,7 +22,7 @@ use Rattle.flac_codec.specs.declared.header.Channels.{Channels}
 use Rattle.flac_codec.specs.declared.header.FrameHeader.{FrameHeader}
 use Rattle.flac_codec.specs.declared.metadata.Metadata.{Metadata}
 use Rattle.flac_codec.specs.declared.stream_info.StreamInfo.{StreamInfo}
-use Rattle.flac_codec.proofs.FoundLemmas.{after-err, after-ok, not-refused, refused-as}
+use Rattle.flac_codec.proofs.FoundLemmas.{after-err, after-ok, crc16-within, not-refused, refused-as}
 use Rattle.flac_codec.proofs.StreamInfoLemmas.{stream_info_goes, stream_info_packs, told}
 
 -- ---- bytes that are left
@@ -52,13 +52,6 @@ same-value {A = A} {x = x} {y = y} is =
     subst P is refl
 
 -- ---- the size of a frame
-
-crc16-within : {u : Unit {0}} (bytes : List ℕ) (n : ℕ) → Ok u ≡ crc16_holds bytes n → n + 1 < length bytes
-crc16-within bytes n is = elim (cases_lt (n + 1) (length bytes)) [
-  | inl less ↦ less
-  | inr most ↦
-      let none : Ok _ ≡ Err (Reader EndOfInput) = rw (le-ltb (n + 1) (length bytes) most) at is in absurd (not-refused none)
-]
 
 pub frame-size : (sample_size : ℕ) (bytes : List ℕ) {frame : FrameHeader × List (List ℤ)} {n : ℕ}
     → Ok (frame, n) ≡ frame_at sample_size bytes → (1 ≤ n) × (n ≤ length bytes)

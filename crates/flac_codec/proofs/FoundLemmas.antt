@@ -4,7 +4,8 @@ use Rattle.std.specs.Prelude.{MatchResult, bit_and, nat_lt, replicate}
 use Rattle.std.proofs.lemmas.Nat.{and_mask}
 use Rattle.std.proofs.lemmas.Bool.{cases_lt, eq-eqb, le-ltb, lt-ltb}
 use Rattle.std.proofs.Math.Seq.{drop-append_seam, take-append_seam}
-use Rattle.std.proofs.lemmas.List.{length-drop, length-replicate, take_all}
+use Rattle.std.proofs.Math.ListN.{get_or-append as get_or-before}
+use Rattle.std.proofs.lemmas.List.{drop-append-le, length-drop, length-replicate, take-append-le, take_all}
 use Rattle.bitstream_io.specs.Alignment.{to_boundary}
 use Rattle.bitstream_io.specs.Callers.{align, bits, sure_answer, write_sequence, BitSource, Decoder, Encoder, Error, EndOfInput, GrowsOwn, High, OutOfMemory, OwnAnswer, ReadsOwn}
 use Rattle.bitstream_io.specs.Codec.{Prefix, Incomplete, Done}
@@ -13,6 +14,7 @@ use Rattle.bitstream_io.specs.Reads.{ReadDone, ReaderState, had_failed, was_done
 use Rattle.bitstream_io.specs.Reader.{new_reader_state}
 use Rattle.bitstream_io.specs.ReadBack.{IsReadAs}
 use Rattle.bitstream_io.specs.Refusal.{TrueEnds}
+use Rattle.bitstream_io.specs.Fault.{read_refusal_of}
 use Rattle.bitstream_io.proofs.CallerLemmas.{own_answered, own_grown_answered, write_sequence-append}
 use Rattle.bitstream_io.proofs.ReadsLemmas.{Consumes-known}
 use Rattle.bitstream_io.proofs.WordLemmas.{bits-append, length-bits}
@@ -104,6 +106,85 @@ module _ {R A : Type 0} (K : BitSource R) (high : K.order ≡ High) {e : Decoder
       (subst (λ o. OwnAnswer becomes_flac (λ y. y) (sure_answer (e.reads 0 (bits o bytes))) (Err x)) high
       (own_answered ends start refl h))
 
+-- ---- what is found whatever bytes follow
+
+-- an error of the decoder, as it is found
+in_bytes-own : {A : Type 0} (n : ℕ) (x : FlacError) (answer : Result (Result A FlacError) Error)
+    → OwnAnswer becomes_flac (λ y. y) answer (Err x) → in_bytes (Done n answer) ≡ Err x
+in_bytes-own n x (Ok (Ok v)) is = cc
+in_bytes-own n x (Ok (Err y)) is = let same : y ≡ x = cc in ap Err same
+in_bytes-own n x (Err e) is = ap Err (sym is)
+
+-- an error of the reader that is this one
+own-outside : {A : Type 0} (x : FlacError) (e : Error) (answer : Result (Result A FlacError) Error) → answer ≡ Err e
+    → OwnAnswer becomes_flac (λ y. y) answer (Err x) → x ≡ Reader e
+own-outside x e (Ok v) same is = absurd (let P : Result (Result _ FlacError) Error → Type 0 = λ r. MatchResult r (λ _. Unit {0}) (λ _. ⊥) in subst P same tt)
+own-outside x e (Err y) same is = let equal : y ≡ e = cc in is ∙ ap Reader equal
+
+module _ {R A : Type 0} (K : BitSource R) (high : K.order ≡ High) {e : Decoder A} {s t : R} (bytes : List ℕ)
+    (start : K.state s ≡ new_reader_state (Some bytes) []) where
+  -- a call that was done is done with more bytes too
+  pub reads-further : (answer : Result A Error) (h : ReadDone K.order e (K.state s) answer (K.state t)) (more : List ℕ)
+      → e.reads 0 (bits High (bytes ++ more)) ≡ Done (length h.word) answer
+  reads-further answer h more =
+      let known : (K.state s).bytes ≡ Some bytes = ap (λ (z : ReaderState). z.bytes) start in
+      let lost = Consumes-known (K.state s).bytes (K.state t).bytes h.gone bytes h.loses known in
+      let rest = lost.0 ++ more in
+      let all : bytes ++ more ≡ h.gone ++ rest = ap (λ xs. xs ++ more) lost.2 ∙ append_assoc h.gone lost.0 more in
+      let place : (K.state s).taken ≡ 0 = ap (λ (z : ReaderState). z.taken) start in
+      let queue : (K.state s).queue ≡ [] = ap (λ (z : ReaderState). z.queue) start in
+      let gone : bits High h.gone ≡ h.word ++ h.rest =
+      subst (λ q. q ++ bits High h.gone ≡ h.word ++ h.rest) queue
+      (subst (λ o. (K.state s).queue ++ bits o h.gone ≡ h.word ++ h.rest) high h.parts) in
+      let whole : bits High (bytes ++ more) ≡ h.word ++ (h.rest ++ bits High rest) =
+      ap (bits High) all ∙ bits-append High h.gone rest ∙ ap (λ w. w ++ bits High rest) gone
+      ∙ append_assoc h.word h.rest (bits High rest) in
+      ap (e.reads 0) whole
+      ∙ subst (λ p. e.reads p (h.word ++ (h.rest ++ bits High rest)) ≡ Done (length h.word) answer) place
+      (h.decides (h.rest ++ bits High rest))
+
+module _ {R A : Type 0} (K : BitSource R) (high : K.order ≡ High) {e : Decoder (Result A FlacError)} {s t : R} (bytes : List ℕ)
+    (start : K.state s ≡ new_reader_state (Some bytes) []) where
+  taken-further : (value : A) (rest : List ℕ) → (K.state t).bytes ≡ Some rest
+      → ReadDone K.order e (K.state s) (Ok (Ok value)) (K.state t) → (more : List ℕ)
+      → Ok (value, length bytes - length rest) ≡ found e (bytes ++ more)
+  taken-further value rest left h more =
+      let known : (K.state s).bytes ≡ Some bytes = ap (λ (z : ReaderState). z.bytes) start in
+      let lost = Consumes-known (K.state s).bytes (K.state t).bytes h.gone bytes h.loses known in
+      let same : lost.0 ≡ rest = let both = sym lost.1 ∙ left in cc in
+      let all : bytes ≡ h.gone ++ rest = lost.2 ∙ ap (λ xs. h.gone ++ xs) same in
+      let place : (K.state s).taken ≡ 0 = ap (λ (z : ReaderState). z.taken) start in
+      let none : (K.state s).fetched ≡ 0 = ap (λ (z : ReaderState). z.fetched) start in
+      let size : length bytes ≡ length h.gone + length rest = ap length all ∙ length-append h.gone rest in
+      let whole_bytes = K.demands t in
+      let count : (length h.word + 7) / 8 ≡ length bytes - length rest =
+      omega (arith, size, whole_bytes, h.fetched, h.taken, none, place) in
+      sym (ap in_bytes (reads-further K high bytes start (Ok (Ok value)) h more) ∙ ap (λ n. Ok (value, n)) count)
+
+  pub grown-further : (value : A) (rest : List ℕ) → (K.state t).bytes ≡ Some rest → GrowsOwn K becomes_flac e s (Ok value) t
+      → (more : List ℕ) → Ok (value, length bytes - length rest) ≡ found e (bytes ++ more)
+  grown-further value rest left h = taken-further value rest left (done K high bytes start value h.plain h.called h.answer)
+
+  -- an error, whatever follows, unless the bytes end or memory is refused
+  stops : (x : FlacError) (plain : Result (Result A FlacError) Error) → TrueEnds K.may → GrowingOutcome K e s plain t
+      → OwnAnswer becomes_flac (λ y. y) plain (Err x)
+      → ((more : List ℕ) → Err x ≡ found e (bytes ++ more)) ⊎ ((x ≡ Reader EndOfInput) ⊎ (x ≡ Reader OutOfMemory))
+  stops x plain ends (by_reads (had_failed h)) is =
+      let fine : (K.state s).failed ≡ false = ap (λ (z : ReaderState). z.failed) start in
+      let failed = h.failed in cc
+  stops x plain ends (by_reads (was_done h)) is =
+      inl (λ more. sym (ap in_bytes (reads-further K high bytes start plain h more) ∙ in_bytes-own (length h.word) x plain is))
+  stops x plain ends (by_reads (was_refused h)) is =
+      let end = ends h.refusal h.allowed in
+      inr (inl (own-outside x EndOfInput plain (h.answer ∙ ap (λ k. Err (read_refusal_of k)) end.kind) is))
+  stops x plain ends (by_reads (memory_refused grows h)) is = inr (inr (own-outside x OutOfMemory plain h.answer is))
+  stops x plain ends (in_a_read h) is = inr (inr (own-outside x OutOfMemory plain h.refused.answer is))
+  stops x plain ends (between_reads h) is = inr (inr (own-outside x OutOfMemory plain h.answer is))
+
+  pub stops-further : (x : FlacError) → TrueEnds K.may → GrowsOwn K becomes_flac e s (Err x) t
+      → ((more : List ℕ) → Err x ≡ found e (bytes ++ more)) ⊎ ((x ≡ Reader EndOfInput) ⊎ (x ≡ Reader OutOfMemory))
+  stops-further x ends h = stops x h.plain ends h.called h.answer
+
 -- ---- bytes that hold the words of calls, up to a whole byte
 
 aligned-size : (n m : ℕ) → 8 * m ≡ n + to_boundary n → (n + 7) / 8 ≡ m
@@ -143,6 +224,25 @@ refused-as is same = cc
 pub not-refused : {A : Type 0} {v : A} {x : FlacError} → Ok v ≡ Err x → ⊥
 not-refused is = cc
 
+-- a value does not say that the bytes ended, or that memory was refused
+pub not-cut : {A : Type 0} {v : A} → (◌≡◌ {A = Result A FlacError} (Ok v) (Err (Reader EndOfInput)))
+    ⊎ (◌≡◌ {A = Result A FlacError} (Ok v) (Err (Reader OutOfMemory))) → ⊥
+not-cut (inl is) = not-refused is
+not-cut (inr is) = not-refused is
+
+-- an error of this kind, as a result
+pub stopped_by : {A : Type 0} {x : FlacError} {r : Result A FlacError} → r ≡ Err x → (x ≡ Reader EndOfInput) ⊎ (x ≡ Reader OutOfMemory)
+    → (r ≡ Err (Reader EndOfInput)) ⊎ (r ≡ Err (Reader OutOfMemory))
+stopped_by is (inl cut) = inl (is ∙ ap Err cut)
+stopped_by is (inr cut) = inr (is ∙ ap Err cut)
+
+-- and as a result of another type
+pub stopped : {A B : Type 0} {x : FlacError} {r : Result A FlacError} → r ≡ Err x
+    → (◌≡◌ {A = Result B FlacError} (Err x) (Err (Reader EndOfInput))) ⊎ (◌≡◌ {A = Result B FlacError} (Err x) (Err (Reader OutOfMemory)))
+    → (r ≡ Err (Reader EndOfInput)) ⊎ (r ≡ Err (Reader OutOfMemory))
+stopped is (inl cut) = inl (is ∙ ap Err (refused-as refl cut))
+stopped is (inr cut) = inr (is ∙ ap Err (refused-as refl cut))
+
 pub first-same : {A : Type 0} {x y : A} {n m : ℕ} → ◌≡◌ {A = Result (A × ℕ) FlacError} (Ok (x, n)) (Ok (y, m)) → x ≡ y
 first-same {A = A} {x = x} {y = y} {n = n} {m = m} is =
     let P : Result (A × ℕ) FlacError → Type 0 = λ r. MatchResult r (λ p. x ≡ p.0) (λ e. ⊥) in
@@ -176,6 +276,54 @@ crc8-within bytes n is = elim (cases_lt n (length bytes)) [
   | inl less ↦ less
   | inr most ↦ let none : Ok _ ≡ Err (Reader EndOfInput) = rw (le-ltb n (length bytes) most) at is in absurd (not-refused none)
 ]
+
+-- a checksum is the same whatever bytes follow it
+pub crc8-further : (bytes more : List ℕ) (n : ℕ) → n < length bytes → crc8_holds (bytes ++ more) n ≡ crc8_holds bytes n
+crc8-further bytes more n less =
+    let size = length-append bytes more in
+    let inner : nat_lt n (length bytes) ≡ true = lt-ltb _ _ less in
+    let outer : nat_lt n (length (bytes ++ more)) ≡ true = lt-ltb _ _ (omega (arith, size)) in
+    rw (inner, outer, take-append-le n bytes more (omega arith), get_or-before bytes more 0 n less) refl
+
+pub crc16-further : (bytes more : List ℕ) (n : ℕ) → n + 1 < length bytes → crc16_holds (bytes ++ more) n ≡ crc16_holds bytes n
+crc16-further bytes more n less =
+    let size = length-append bytes more in
+    let inner : nat_lt (n + 1) (length bytes) ≡ true = lt-ltb _ _ less in
+    let outer : nat_lt (n + 1) (length (bytes ++ more)) ≡ true = lt-ltb _ _ (omega (arith, size)) in
+    rw (
+      inner,
+      outer,
+      take-append-le n bytes more (omega arith),
+      get_or-before bytes more 0 n (omega arith),
+      get_or-before bytes more 0 (n + 1) less,
+    ) refl
+
+-- a checksum that fails does so whatever bytes follow, or the bytes end before it
+pub crc8-stops : (bytes : List ℕ) (n : ℕ) {x : FlacError} → Err x ≡ crc8_holds bytes n
+    → ((more : List ℕ) → Err x ≡ crc8_holds (bytes ++ more) n) ⊎ (x ≡ Reader EndOfInput)
+crc8-stops bytes n is = elim (cases_lt n (length bytes)) [
+  | inl less ↦ inl (λ more. is ∙ sym (crc8-further bytes more n less))
+  | inr most ↦ inr (refused-as is (rw (le-ltb n (length bytes) most) refl))
+]
+
+pub crc16-stops : (bytes : List ℕ) (n : ℕ) {x : FlacError} → Err x ≡ crc16_holds bytes n
+    → ((more : List ℕ) → Err x ≡ crc16_holds (bytes ++ more) n) ⊎ (x ≡ Reader EndOfInput)
+crc16-stops bytes n is = elim (cases_lt (n + 1) (length bytes)) [
+  | inl less ↦ inl (λ more. is ∙ sym (crc16-further bytes more n less))
+  | inr most ↦ inr (refused-as is (rw (le-ltb (n + 1) (length bytes) most) refl))
+]
+
+pub crc16-within : {u : Unit {0}} (bytes : List ℕ) (n : ℕ) → Ok u ≡ crc16_holds bytes n → n + 1 < length bytes
+crc16-within bytes n is = elim (cases_lt (n + 1) (length bytes)) [
+  | inl less ↦ less
+  | inr most ↦
+      let none : Ok _ ≡ Err (Reader EndOfInput) = rw (le-ltb (n + 1) (length bytes) most) at is in absurd (not-refused none)
+]
+
+-- what is found at a place, with more bytes after those that follow it
+pub body-further : {A : Type 0} (e : Decoder (Result A FlacError)) (bytes more : List ℕ) (n : ℕ) {r : Result (A × ℕ) FlacError}
+    → n ≤ length bytes → r ≡ found e (drop n bytes ++ more) → r ≡ found e (drop n (bytes ++ more))
+body-further e bytes more n within is = is ∙ ap (found e) (sym (drop-append-le n bytes more within))
 
 -- ---- checksums that were appended
 

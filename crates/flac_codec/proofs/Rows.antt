@@ -1,13 +1,15 @@
 -- Subframes from outside: bytes of RFC 9639 and of files that `flac` wrote, and the samples that are in them.
-use Rattle.std.proofs.Common.{◌≡◌, [], ◌∷◌, Ok, Err, pos, negsuc, refl}
+use Rattle.std.proofs.Common.{◌≡◌, ℕ, List, [], ◌∷◌, Ok, Err, drop, pos, negsuc, refl}
 use Rattle.bitstream_io.specs.Callers.{High, bits}
 use Rattle.bitstream_io.specs.Codec.{Done, and_then}
 use Rattle.bitstream_io.specs.Array.{items_decoder}
 use Rattle.bitstream_io.specs.Grows.{parts_decoder}
-use Rattle.bitstream_io.specs.ReadTable.{signed_decoder, unary_decoder, unsigned_decoder}
+use Rattle.bitstream_io.specs.ReadTable.{const_decoder, signed_decoder, unary_decoder, unsigned_decoder}
 use Rattle.bitstream_io.specs.Word.{digits, digits_number}
+use Rattle.flac_codec.specs.Coded.{coded_decoder}
+use Rattle.flac_codec.specs.Rice.{rice_decoder}
 use Rattle.flac_codec.specs.Subframe.{subframe_decoder}
-use Rattle.flac_codec.specs.declared.error.FlacError.TheVariants.{ReservedBit, TooManyWastedBits, ReservedSubframe, ReservedResidual, Partitions, ShortBlock}
+use Rattle.flac_codec.specs.declared.error.FlacError.TheVariants.{LongCoded, NotCoded, ReservedBit, TooManyWastedBits, ReservedSubframe, ReservedResidual, Partitions, ShortBlock}
 
 rfc_verbatim : (subframe_decoder High 16 3).reads 0 (bits High (0x02 ∷ 0xc3 ∷ 0x82 ∷ 0xc4 ∷ 0x0b ∷ 0xc1 ∷ 0x4a ∷ []))
     ≡ Done 56 (Ok (Ok (negsuc 15485 ∷ negsuc 15348 ∷ negsuc 16053 ∷ [])))
@@ -99,3 +101,27 @@ refused :
     × ((subframe_decoder High 1 3).reads 0 (bits High (0x18 ∷ 0x00 ∷ 0x00 ∷ [])) ≡ Done 18 (Ok (Err ShortBlock)))
 unfolding and_then items_decoder parts_decoder signed_decoder unary_decoder unsigned_decoder digits digits_number
 refused = (refl, refl, refl, refl, refl, refl)
+
+-- two bytes of the first residual of a file, with the parameter 1: `flac -a` tells -1, -2 and, behind another -1, 2
+residual : List ℕ
+residual = 0x77 ∷ 0x90 ∷ []
+
+rice_numbers :
+    ((rice_decoder High 1).reads 2 (drop 2 (bits High residual)) ≡ Done 2 (Ok (negsuc 0)))
+    × ((rice_decoder High 1).reads 4 (drop 4 (bits High residual)) ≡ Done 3 (Ok (negsuc 1)))
+    × ((rice_decoder High 1).reads 9 (drop 9 (bits High residual)) ≡ Done 4 (Ok (pos 2)))
+unfolding residual and_then unary_decoder unsigned_decoder digits digits_number
+rice_numbers = (refl, refl, refl)
+
+-- characters in UTF-8: A, é, € and U+10348; and what UTF-8 does not have: 0 in two bytes, a later byte first, and no
+-- later byte
+coded_numbers :
+    ((coded_decoder High).reads 0 (bits High (0x41 ∷ [])) ≡ Done 8 (Ok (Ok 0x41)))
+    × ((coded_decoder High).reads 0 (bits High (0xc3 ∷ 0xa9 ∷ [])) ≡ Done 16 (Ok (Ok 0xe9)))
+    × ((coded_decoder High).reads 0 (bits High (0xe2 ∷ 0x82 ∷ 0xac ∷ [])) ≡ Done 24 (Ok (Ok 0x20ac)))
+    × ((coded_decoder High).reads 0 (bits High (0xf0 ∷ 0x90 ∷ 0x8d ∷ 0x88 ∷ [])) ≡ Done 32 (Ok (Ok 0x10348)))
+    × ((coded_decoder High).reads 0 (bits High (0xc0 ∷ 0x80 ∷ [])) ≡ Done 16 (Ok (Err LongCoded)))
+    × ((coded_decoder High).reads 0 (bits High (0x80 ∷ [])) ≡ Done 2 (Ok (Err NotCoded)))
+    × ((coded_decoder High).reads 0 (bits High (0xc3 ∷ 0x29 ∷ [])) ≡ Done 10 (Ok (Err NotCoded)))
+unfolding and_then const_decoder unary_decoder unsigned_decoder digits digits_number
+coded_numbers = (refl, refl, refl, refl, refl, refl, refl)

@@ -86,6 +86,12 @@ is_of_file info header =
     else Err (OtherSampleSize (width_of sample_size header) sample_size))
     else Err (OtherChannels (channel_count header.channels) channels)
 
+-- the frame at the start of bytes, which has the channels, the bits and the rate of STREAMINFO
+abbrev pub checked_frame_at : StreamInfo → List ℕ → Result ((FrameHeader × List (List ℤ)) × ℕ) FlacError
+checked_frame_at info bytes =
+    after (frame_at (non_zero_u8_get info.bits_per_sample) bytes) (λ (frame, n).
+    after (is_of_file info frame.0) (λ _. Ok (frame, n)))
+
 -- the channels of the frame at the start of bytes, and the number of its bytes
 abbrev pub block_at : StreamInfo → List ℕ → Result (List (List ℤ) × ℕ) FlacError
 block_at info bytes =

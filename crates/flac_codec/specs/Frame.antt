@@ -70,6 +70,12 @@ frame_at sample_size bytes =
 abbrev pub IsUnlessRefused : {A : Type 0} → Result A FlacError → Result A FlacError → Type 0
 IsUnlessRefused meant result = (result ≡ meant) ⊎ (result ≡ Err (Reader OutOfMemory))
 
+-- the result is that of a definition whatever bytes follow these, or these bytes end first, or memory was refused
+abbrev pub IsWhateverFollows : {A : Type 0} → (List ℕ → Result A FlacError) → List ℕ → Result A FlacError → Type 0
+IsWhateverFollows finds bytes result =
+    ((more : List ℕ) → result ≡ finds (bytes ++ more))
+    ⊎ ((result ≡ Err (Reader EndOfInput)) ⊎ (result ≡ Err (Reader OutOfMemory)))
+
 -- at the start of these bytes a definition finds the value, in all of them, whatever follows them
 abbrev pub IsFoundIn : {A : Type 0} → (List ℕ → Result (A × ℕ) FlacError) → List ℕ → A → Type 0
 IsFoundIn finds bytes value = (more : List ℕ) → finds (bytes ++ more) ≡ Ok (value, length bytes)

@@ -22,7 +22,7 @@ pub enum FlacError {
     #[error("a block of 65536 samples is forbidden")]
     ForbiddenBlockSize,
     /// The code of the sample rate is forbidden.
-    #[error("the sample rate is forbidden")]
+    #[error("the sample rate is not allowed")]
     ForbiddenSampleRate,
     /// The code of the channels is reserved.
     #[error("the channels are reserved")]
@@ -52,10 +52,10 @@ pub enum FlacError {
     #[error("the coding of the residual is reserved")]
     ReservedResidual,
     /// The block does not divide into whole partitions.
-    #[error("the block is not of whole partitions")]
+    #[error("the partitions do not fit the block")]
     Partitions,
     /// The first partition has fewer samples than the prediction needs.
-    #[error("the block is too short for its prediction")]
+    #[error("the partitions do not fit the block")]
     ShortBlock,
     /// The checksum of the frame's header does not match its bits.
     #[error("the checksum of the frame's header is wrong")]
@@ -78,8 +78,8 @@ pub enum FlacError {
     /// The frame has another sample rate than STREAMINFO.
     #[error("the frame has {0} samples a second, and STREAMINFO has {1}")]
     OtherSampleRate(u32, u32),
-    /// The channels have another number of samples than STREAMINFO.
-    #[error("the file has {0} samples in a channel, and STREAMINFO has {1}")]
+    /// The channels have the first number of samples, and STREAMINFO the second.
+    #[error("the number of samples is another than the metadata says")]
     OtherSampleCount(u64, u64),
 }
 

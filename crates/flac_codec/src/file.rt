@@ -3,8 +3,8 @@ ghost use Rattle.std.specs.Prelude.{◌≡◌, ◌≤◌, [], get_or, length, ma
 ghost use Rattle.std.specs.Int.NonZero.{non_zero_u8_get};
 ghost use Rattle.bitstream_io.specs.Callers.{result_map, OutOfMemory};
 ghost use Rattle.flac_codec.specs.Channels.{channel_count};
-ghost use Rattle.flac_codec.specs.File.{block_at, blocks_at, channel_of, channels_at, channels_of, count_holds, file_at, file_header, frames_at, is_of_file, rate_of, sample_count};
-ghost use Rattle.flac_codec.specs.Frame.{IsUnlessRefused};
+ghost use Rattle.flac_codec.specs.File.{block_at, blocks_at, channel_of, channels_at, checked_frame_at, channels_of, count_holds, file_at, file_header, frames_at, is_of_file, rate_of, sample_count};
+ghost use Rattle.flac_codec.specs.Frame.{IsUnlessRefused, IsWhateverFollows};
 ghost use Rattle.flac_codec.specs.declared.error.FlacError.TheVariants.{Reader};
 
 use crate::error::FlacError;
@@ -110,9 +110,17 @@ fn decode_blocks(
 }
 
 /// Decodes the frame at the start of bytes, and compares it with STREAMINFO.
-fn decode_block(alloc: Global, info: &StreamInfo, bytes: &[u8]) -> Result<Frame, FlacError>
+pub(crate) fn decode_block(
+    alloc: Global,
+    info: &StreamInfo,
+    bytes: &[u8],
+) -> Result<Frame, FlacError>
     ensures found { IsUnlessRefused (block_at info.now bytes.now)
         (result_map (λ frame. (map (λ channel. channel.items) frame.channels.items, frame.size)) result) }
+    ensures meant { IsUnlessRefused (checked_frame_at info.now bytes.now)
+        (result_map (λ frame. ((frame.header, map (λ channel. channel.items) frame.channels.items), frame.size)) result) }
+    ensures further { IsWhateverFollows (checked_frame_at info.now) bytes.now
+        (result_map (λ frame. ((frame.header, map (λ channel. channel.items) frame.channels.items), frame.size)) result) }
     ensures some { IfOk result (λ frame. 1 ≤ frame.size) }
     ensures within { IfOk result (λ frame. frame.size ≤ length bytes.now) }
 {

@@ -2,7 +2,7 @@
 ghost use Rattle.std.specs.Prelude.{◌≡◌, ◌≤◌, map, length, IfOk};
 ghost use Rattle.bitstream_io.specs.Callers.{result_map, High};
 ghost use Rattle.flac_codec.specs.Channels.{channels_decoder};
-ghost use Rattle.flac_codec.specs.Frame.{crc16_holds, crc8_holds, found, frame_at, header_at, width_of, IsUnlessRefused};
+ghost use Rattle.flac_codec.specs.Frame.{crc16_holds, crc8_holds, found, frame_at, header_at, width_of, IsUnlessRefused, IsWhateverFollows};
 ghost use Rattle.flac_codec.specs.Header.{header_decoder};
 
 use crate::channels::read_channels;
@@ -46,7 +46,9 @@ struct ChannelsAt {
 /// `FrameChecksum`. If the bytes end first, it returns `Reader(EndOfInput)`, and if an allocation fails,
 /// `Reader(OutOfMemory)`.
 pub fn decode_frame(alloc: Global, sample_size: u8, bytes: &[u8]) -> Result<Frame, FlacError>
-    ensures { IsUnlessRefused (frame_at sample_size bytes.now)
+    ensures found { IsUnlessRefused (frame_at sample_size bytes.now)
+        (result_map (λ frame. ((frame.header, map (λ channel. channel.items) frame.channels.items), frame.size)) result) }
+    ensures further { IsWhateverFollows (frame_at sample_size) bytes.now
         (result_map (λ frame. ((frame.header, map (λ channel. channel.items) frame.channels.items), frame.size)) result) }
 {
     let start = header_at(bytes)?;
@@ -64,6 +66,7 @@ pub fn decode_frame(alloc: Global, sample_size: u8, bytes: &[u8]) -> Result<Fram
 /// Decodes the header at the start of bytes, and compares its checksum.
 fn header_at(bytes: &[u8]) -> Result<HeaderAt, FlacError>
     ensures found { result_map (λ start. (start.header, start.size)) result ≡ header_at bytes.now }
+    ensures further { IsWhateverFollows header_at bytes.now (result_map (λ start. (start.header, start.size)) result) }
     ensures within { IfOk result (λ start. start.size ≤ length bytes.now) }
 {
     let start = find_header(bytes)?;
@@ -77,6 +80,8 @@ fn header_at(bytes: &[u8]) -> Result<HeaderAt, FlacError>
 /// Reads the header at the start of bytes.
 fn find_header(bytes: &[u8]) -> Result<HeaderAt, FlacError>
     ensures found { result_map (λ start. (start.header, start.size)) result ≡ found (header_decoder High) bytes.now }
+    ensures further { IsWhateverFollows (found (header_decoder High)) bytes.now
+        (result_map (λ start. (start.header, start.size)) result) }
     ensures within { IfOk result (λ start. start.size ≤ length bytes.now) }
 {
     let mut reader = SliceReader::<BE>::over(bytes);
@@ -107,6 +112,8 @@ fn find_channels(
 ) -> Result<ChannelsAt, FlacError>
     ensures found { IsUnlessRefused
         (found (channels_decoder High header.now.channels width header.now.block_size) bytes.now)
+        (result_map (λ body. (map (λ channel. channel.items) body.channels.items, body.size)) result) }
+    ensures further { IsWhateverFollows (found (channels_decoder High header.now.channels width header.now.block_size)) bytes.now
         (result_map (λ body. (map (λ channel. channel.items) body.channels.items, body.size)) result) }
     ensures within { IfOk result (λ body. body.size ≤ length bytes.now) }
 {

@@ -17,7 +17,7 @@ returns-in_err-frame c =
     let bytes = c.in_ok-bytes.bytes.items in
     let found : frame_at c.args.sample_size c.as_slice.result.now ≡ Ok ((c.args.header.now, items), length bytes) =
     ap (frame_at c.args.sample_size) (c.as_slice.ensures.value ∙ sym (append-nil bytes)) ∙ c.in_ok-bytes.ensures [] in
-    elim c.in_err-frame.ensures [
+    elim c.in_err-frame.ensures.found [
       | inl same ↦ absurd (not-refused (sym (same ∙ found)))
       | inr refused ↦ matched_error _ _ (Reader OutOfMemory) _ c.from_residual-in_err-frame.ensures.1 (refused-as refl refused)
     ]
@@ -28,7 +28,7 @@ returns c =
     let bytes = c.in_ok-bytes.bytes.items in
     let found : frame_at c.args.sample_size c.as_slice.result.now ≡ Ok ((c.args.header.now, items), length bytes) =
     ap (frame_at c.args.sample_size) (c.as_slice.ensures.value ∙ sym (append-nil bytes)) ∙ c.in_ok-bytes.ensures [] in
-    elim c.in_ok-frame.ensures [
+    elim c.in_ok-frame.ensures.found [
       | inl same ↦ let both = first-same (same ∙ found) in (ap (λ p. p.0) both, ap (λ p. p.1) both)
       | inr refused ↦ absurd (not-refused refused)
     ]
