@@ -4,9 +4,7 @@ mod Rows
 mod SummedRows
 mod WavFormatRows
 pub mod AdtsHeaderLemmas
-pub mod CodedLemmas
 pub mod EmulationLemmas
 pub mod Leb128Lemmas
-pub mod RiceLemmas
 pub mod RiffChunkLemmas
 pub mod WavFormatLemmas

@@ -1,10 +1,7 @@
 pub mod AdtsFrame
 pub mod AdtsHeader
-pub mod Coded
 pub mod Emulation
-pub mod Frames
 pub mod Leb128
-pub mod Rice
 pub mod RiffChunk
 pub mod ScalingLists
 pub mod Summed

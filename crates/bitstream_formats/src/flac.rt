@@ -1,25 +1,13 @@
-//! FLAC (RFC 9639): the metadata of a file, and its samples.
+//! FLAC (RFC 9639), over the codec of `flac_codec`: files with the MD5 of their samples, and the places of errors.
 
-mod coded;
-mod crc;
 mod decoder;
 mod error;
-mod frame;
-mod header;
-mod metadata;
-mod predict;
-mod residual;
-mod rice;
-mod subframe;
+mod pcm;
+mod place;
 mod sum;
 mod summed;
 
-pub use coded::{coded_numbers_round_trip, read_coded};
-pub use crc::{Crc16, crc8};
 pub use decoder::Decoder;
 pub use error::FlacError;
-pub use frame::Frame;
-pub use header::{Channels, FrameHeader};
-pub use metadata::{Block, Blocks};
-pub use rice::{read_rice, rice_numbers_round_trip};
+pub use pcm::append_pcm;
 pub use summed::{encode_with_md5, has_md5};

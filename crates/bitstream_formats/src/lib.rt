@@ -1,5 +1,5 @@
 //! Formats of audio, video, transport and compression, read over `bitstream_io`: from bytes in memory, and
-//! by `deflate` from any reader.
+//! by `deflate` and `flac` from any reader.
 //!
 //! If the bytes are faulty, a function returns an error of the format's own, with the bit at which the
 //! reader was ([`at::At`]). Any bytes are accepted as input. A length or a count in them allocates no
@@ -13,7 +13,7 @@
 //! - [`av1`]: AV1: the headers of OBUs, and sequence headers
 //! - [`deflate`]: DEFLATE, and the files of gzip
 //! - [`element`]: reads the elements of a format one by one
-//! - [`flac`]: FLAC: the metadata of a file, and its samples
+//! - [`flac`]: FLAC: the samples of a file, and their MD5, over `flac_codec`
 //! - [`h264`]: H.264: the units of a byte stream, and its parameter sets
 //! - [`h265`]: H.265: the units of a byte stream, and its parameter sets
 //! - [`nal`]: NAL units and emulation prevention bytes, for H.264 and H.265

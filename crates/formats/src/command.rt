@@ -90,15 +90,15 @@ pub fn play<W: Write, P: Write>(
 ) -> Result<Status, Error> {
     match command {
         Command::Flac => {
-            let mut units = FlacUnits::over(file, Output::Samples);
+            let mut units = FlacUnits::over(alloc, file, Output::Samples);
             decode(alloc, name, &mut units, out, report)
         }
         Command::FlacTest => {
-            let mut units = FlacUnits::over(file, Output::Nothing);
+            let mut units = FlacUnits::over(alloc, file, Output::Nothing);
             decode(alloc, name, &mut units, out, report)
         }
         Command::FlacWav => {
-            let mut units = FlacUnits::over(file, Output::Wav);
+            let mut units = FlacUnits::over(alloc, file, Output::Wav);
             decode(alloc, name, &mut units, out, report)
         }
         Command::FlacEncode => encode(alloc, name, file, out, report),
@@ -111,7 +111,7 @@ pub fn play<W: Write, P: Write>(
             show(alloc, name, &mut units, printer, out, report)
         }
         Command::FlacHeaders => {
-            let mut units = FlacUnits::over(file, Output::Nothing);
+            let mut units = FlacUnits::over(alloc, file, Output::Nothing);
             show(alloc, name, &mut units, printer, out, report)
         }
         Command::H264 => {

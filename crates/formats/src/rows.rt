@@ -8,6 +8,8 @@ use crate::report::{Extent, Report};
 use crate::run::read_directory;
 use crate::status::Status;
 use anyhow::{Error, anyhow, bail};
+use bitstream_formats::flac::{encode_with_md5, has_md5};
+use flac_codec::{decode_file, is_file};
 use std::alloc::{AllocError, Global};
 use std::fs;
 
@@ -119,7 +121,8 @@ struct Case {
 /// the file has an error, which is printed. After the word `errors`, the line has a command, a
 /// directory, and a file of the errors of the directory's files. After the word `damaged`, the line has
 /// a command, and a file whose damaged copies are counted. After the word `encoded`, the line has a WAV file that is
-/// encoded as FLAC, and a file of the samples that are then decoded.
+/// encoded as FLAC, and a file of the samples that are then decoded. After the word `summed`, the line has a FLAC file with the
+/// MD5 of its samples, and a file of the same samples with another MD5.
 pub fn play_rows(rt: &HostRuntime, list: &str) -> Result<(), Error> {
     let text = fs::read_to_string(rt, list)?;
     for line in text.as_str().lines() {
@@ -142,6 +145,7 @@ pub fn play_rows(rt: &HostRuntime, list: &str) -> Result<(), Error> {
         };
         match (word, words.next()) {
             ("encoded", _) => compare_encoded(rt, path, other)?,
+            ("summed", _) => compare_sums(rt, path, other)?,
             ("damaged", _) => play_damaged(rt, command_of(path)?, other)?,
             ("errors", Some(rows)) => compare_errors(rt, command_of(path)?, other, rows)?,
             _ => compare(rt, command_of(word)?, path, other, case)?,
@@ -209,6 +213,29 @@ fn compare_encoded(rt: &HostRuntime, path: &str, other: &str) -> Result<(), Erro
         bail!("{path}: the samples are not those of {other}");
     }
     println!(rt; "{path}: {} bytes of samples, the same", decoded.out.len())?;
+    Ok(())
+}
+
+/// Compares the MD5 of a FLAC file with its samples, and with the one that is made for another file of the same samples.
+fn compare_sums(rt: &HostRuntime, path: &str, other: &str) -> Result<(), Error> {
+    let alloc = rt.alloc();
+    let file = decode_file(alloc, fs::read(rt, path)?.as_slice())?;
+    let wrong = decode_file(alloc, fs::read(rt, other)?.as_slice())?;
+    if !has_md5(alloc, &file)? {
+        bail!("{path}: the MD5 is not that of the samples");
+    }
+    if has_md5(alloc, &wrong)? {
+        bail!("{other}: the MD5 is that of the samples");
+    }
+    if !is_file(&wrong.header, 192, wrong.channels.as_slice()) {
+        bail!("{other}: the samples cannot be encoded");
+    }
+    let bytes = encode_with_md5(alloc, &wrong.header, 192, wrong.channels.as_slice())?;
+    let summed = decode_file(alloc, bytes.as_slice())?;
+    if summed.header.checksum != file.header.checksum {
+        bail!("{other}: the MD5 made is not that of {path}");
+    }
+    println!(rt; "{path}: its MD5 is that of its samples, and that of {other} is not")?;
     Ok(())
 }
 

@@ -5,6 +5,7 @@ use crate::damaged::play_damaged;
 use crate::help::{HELP, VERSION, help_of};
 use crate::options::{Call, Options, Style, Usage, parse};
 use crate::print::Printer;
+use crate::readers::audio::{FlacUnits, Output};
 use crate::readers::compressed::GzipUnits;
 use crate::report::{Extent, Report, Watched};
 use crate::rows::play_rows;
@@ -208,6 +209,22 @@ fn read_from<R: Read + Drop, W: Write>(
         }
         Command::GzipHeaders => {
             let mut units = GzipUnits::over(alloc, reader)?;
+            show(alloc, name, &mut units, printer, out, &mut report)
+        }
+        Command::Flac => {
+            let mut units = FlacUnits::over(alloc, reader, Output::Samples);
+            decode(alloc, name, &mut units, out, &mut report)
+        }
+        Command::FlacTest => {
+            let mut units = FlacUnits::over(alloc, reader, Output::Nothing);
+            decode(alloc, name, &mut units, out, &mut report)
+        }
+        Command::FlacWav => {
+            let mut units = FlacUnits::over(alloc, reader, Output::Wav);
+            decode(alloc, name, &mut units, out, &mut report)
+        }
+        Command::FlacHeaders => {
+            let mut units = FlacUnits::over(alloc, reader, Output::Nothing);
             show(alloc, name, &mut units, printer, out, &mut report)
         }
         _ => {

@@ -1,10 +1,10 @@
 //! The MD5 of the samples of a file (section 8.2).
 
-use super::frame::Frame;
+use super::pcm::append_pcm;
 use md5::{Digest, Md5};
 use std::alloc::{AllocError, Global};
 
-/// The MD5 of the samples that were decoded, as [`Frame::append_pcm`] writes them.
+/// The MD5 of the samples that were decoded, as [`append_pcm`] writes them.
 #[derive(Drop)]
 pub(super) struct SampleSum {
     md5: Md5,
@@ -26,9 +26,9 @@ impl SampleSum {
     /// # Errors
     ///
     /// An allocation failed, so nothing is added.
-    pub(super) fn add(&mut self, frame: &Frame) -> Result<(), AllocError> {
+    pub(super) fn add(&mut self, sample_size: u8, channels: &[Vec<i64>]) -> Result<(), AllocError> {
         self.bytes.clear();
-        frame.append_pcm(&mut self.bytes)?;
+        append_pcm(sample_size, channels, &mut self.bytes)?;
         self.md5.update(self.bytes.as_slice());
         Ok(())
     }

@@ -1,14 +1,17 @@
 //! The frames of ADTS, and the blocks and frames of FLAC.
 
 use crate::unit::{Fault, ReadUnits, Step, Unit};
-use anyhow::Error;
+use anyhow::{Error, anyhow};
 use bitstream_formats::adts;
-use bitstream_formats::flac::{Block, Blocks, Channels, Decoder, Frame};
+use bitstream_formats::at::At;
+use bitstream_formats::flac::{Decoder, append_pcm};
 use bitstream_formats::wav::wav_start;
 use bitstream_formats::wav_format::{Coding, WavFormat};
 use flac_codec::stream_info::StreamInfo;
+use flac_codec::{Channels, FlacError, Frame, Input};
 use std::alloc::{AllocError, Global};
-use std::io::Write;
+use std::fmt::Display;
+use std::io::{Read, Write};
 
 /// The frames of ADTS, after a tag of ID3v2 if there is one.
 #[derive(Drop)]
@@ -119,91 +122,115 @@ pub enum Output {
 
 /// The blocks of metadata of a FLAC file, and then its frames, which are decoded.
 #[derive(Drop)]
-pub struct FlacUnits<'a> {
-    file: &'a [u8],
+pub struct FlacUnits<R: Read> {
     output: Output,
-    at: usize,
-    blocks: Option<Blocks<'a>>,
-    decoder: Option<Decoder<'a>>,
-    ended: bool,
+    // The place of the next unit, in bytes.
+    at: u64,
+    // The bytes of the blocks of metadata, up to the frames.
+    input: Option<Input<R>>,
+    // STREAMINFO, if the first block is one.
+    info: Option<StreamInfo>,
+    // True after the last block.
+    is_last: bool,
+    decoder: Option<Decoder<R>>,
+    // The samples of a frame, as bytes. This memory is used for each frame.
+    bytes: Vec<u8>,
 }
 
-impl<'a> FlacUnits<'a> {
-    /// Returns the units of a file, of which `output` is written.
-    pub fn over(file: &'a [u8], output: Output) -> FlacUnits<'a> {
+impl<R: Read + Drop> FlacUnits<R> {
+    /// Returns the units of a reader, of which `output` is written.
+    pub fn over(alloc: Global, reader: R, output: Output) -> FlacUnits<R> {
         FlacUnits {
-            file,
             output,
             at: 0,
-            blocks: None,
+            input: Some(Input::new(alloc, reader)),
+            info: None,
+            is_last: false,
             decoder: None,
-            ended: false,
+            bytes: Vec::new(alloc),
         }
+    }
+
+    /// Refuses a unit, after which no other is found.
+    fn refuse<E: Display + Drop>(
+        &mut self,
+        alloc: Global,
+        bit: u64,
+        error: E,
+    ) -> Result<Step, Error> {
+        self.input = None;
+        self.decoder = None;
+        Ok(Step::Refused(Fault::of(alloc, bit, error)?))
     }
 
     /// Starts at the metadata blocks.
-    fn begin<W: Write>(
-        &mut self,
-        alloc: Global,
-        unit: &mut Unit,
-        out: &mut W,
-    ) -> Result<Step, Error> {
+    fn begin(&mut self, alloc: Global, unit: &mut Unit) -> Result<Step, Error> {
         unit.begin("file", 0);
-        match Blocks::over(self.file) {
-            Ok(blocks) => {
-                self.blocks = Some(blocks);
-                self.at = 4;
-                self.read_block(alloc, unit, out)
-            }
-            Err(at) => {
-                self.ended = true;
-                Ok(Step::Refused(Fault::of(alloc, at.bit, at.error)?))
-            }
+        let Some(input) = &mut self.input else {
+            return Ok(Step::End);
+        };
+        let there = input.fill(4)?;
+        if input.bytes().is_empty() {
+            return Ok(Step::End);
         }
+        if !there {
+            return self.refuse(alloc, 0, "end of input");
+        }
+        if !input.bytes().starts_with(b"fLaC".as_slice()) {
+            return self.refuse(alloc, 0, FlacError::NoFlac);
+        }
+        input.take(4);
+        self.at = 4;
+        self.read_block(alloc, unit)
     }
 
-    /// Reads a block of metadata, or the first frame after the last one.
-    fn read_block<W: Write>(
+    /// Reads a block of metadata.
+    fn read_block(&mut self, alloc: Global, unit: &mut Unit) -> Result<Step, Error> {
+        unit.begin("block", self.at);
+        let Some(input) = &mut self.input else {
+            return Ok(Step::End);
+        };
+        input.fill(4)?;
+        let Some(head) = input.bytes().first_chunk::<4>().copied() else {
+            let bit = if input.bytes().is_empty() { 0 } else { 8 };
+            return self.refuse(alloc, bit, "end of input");
+        };
+        let [kind, a, b, c] = head;
+        let size = (u32::from_be_bytes([0, a, b, c]) as usize).saturating_add(4);
+        input.fill(size)?;
+        let Some(bytes) = input.bytes().get(4..size) else {
+            return self.refuse(alloc, 32, "end of input");
+        };
+        if self.at == 4 && kind & 0x7f == 0 && bytes.len() == 34 {
+            self.info = StreamInfo::parse(bytes).ok();
+        }
+        let block = Block {
+            kind: kind & 0x7f,
+            bytes,
+        };
+        note_block(alloc, unit, self.at, block)?;
+        input.take(size);
+        self.at = self.at.saturating_add(size as u64);
+        self.is_last = kind >= 0x80;
+        Ok(Step::Read)
+    }
+
+    /// Begins the frames, and decodes the first one.
+    fn begin_frames<W: Write>(
         &mut self,
         alloc: Global,
         unit: &mut Unit,
         out: &mut W,
     ) -> Result<Step, Error> {
-        let start = self.at;
-        unit.begin("block", start as u64);
-        let next = match &mut self.blocks {
-            Some(blocks) => blocks.next_block(),
-            None => Ok(None),
+        unit.begin("block", self.at);
+        let (Some(input), Some(info)) = (self.input.take(), self.info) else {
+            return self.refuse(alloc, 0, FlacError::NoStreamInfo);
         };
-        match next {
-            Ok(Some(block)) => {
-                self.at = start.saturating_add(4).saturating_add(block.bytes.len());
-                note_block(alloc, unit, start as u64, block)?;
-                Ok(Step::Read)
-            }
-            Ok(None) => {
-                self.blocks = None;
-                match Decoder::with_md5(alloc, self.file) {
-                    Ok(decoder) => {
-                        if self.output == Output::Wav {
-                            out.write_all(&start_of(decoder.stream_info())?)?;
-                        }
-                        self.decoder = Some(decoder);
-                        self.read_frame(alloc, unit, out)
-                    }
-                    Err(at) => {
-                        self.ended = true;
-                        let bit = at.bit.saturating_sub((start as u64).saturating_mul(8));
-                        Ok(Step::Refused(Fault::of(alloc, bit, at.error)?))
-                    }
-                }
-            }
-            Err(at) => {
-                self.ended = true;
-                let bit = at.bit.saturating_sub((start as u64).saturating_mul(8));
-                Ok(Step::Refused(Fault::of(alloc, bit, at.error)?))
-            }
+        if self.output == Output::Wav {
+            out.write_all(&start_of(&info)?)?;
         }
+        self.decoder = Some(Decoder::with_md5(alloc, input, info));
+        self.read_frame(alloc, unit, out)
     }
 
     /// Decodes a frame.
@@ -213,52 +240,52 @@ impl<'a> FlacUnits<'a> {
         unit: &mut Unit,
         out: &mut W,
     ) -> Result<Step, Error> {
-        let start = self.at;
-        unit.begin("frame", start as u64);
+        unit.begin("frame", self.at);
         let Some(decoder) = &mut self.decoder else {
             return Ok(Step::End);
         };
-        let read = decoder.next_frame(alloc);
-        self.at = self.file.len().saturating_sub(decoder.rest().len());
-        match read {
-            Ok(Some(frame)) => {
-                note_frame(alloc, unit, (start as u64).saturating_mul(8), &frame)?;
+        let sample_size = decoder.stream_info().bits_per_sample.get();
+        match decoder.next_frame(alloc) {
+            Ok(Some(mut frame)) => {
+                note_frame(alloc, unit, self.at.saturating_mul(8), &frame)?;
+                self.at = self.at.saturating_add(frame.size as u64);
                 if self.output != Output::Nothing {
-                    let bytes = bytes_of(alloc, frame, self.output)?;
-                    out.write_all(bytes.as_slice())?;
+                    self.bytes.clear();
+                    append_bytes(&mut frame, sample_size, self.output, &mut self.bytes)?;
+                    out.write_all(self.bytes.as_slice())?;
                 }
                 Ok(Step::Read)
             }
-            Ok(None) => Ok(Step::End),
-            Err(at) => {
-                self.ended = true;
-                let bit = at.bit.saturating_sub((start as u64).saturating_mul(8));
-                Ok(Step::Refused(Fault::of(alloc, bit, at.error)?))
+            Ok(None) => {
+                self.decoder = None;
+                Ok(Step::End)
             }
+            Err(At { bit: _, error }) if error.is_from_outside() => Err(anyhow!("{error}")),
+            Err(At { bit, error }) => self.refuse(alloc, bit, error),
         }
     }
 }
 
-impl ReadUnits for FlacUnits<'_> {
+impl<R: Read + Drop> ReadUnits for FlacUnits<R> {
     fn next_unit<W: Write>(
         &mut self,
         alloc: Global,
         unit: &mut Unit,
         out: &mut W,
     ) -> Result<Step, Error> {
-        if self.ended || self.file.is_empty() {
-            Ok(Step::End)
-        } else if self.at == 0 {
-            self.begin(alloc, unit, out)
-        } else if self.decoder.is_some() {
+        if self.decoder.is_some() {
             self.read_frame(alloc, unit, out)
+        } else if self.is_last && self.input.is_some() {
+            self.begin_frames(alloc, unit, out)
+        } else if self.at == 0 {
+            self.begin(alloc, unit)
         } else {
-            self.read_block(alloc, unit, out)
+            self.read_block(alloc, unit)
         }
     }
 
     fn bytes_done(&self) -> u64 {
-        self.at as u64
+        self.at
     }
 }
 
@@ -280,11 +307,15 @@ fn start_of(info: &StreamInfo) -> Result<[u8; 44], Error> {
     Ok(wav_start(&format, if is_known { size as u32 } else { u32::MAX })?)
 }
 
-/// Returns the samples of a frame as bytes. In WAV, a sample fills the highest bits of its bytes, and a single byte has no
+/// Appends the samples of a frame as bytes. In WAV, a sample fills the highest bits of its bytes, and a single byte has no
 /// sign.
-fn bytes_of(alloc: Global, mut frame: Frame, output: Output) -> Result<Vec<u8>, Error> {
-    let mut bytes = Vec::new(alloc);
-    let more = 7 - (frame.bits_per_sample as u32 + 7) % 8;
+fn append_bytes(
+    frame: &mut Frame,
+    sample_size: u8,
+    output: Output,
+    bytes: &mut Vec<u8>,
+) -> Result<(), AllocError> {
+    let more = 7 - (sample_size as u32 + 7) % 8;
     if output == Output::Wav && more > 0 {
         for channel in &mut frame.channels {
             for sample in channel {
@@ -292,13 +323,13 @@ fn bytes_of(alloc: Global, mut frame: Frame, output: Output) -> Result<Vec<u8>, 
             }
         }
     }
-    frame.append_pcm(&mut bytes)?;
-    if output == Output::Wav && frame.bits_per_sample <= 8 {
-        for byte in &mut bytes {
+    append_pcm(sample_size, frame.channels.as_slice(), bytes)?;
+    if output == Output::Wav && sample_size <= 8 {
+        for byte in bytes {
             *byte ^= 0x80;
         }
     }
-    Ok(bytes)
+    Ok(())
 }
 
 /// Returns the number that some bytes spell, highest byte first, or 0 if there are too few bytes.
@@ -316,6 +347,15 @@ fn length_at(bytes: &[u8], at: usize) -> usize {
         Some(four) => u32::from_be_bytes(*four) as usize,
         None => 0,
     }
+}
+
+/// A block of metadata.
+#[derive(Clone, Copy)]
+struct Block<'a> {
+    // The type: 0 for STREAMINFO.
+    kind: u8,
+    // The bytes after the header.
+    bytes: &'a [u8],
 }
 
 /// Adds to the unit the elements of a metadata block that begins at a byte.
@@ -474,22 +514,22 @@ fn note_picture(
 /// Adds a frame's header to the unit. The frame begins at the bit `place`.
 fn note_frame(alloc: Global, unit: &mut Unit, place: u64, frame: &Frame) -> Result<(), AllocError> {
     let header = frame.header;
+    let (count, coding) = match header.channels {
+        Channels::Independent(count) => (count, "independent"),
+        Channels::LeftSide => (2, "left/side"),
+        Channels::SideRight => (2, "side/right"),
+        Channels::MidSide => (2, "mid/side"),
+    };
     let fields = [
         (15, "blocking_strategy", i64::from(header.variable)),
         (16, "block_size", i64::from(header.block_size)),
         (20, "sample_rate", i64::from(header.sample_rate)),
-        (24, "channels", i64::from(header.channels.count())),
-        (28, "bits_per_sample", i64::from(header.bits_per_sample)),
+        (24, "channels", i64::from(count)),
+        (28, "bits_per_sample", i64::from(header.sample_size)),
         (32, "coded_number", header.number.cast_signed()),
     ];
     for (at, name, value) in fields {
         unit.push(place.saturating_add(at), name, value)?;
     }
-    let coding = match header.channels {
-        Channels::Independent(_) => "independent",
-        Channels::LeftSide => "left/side",
-        Channels::SideRight => "side/right",
-        Channels::MidSide => "mid/side",
-    };
     unit.note_text("stereo", None, String::from_str(alloc, coding)?)
 }

@@ -1,4 +1,0 @@
-use Rattle.bitstream_formats.proofs.flac.coded.+read_rest.Given as goal
-
-abbrev pub decreases-read_rest : goal.decreases-read_rest
-decreases-read_rest g l = l.bytes

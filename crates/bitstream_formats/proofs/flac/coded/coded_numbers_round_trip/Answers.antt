@@ -1,5 +1,0 @@
-use Rattle.bitstream_formats.proofs.CodedLemmas.{coded-back}
-use Rattle.bitstream_formats.proofs.flac.coded.coded_numbers_round_trip.Goals as goal
-
-pub returns : goal.returns
-returns c = λ o number at from more small. (coded-back o number small).back at from more
