@@ -58,6 +58,7 @@ sides! {
     write_vbr "orig_write_vbr" "bench_write_vbr" (order: u32, field: u32, bits: u32, count: u64, seed: u64, out: *mut u8, out_len: usize);
     write_flac_header "orig_write_flac_header" "bench_write_flac_header" (count: u64, seed: u64, out: *mut u8, out_len: usize);
     read_prefix "orig_read_prefix" "bench_read_prefix" (order: u32, data: *const u8, len: usize, count: u64);
+    read_code "orig_read_code" "bench_read_code" (order: u32, code: u32, data: *const u8, len: usize, count: u64);
     write_prefix "orig_write_prefix" "bench_write_prefix" (order: u32, count: u64, seed: u64, out: *mut u8, out_len: usize);
     read_fields "orig_read_fields" "bench_read_fields" (order: u32, data: *const u8, len: usize, count: u64);
     read_array "orig_read_array" "bench_read_array" (order: u32, data: *const u8, len: usize, count: u64);
@@ -348,6 +349,12 @@ fn codes(order: u32, o: &str) -> Vec<Work> {
     list.push(write(format!("write-prefix-{o}"), "write_prefix", ITEMS, move |s, b, n| {
         (s.write_prefix)(order, n, SEED, b.as_mut_ptr(), b.len())
     }));
+    let codes = ["flat-8", "skewed-8", "flat-24", "skewed-24", "flat-288", "skewed-288"];
+    for (code, name) in (0u32..).zip(codes) {
+        list.push(read(format!("read-table-{name}-{o}"), "read_code", random(), capacity(17), move |s, d, n| {
+            (s.read_code)(order, code, d.as_ptr(), d.len(), n)
+        }));
+    }
     list
 }
 
@@ -434,7 +441,7 @@ struct Times {
 impl Work {
     /// Returns true if the workload has a stream, so that the port can also use its own.
     fn has_stream(&self) -> bool {
-        self.function != "count"
+        !matches!(self.function, "count" | "read_code")
     }
 
     /// Makes one call of one side, and prints what it returns.

@@ -1,11 +1,14 @@
 //! The benchmark's functions of single calls over the Rust crate; README.md lists them.
 //! With the feature `twin` they have the names of the port's functions.
+use bitstream_io::huffman::FromBits;
 use bitstream_io::{
     BE, BitRead, BitReader, BitRecorder, BitWrite, BitWriter, BitsWritten, ByteRead, ByteReader, ByteWrite, ByteWriter,
     Endianness, LE, define_huffman_tree,
 };
 use std::io;
 use std::num::NonZero;
+
+mod codes;
 
 define_huffman_tree!(Codes : u8 = [[[4, 3], 2], [1, 0]]);
 
@@ -115,6 +118,10 @@ exports! {
     "orig_read_prefix" "bench_read_prefix"
     fn read_prefix(order: u32, data: *const u8, len: usize, count: u64) {
         in_order!(order, E => prefix_in::<E>(slice(data, len), count))
+    }
+    "orig_read_code" "bench_read_code"
+    fn read_code(order: u32, code: u32, data: *const u8, len: usize, count: u64) {
+        in_order!(order, E => code_in::<E>(code, slice(data, len), count))
     }
     "orig_write_prefix" "bench_write_prefix"
     fn write_prefix(order: u32, count: u64, seed: u64, out: *mut u8, out_len: usize) {
@@ -445,6 +452,26 @@ fn prefix_in<E: Endianness>(data: &[u8], count: u64) -> io::Result<u64> {
         sum = mix(sum, u64::from(r.read_huffman::<Codes>()?));
     }
     Ok(sum)
+}
+
+fn symbols_in<C: FromBits<Symbol = u16>, E: Endianness>(data: &[u8], count: u64) -> io::Result<u64> {
+    let mut r = BitReader::<_, E>::new(data);
+    let mut sum = 0;
+    for _ in 0..count {
+        sum = mix(sum, u64::from(r.read_huffman::<C>()?));
+    }
+    Ok(sum)
+}
+
+fn code_in<E: Endianness>(code: u32, data: &[u8], count: u64) -> io::Result<u64> {
+    match code {
+        0 => symbols_in::<codes::Flat8, E>(data, count),
+        1 => symbols_in::<codes::Skewed8, E>(data, count),
+        2 => symbols_in::<codes::Flat24, E>(data, count),
+        3 => symbols_in::<codes::Skewed24, E>(data, count),
+        4 => symbols_in::<codes::Flat288, E>(data, count),
+        _ => symbols_in::<codes::Skewed288, E>(data, count),
+    }
 }
 
 fn prefix_out<E: Endianness>(count: u64, seed: u64, out: &mut [u8]) -> io::Result<u64> {

@@ -8,6 +8,7 @@ mod mix;
 mod prefix;
 mod reading;
 mod sinks;
+mod tables;
 mod targets;
 mod typed;
 mod writing;

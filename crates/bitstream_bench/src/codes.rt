@@ -1,8 +1,11 @@
 //! Prefix codes: long chains, precomputed code words, and failed allocations. `bitstream_vectors` plays
 //! the test vectors.
-use crate::asserts::{are, gives, same};
+use crate::asserts::{are, ended, failed, gives, holds, same};
 use bitstream_io::huffman::{HuffmanTree, ToBits};
-use bitstream_io::{BE, BitRead, BitReadExt, BitReader, BitWrite, BitWriteExt, BitWriter, Slice};
+use bitstream_io::{
+    BE, BitRead, BitReadExt, BitReader, BitWrite, BitWriteExt, BitWriter, LE, ReadSymbols, Slice,
+    SliceReader, SymbolTable,
+};
 use std::alloc::{AllocError, Global};
 use test_streams::RefuseMemory;
 
@@ -116,4 +119,51 @@ fn words_made_once_are_those_of_the_tree(rt: HostRuntime) {
             bytes_of(alloc, &tree, symbol).as_slice(),
         );
     }
+}
+
+/// Bytes of seven code words of a chain, big-endian: those of 0, 1, 2, 3, 20, 0 and 5, and then ten bits 0.
+const CHAINED: [u8; 6] = [0x5b, 0xbf, 0xff, 0xfc, 0xf8, 0x00];
+
+#[test]
+fn a_table_reads_what_the_words_spell(rt: HostRuntime) {
+    let tree = chain(rt.alloc(), 60).expect(&rt, "memory is left");
+    let table = SymbolTable::of(rt.alloc(), &tree).expect(&rt, "memory is left");
+    let mut symbols = [9; 7];
+    let mut reader = SliceReader::<BE>::over(&CHAINED);
+    holds(&rt, reader.read_symbols(&table, &mut symbols).is_ok());
+    same(&rt, symbols, [0, 1, 2, 3, 20, 0, 5]);
+    same(&rt, reader.bits_read(), 38);
+    let mut fetched = BitReader::<_, BE>::new(CHAINED.as_slice());
+    holds(&rt, fetched.read_symbols(&table, &mut symbols).is_ok());
+    same(&rt, symbols, [0, 1, 2, 3, 20, 0, 5]);
+}
+
+#[test]
+fn a_table_ends_where_the_tree_does(rt: HostRuntime) {
+    let tree = chain(rt.alloc(), 60).expect(&rt, "memory is left");
+    let table = SymbolTable::of(rt.alloc(), &tree).expect(&rt, "memory is left");
+    let mut symbols = [9; 12];
+    // Ten bits 0 are ten symbols, and after them six bits 1 are no whole word.
+    let mut reader = SliceReader::<LE>::over(&[0x00, 0xfc]);
+    holds(&rt, ended(reader.read_symbols(&table, &mut symbols)));
+    same(&rt, reader.bits_read(), 16);
+    holds(&rt, failed(reader.read_symbols(&table, &mut symbols)));
+    holds(&rt, failed(reader.read_bit()));
+}
+
+#[test]
+fn each_growth_of_a_table_may_lack_memory(rt: HostRuntime) {
+    let tree = grown(rt.alloc(), 64).expect(&rt, "memory is left");
+    holds(
+        &rt,
+        SymbolTable::of(RefuseMemory::new(rt.alloc(), 0), &tree).is_err(),
+    );
+    holds(
+        &rt,
+        SymbolTable::of(RefuseMemory::new(rt.alloc(), 2), &tree).is_err(),
+    );
+    holds(
+        &rt,
+        SymbolTable::of(RefuseMemory::new(rt.alloc(), 64), &tree).is_ok(),
+    );
 }

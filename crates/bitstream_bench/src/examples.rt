@@ -56,6 +56,19 @@ fn example_of_crc32_more(rt: HostRuntime) {
 }
 
 #[test]
+fn example_of_sum_of(rt: HostRuntime) {
+    use bitstream_format::checksums::Crc32Mpeg;
+    use bitstream_format::summed::{sum_of, summing_writer};
+    use bitstream_io::{BE, BitWrite};
+
+    let mut writer = summing_writer::<BE, Crc32Mpeg>();
+    writer.write_unsigned_var(4, 3u8).expect(&rt, "no error");
+    writer.write_unsigned_var(4, 1u8).expect(&rt, "no error");
+    writer.write_bytes(b"23456789").expect(&rt, "no error");
+    same(&rt, sum_of(writer), 0x0376_e6e7);
+}
+
+#[test]
 fn example_of_read_until(rt: HostRuntime) {
     use bitstream_format::until::read_until;
     use bitstream_io::{BE, BitReader};
@@ -145,6 +158,58 @@ fn example_of_front(rt: HostRuntime) {
     let level = reader.read::<Bits<5>, i8>().expect(&rt, "no error");
     let size: u32 = reader.read_var(17).expect(&rt, "no error");
     same(&rt, (kind, level, size), (5, -2, 131071));
+}
+
+#[test]
+fn example_of_symbol_table(rt: HostRuntime) {
+    use bitstream_io::{BE, ReadSymbols, SliceReader, SymbolTable};
+    use bitstream_io::huffman::HuffmanTree;
+
+    let alloc = rt.alloc();
+    let end = HuffmanTree::node(
+        HuffmanTree::leaf(alloc, 'b').expect(&rt, "no error"),
+        HuffmanTree::leaf(alloc, 'c').expect(&rt, "no error"),
+    )
+    .expect(&rt, "no error");
+    let tree = HuffmanTree::node(HuffmanTree::leaf(alloc, 'a').expect(&rt, "no error"), end).expect(
+        &rt, "no error",
+    );
+    let table = SymbolTable::of(alloc, &tree).expect(&rt, "no error");
+    let mut reader = SliceReader::<BE>::over(&[0x98]);
+    let mut symbols = ['a'; 3];
+    reader
+        .read_symbols(&table, &mut symbols)
+        .expect(&rt, "no error");
+    same(&rt, symbols, ['b', 'a', 'c']);
+    same(&rt, reader.bits_read(), 5);
+}
+
+#[test]
+fn example_of_read_symbols(rt: HostRuntime) {
+    use bitstream_io::{BitReader, Error, LE, ReadSymbols, SymbolTable};
+    use bitstream_io::huffman::HuffmanTree;
+
+    let alloc = rt.alloc();
+    let tree = HuffmanTree::node(
+        HuffmanTree::leaf(alloc, 7u8).expect(&rt, "no error"),
+        HuffmanTree::leaf(alloc, 9).expect(&rt, "no error"),
+    )
+    .expect(&rt, "no error");
+    let table = SymbolTable::of(alloc, &tree).expect(&rt, "no error");
+    let mut reader = BitReader::<_, LE>::new([0x0b].as_slice());
+    same(&rt, reader.read_symbol(&table).expect(&rt, "no error"), 9);
+    let mut symbols = [0; 4];
+    reader
+        .read_symbols(&table, &mut symbols)
+        .expect(&rt, "no error");
+    same(&rt, symbols, [9, 7, 9, 7]);
+    holds(
+        &rt,
+        matches!(
+            reader.read_symbols(&table, &mut symbols),
+            Err(Error::EndOfInput)
+        ),
+    );
 }
 
 #[test]
