@@ -1,4 +1,4 @@
--- A signed number fits n bits if nothing but its sign stands above the lowest n - 1.
+-- A signed number fits in n bits if all bits above its lowest n - 1 bits equal its sign bit.
 use Rattle.std.specs.Prelude.{ℤ, pos, negsuc, ◌≢◌}
 use Rattle.std.specs.Int.{int_shr}
 use Rattle.std.proofs.Common.{◌≡◌, ℕ, ◌-◌, ◌*◌, ◌/◌, ◌^◌, ◌<◌, ◌≤◌, ◌⊎◌, inl, inr, ap, sym, ◌∙◌, arith, mod-lt}

@@ -1,4 +1,4 @@
--- Runs: no word begins another, and what is written is read again.
+-- Unary numbers: no encoding is a prefix of another, and a read returns the number that was written.
 use Rattle.std.proofs.Common.{◌≡◌, ℕ, zero, suc, ◌+◌, ◌^◌, ◌<◌, ◌≤◌, Bool, true, false, not, List, [], ◌∷◌, ◌++◌, length, take, replicate, Ok, Err, refl, sym, ap, ◌∙◌, subst, arith, inl, inr, append-nil, append_assoc, length-append}
 use Rattle.std.proofs.lemmas.Bool.{cases_lt, lt-ltb, le-ltb}
 use Rattle.std.proofs.lemmas.List.{length-replicate, replicate-append-replicate}
@@ -75,7 +75,7 @@ prefix_is_unary false (false ∷ bits) h = refl
 
 -- ---- reading
 
--- digits that come before the stop bit are too few
+-- the digits before the stop bit are incomplete
 pub short_prefix : (stop : Bool) (prefix back : List Bool) → length prefix ≤ lead stop (prefix ++ back)
     → length prefix < 2 ^ 32 → read_unary stop prefix ≡ Incomplete
 short_prefix stop prefix back none few =
@@ -107,7 +107,7 @@ begins_unary stop k prefix b back small is =
     let less : length prefix < k + 1 = omega (arith, prefix_length prefix b back (unary stop k) is, length-unary stop k) in
     short_prefix stop prefix (b ∷ back) (omega (arith, all, less)) (omega (arith, less, small))
 
--- digits that are not the stop bit are too few
+-- digits without a stop bit are incomplete
 pub others_short : (stop : Bool) (n : ℕ) → n < 2 ^ 32 → read_unary stop (replicate n (not stop)) ≡ Incomplete
 others_short stop n few = short_prefix stop (replicate n (not stop)) [] (omega (
   arith,
@@ -115,7 +115,7 @@ others_short stop n few = short_prefix stop (replicate n (not stop)) [] (omega (
   lead-others stop n [],
 )) (omega (arith, length-replicate n (not stop), few))
 
--- as many of them as are too long
+-- 2^32 digits without a stop bit are too long
 pub others_long : (stop : Bool) (n : ℕ) (rest : List Bool) → n ≡ 2 ^ 32
     → read_unary stop (replicate n (not stop) ++ rest) ≡ Done (length (replicate n (not stop))) (Err RunTooLong)
 others_long stop n rest long =

@@ -1,4 +1,4 @@
--- Groups: no word begins another, which word is the shortest, and what is read.
+-- Groups: no encoding is a prefix of another, which encoding is the shortest, and what a read returns.
 use Rattle.std.proofs.Common.{◌≡◌, ℕ, ℤ, pos, negsuc, zero, suc, ◌+◌, ◌-◌, ◌*◌, ◌/◌, ◌%◌, ◌^◌, ◌<◌, ◌≤◌, ◌⊎◌, max, Bool, true, false, cond, ltb, List, ◌++◌, length, take, drop, Result, Ok, Err, refl, sym, ap, ap₂, ◌∙◌, subst, arith, inl, inr, append_assoc}
 use Rattle.std.specs.Int.{div_ceil}
 use Rattle.std.proofs.Math.Nat.{div-lt_self, zero-mul, mod-lt, mul-le-mul_left, mod-eq_of_lt}
@@ -121,7 +121,7 @@ module _ (o : Order) (field : ℕ) (some : 0 < field) where
       (2 ^ (field - 1) + suc v % 2 ^ (field - 1)) ++ w)
       (groups_enough v (suc v / 2 ^ (field - 1)) (suc v / 2 ^ (field - 1)) wide (omega arith) (omega arith)))
 
-  -- it spells v, in no more groups than v asks for
+  -- it encodes v, in the fewest groups
   pub vbr_word_spells : (strict : Bool) (fuel v : ℕ) → 2 ≤ field → v ≤ fuel → (more : ℕ)
       × IsGroups strict o field more (vbr_word o field v) v × (2 ^ (more * (field - 1)) ≤ max 1 v)
   vbr_word_spells strict zero v wide le =
@@ -284,7 +284,7 @@ module _ (o : Order) (field : ℕ) (some : 0 < field) where
         lt-ltb v limit small,
       ) refl
 
-  -- ---- only accepted words are read
+  -- ---- only accepted encodings are read
 
   within_room : (width more : ℕ) → 2 ≤ field → more < div_ceil width (field - 1) → more * (field - 1) < width
   within_room width more wide begins =
@@ -384,7 +384,7 @@ module _ (o : Order) (field : ℕ) (some : 0 < field) where
       let size : k ≡ n = cc in
       (ap₂ found size fits.1, omega (arith, ltb-true x limit fits.0, fits.1))
 
-  -- a number is answered only if the bits begin with its word
+  -- a read returns a number only if the bits begin with its encoding
   pub read_vbr_only : (strict : Bool) (width limit : ℕ) (bits : List Bool) (n v : ℕ) → 2 ≤ field
       → read_vbr strict o field width limit bits ≡ found n v
       → IsAccepted strict o field width limit (take n bits) v × (n ≤ length bits)
@@ -393,7 +393,7 @@ module _ (o : Order) (field : ℕ) (some : 0 < field) where
       let spelled = groups_at_found strict (div_ceil width (field - 1)) bits n v parts.0 in
       ((spelled.0, spelled.3, within_room width spelled.0 wide spelled.1, parts.1), spelled.2)
 
-  -- ---- one group, and what is read behind it
+  -- ---- one group, and the groups that are read after it
 
   pub groups_at_step : (strict : Bool) (room : ℕ) (x y : List Bool) → length x ≡ field
       → groups_at strict (suc room) o field (x ++ y)

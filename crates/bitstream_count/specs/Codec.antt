@@ -17,7 +17,7 @@ pub record Decoder (A : Type 0) : Type 0 where
   -- true if the call may allocate once it has taken just these bits
   pub allocates : ℕ → List Bool → Bool
 
--- a write call: its word, which may depend on the number of bits written before, or its error
+-- a write call: the bits that it appends, which may depend on the number of bits written before, or its error
 abbrev pub Encoder : Type 0
 Encoder = ℕ → Result (List Bool) Error
 
@@ -37,7 +37,7 @@ consume n g = call (λ _ bits. word_prefix n g bits)
 abbrev pub fail : {A : Type 0} → Error → Decoder A
 fail e = call (λ _ _. Done 0 (Err e))
 
--- no call at all: it takes no bits, and returns this value on a failed reader too
+-- a call that does nothing: it takes no bits, and returns this value even if the reader has failed
 abbrev pub pure : {A : Type 0} → A → Decoder A
 pure a = record { reads = λ _ _. Done 0 (Ok a); on_failed = Ok a; allocates = λ _ _. false }
 

@@ -13,8 +13,8 @@ abbrev pub lead : Bool → List Bool → ℕ
 lead stop [] = 0
 lead stop (b ∷ bits) = if beq b stop then 0 else suc (lead stop bits)
 
--- the prefix of a unary read: the number whose word the bits begin with. A run of 2^32 bits or more is too
--- long: 2^32 bits are taken then.
+-- The prefix of a unary read: the number with whose unary encoding the bits begin. A run of 2^32 bits or more is too
+-- long: the read then takes 2^32 bits and fails.
 abbrev pub read_unary : Bool → List Bool → Prefix ℕ
 read_unary stop bits =
     let k = lead stop bits in

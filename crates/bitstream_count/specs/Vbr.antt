@@ -1,4 +1,4 @@
--- Numbers of variable width: words made of groups of bits.
+-- Variable-width numbers: encodings made of groups of bits.
 use Rattle.std.specs.Prelude.{◌≡◌, ℕ, zero, suc, ◌+◌, ◌-◌, ◌*◌, ◌/◌, ◌%◌, ◌^◌, ◌<◌, List, Bool, true, ◌&&◌, ◌++◌, length, take, drop, Result, Ok, Err, nat_lt, if◌then◌else◌}
 use Rattle.std.specs.Int.{div_ceil}
 use Rattle.bitstream_number.specs.Word.{Order, word, number}
@@ -6,10 +6,9 @@ use Rattle.bitstream_count.specs.declared.error.Error.{Error}
 use Rattle.bitstream_count.specs.declared.error.Error.TheVariants.{VariableWidthOverflow, RedundantGroup}
 use Rattle.bitstream_count.specs.Codec.{Prefix, Incomplete, Done}
 
--- The word is a group of `field` bits and `more` further groups. A group is a bit that says whether another
--- group follows, and below it `field - 1` digits of v. The first group has the lowest digits of v. If the word
--- is strict and has two groups or more, it ends in a group other than 0: the groups after any group represent
--- more than 0.
+-- The encoding w of v is a group of `field` bits and `more` further groups. The highest bit of a group is 1 if another
+-- group follows. The other `field - 1` bits are digits of v. The first group has the lowest digits of v. In a strict
+-- encoding of two groups or more, the last group is not 0: the groups after any group represent more than 0.
 abbrev pub IsGroups : Bool → Order → ℕ → ℕ → List Bool → ℕ → Type 0
 IsGroups strict o field zero w v = (v < 2 ^ (field - 1)) × (w ≡ word o field v)
 IsGroups strict o field (suc more) w v =
@@ -20,12 +19,12 @@ IsGroups strict o field (suc more) w v =
     × (v ≡ low + 2 ^ (field - 1) * high)
     × IsGroups strict o field more rest high
 
--- the word spells v in groups
+-- w is an encoding of v in groups
 abbrev pub Vbr : Bool → Order → ℕ → List Bool → ℕ → Type 0
 Vbr strict o field w v = (more : ℕ) × IsGroups strict o field more w v
 
--- the word spells v and is accepted for a type of `width` bits: v is below the limit, and each group begins within the
--- type
+-- w is an encoding of v that is accepted for a type of `width` bits: v is below the limit, and the digits of each group
+-- begin below bit `width`
 abbrev pub IsAccepted : Bool → Order → ℕ → ℕ → ℕ → List Bool → ℕ → Type 0
 IsAccepted strict o field width limit w v =
     (more : ℕ) × IsGroups strict o field more w v × (more * (field - 1) < width) × (v < limit)
@@ -39,7 +38,7 @@ groups (suc more) o field v =
     let all = word o field (2 ^ (field - 1) + v % 2 ^ (field - 1)) ++ groups more o field (v / 2 ^ (field - 1)) in
     if nat_lt v (2 ^ (field - 1)) then word o field v else all
 
--- the word that is written for v
+-- the encoding that is written for v
 abbrev pub vbr_word : Order → ℕ → ℕ → List Bool
 vbr_word o field v = groups v o field v
 

@@ -29,13 +29,13 @@ pub enum Error {
     /// A `bool` in a number of bits other than 1.
     #[error("booleans require exactly 1 bit")]
     BoolWidth,
-    /// A `NonZero` in as many bits as its type has, or in more.
+    /// A `NonZero` value with a count of its type's size in bits or more.
     #[error("bit count must be less than the type's size in bits")]
     NonZeroWidth,
     /// A variable-width value outside its type's range.
     #[error("variable bit rate overflow")]
     VariableWidthOverflow,
-    /// A variable-width value of two or more groups, of which the last is 0.
+    /// A variable-width value of two or more groups whose last group is 0.
     #[error("redundant variable width group")]
     RedundantGroup,
     /// A count above the limit of the counter's type.
@@ -44,10 +44,11 @@ pub enum Error {
     /// A unary value of 2^32 or more.
     #[error("unary run too long")]
     RunTooLong,
-    /// The stream refused a read with `UnexpectedEof`.
+    /// The input ended: a read of the stream failed with the kind `UnexpectedEof`, or bytes in
+    /// memory had too few bits left.
     #[error("end of input")]
     EndOfInput,
-    /// The stream refused a request with an error of this kind.
+    /// A request to the stream failed with an error of this kind.
     #[error("stream fault")]
     Stream(ErrorKind),
     /// A memory allocation failed.

@@ -1,7 +1,7 @@
-//! Laws of counts, and of unary and variable-width words, independent of any reader or writer.
+//! Laws of counts, and of unary and variable-width encodings, independent of any reader or writer.
 //!
-//! The contract of each function is a law. A law of counts calls the functions that it is about. A
-//! law of words has an empty body.
+//! The contract of each function is a law. A law about counts calls the functions that it is
+//! about. A law about encodings has an empty body.
 
 ghost use Rattle.std.specs.Hash as fed;
 ghost use Rattle.std.specs.List.{fold};
@@ -98,22 +98,22 @@ pub fn fixed_signed_counts_round_trip<const BITS: u32>(
     FixedSignedBitCount::try_from(SignedBitCount::from(count))
 }
 
-/// No unary word is a prefix of another unary word with the same stop bit.
+/// A unary encoding is never a prefix of another unary encoding with the same stop bit.
 pub fn unary_words_begin_no_other()
     ensures { (stop : Bool) (j k : ℕ) (x y : List Bool)
         → unary stop j ++ x ≡ unary stop k ++ y → j ≡ k }
 {}
 
-/// A unary word is read back, whatever follows it.
+/// A unary read of the encoding of a number below 2^32 returns that number, whatever bits follow.
 pub fn unary_words_read_back()
     ensures { (stop : Bool) (k : ℕ) (rest : List Bool) → k < 2 ^ 32
         → read_unary stop (unary stop k ++ rest) ≡ Done (length (unary stop k)) (Ok k) }
 {}
 
-/// A number is returned only if the bits begin with its unary word. `RunTooLong` is returned only
-/// if they begin with 2^32 bits that are not the stop bit.
+/// A unary read returns a number only if the bits begin with the number's unary encoding. It
+/// returns `RunTooLong` only if the bits begin with 2^32 bits that are not the stop bit.
 pub fn unary_words_alone_are_read()
-    // If a number is returned, it is below 2^32, and the bits taken are its unary word.
+    // If a number is returned, it is below 2^32, and the bits taken are its unary encoding.
     ensures number { (stop : Bool) (bits : List Bool) (n k : ℕ)
         → read_unary stop bits ≡ Done n (Ok k)
         → (k < 2 ^ 32) × (n ≤ length bits) × (take n bits ≡ unary stop k) }
@@ -124,20 +124,21 @@ pub fn unary_words_alone_are_read()
         × (take n bits ≡ replicate n (not stop)) }
 {}
 
-/// No word of variable width is a prefix of another one with groups of the same size.
+/// A variable-width encoding is never a prefix of another variable-width encoding with groups of
+/// the same size.
 pub fn variable_width_words_begin_no_other()
     ensures { (o : Order) (field : ℕ) (u v x y : List Bool) (a b : ℕ) → 0 < field
         → Vbr false o field u a → Vbr false o field v b → u ++ x ≡ v ++ y → (u ≡ v) × (a ≡ b) }
 {}
 
-/// An accepted word of variable width is read back, whatever follows it.
+/// A variable-width read of an accepted encoding returns its number, whatever bits follow.
 pub fn variable_width_words_read_back()
     ensures { (strict : Bool) (o : Order) (field width limit : ℕ) (w : List Bool) (v : ℕ) (rest : List Bool)
         → 2 ≤ field → IsAccepted strict o field width limit w v
         → read_vbr strict o field width limit (w ++ rest) ≡ Done (length w) (Ok v) }
 {}
 
-/// A number of variable width is returned only if the bits begin with an accepted word of that
+/// A variable-width read returns a number only if the bits begin with an accepted encoding of that
 /// number.
 pub fn variable_width_words_alone_are_read()
     ensures { (strict : Bool) (o : Order) (field width limit : ℕ) (bits : List Bool) (n v : ℕ) → 2 ≤ field
@@ -145,39 +146,41 @@ pub fn variable_width_words_alone_are_read()
         → IsAccepted strict o field width limit (take n bits) v × (n ≤ length bits) }
 {}
 
-/// The word that is written for a number is accepted, and it is the only one that the strict reader
-/// accepts for that number. The same holds for signed numbers.
+/// The strict reader accepts the encoding that is written for a number, and no other encoding of
+/// that number. The same holds for signed numbers.
 pub fn variable_width_words_are_the_only_ones()
-    // The strict reader accepts the word that is written for a number of the type below the limit.
+    // The strict reader accepts the encoding that is written for a number below the limit.
     ensures accepted { (o : Order) (field width limit v : ℕ) → 2 ≤ field → 0 < width
         → limit ≤ 2 ^ width → v < limit → IsAccepted true o field width limit (vbr_word o field v) v }
-    // A word that it accepts for a number is the one that is written for that number.
+    // Every encoding of a number that it accepts is the encoding that is written for that number.
     ensures only { (o : Order) (field width limit v : ℕ) (w : List Bool) → 2 ≤ field
         → IsAccepted true o field width limit w v → w ≡ vbr_word o field v }
-    // The strict reader accepts the word that is written for a signed number of the type.
+    // The strict reader accepts the encoding that is written for a signed number of the type.
     ensures signed_accepted { (o : Order) (field width : ℕ) (x : ℤ) → 2 ≤ field → 0 < width
         → FitsSignedBits width x
         → IsAccepted true o field width (2 ^ width) (vbr_word o field (zig x)) (zig x) }
-    // A word that it accepts for a signed number is the one that is written for that number.
+    // Every encoding of a signed number that it accepts is the encoding that is written for that
+    // number.
     ensures signed_only { (o : Order) (field width v : ℕ) (x : ℤ) (w : List Bool) → 2 ≤ field
         → IsAccepted true o field width (2 ^ width) w v → zag v ≡ x → w ≡ vbr_word o field (zig x) }
 {}
 
-/// The word that is written is the shortest of all words that the lenient reader accepts for its
-/// number. The same holds for signed numbers.
+/// The encoding that is written for a number is the shortest encoding of that number that the
+/// lenient reader accepts. The same holds for signed numbers.
 pub fn variable_width_words_are_shortest()
-    // The lenient reader accepts the word that is written for a number of the type below the limit.
+    // The lenient reader accepts the encoding that is written for a number below the limit.
     ensures accepted { (o : Order) (field width limit v : ℕ) → 2 ≤ field → 0 < width
         → limit ≤ 2 ^ width → v < limit → IsAccepted false o field width limit (vbr_word o field v) v }
-    // A word that it accepts for a number is the one that is written, or is longer.
+    // Every other encoding of a number that it accepts is longer than the one that is written.
     ensures shortest { (o : Order) (field width limit v : ℕ) (w : List Bool) → 2 ≤ field
         → IsAccepted false o field width limit w v
         → (w ≡ vbr_word o field v) ⊎ (length (vbr_word o field v) < length w) }
-    // The lenient reader accepts the word that is written for a signed number of the type.
+    // The lenient reader accepts the encoding that is written for a signed number of the type.
     ensures signed_accepted { (o : Order) (field width : ℕ) (x : ℤ) → 2 ≤ field → 0 < width
         → FitsSignedBits width x
         → IsAccepted false o field width (2 ^ width) (vbr_word o field (zig x)) (zig x) }
-    // A word that it accepts for a signed number is the one that is written, or is longer.
+    // Every other encoding of a signed number that it accepts is longer than the one that is
+    // written.
     ensures signed_shortest { (o : Order) (field width v : ℕ) (x : ℤ) (w : List Bool) → 2 ≤ field
         → IsAccepted false o field width (2 ^ width) w v → zag v ≡ x
         → (w ≡ vbr_word o field (zig x)) ⊎ (length (vbr_word o field (zig x)) < length w) }

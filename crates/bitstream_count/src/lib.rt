@@ -3,7 +3,7 @@
 //!
 //! - [`count`]: counts of bits, and values that are known to fit one
 //! - [`error`]: the error of a call
-//! - [`laws`]: laws of counts, and of unary and variable-width words
+//! - [`laws`]: laws of counts, and of unary and variable-width encodings
 //!
 //! Ported from `bitstream-io` 4.10.0 by Brian Langenberger; MIT OR Apache-2.0, see `LICENSE`.
 #![tactic(auto)]

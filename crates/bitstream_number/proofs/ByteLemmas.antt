@@ -1,4 +1,4 @@
--- The bytes whose bits some bits are.
+-- The bytes with given bits.
 use Rattle.std.proofs.Common.{◌≡◌, ℕ, zero, suc, ◌+◌, ◌*◌, ◌/◌, ◌^◌, ◌<◌, Bool, List, [], ◌∷◌, ◌++◌, length, take, drop, refl, sym, ap, ap₂, ◌∙◌, arith, mod-lt, length-take-le, length-drop}
 use Rattle.std.specs.Int.{byte_at, bytes_high_first}
 use Rattle.std.proofs.Math.Nat.{mod-eq_of_lt, suc-add, zero-add}
@@ -81,7 +81,7 @@ pub length-bytes : (o : Order) (n v : ℕ) → length (bytes o n v) ≡ n
 length-bytes High n v = length-high n v
 length-bytes Low n v = length-reverse (bytes_high_first n v) ∙ length-high n v
 
--- the bytes whose bits a word has are those of its number
+-- the bytes with given bits are the bytes of the number that these bits encode
 pub bytes_of-number : (o : Order) (n : ℕ) (w : List Bool) → length w ≡ 8 * n → bytes_of o n w ≡ bytes o n (number o w)
 bytes_of-number o n w e =
     let v = number o w in
@@ -89,7 +89,7 @@ bytes_of-number o n w e =
     ap (bytes_of o n) (sym all) ∙ ap (λ k. bytes_of o k (bits o (bytes o n v))) (sym (length-bytes o n v))
     ∙ bytes_of-bits o (bytes o n v) (AreBytes-bytes o n v)
 
--- worked: A3 41 2B, of which 16 bits behind the first 4
+-- an example: the 16 bits after the first 4 bits of A3 41 2B
 row_high : bytes_of High 2 (drop 4 (bits High (163 ∷ 65 ∷ 43 ∷ []))) ≡ 52 ∷ 18 ∷ []
 unfolding bytes_of digits digits_number
 row_high = refl

@@ -42,7 +42,7 @@ regroup a p t = grind arith
 mod-more : (t a : ℕ) → (t + a * 256) % 256 ≡ t % 256
 mod-more t a = omega arith
 
--- what stands above n bytes does not show in them
+-- the n lowest bytes of a number do not depend on its higher bytes
 bytes_low : (n a t : ℕ) → bytes_high_first n (t + a * 256 ^ n) ≡ bytes_high_first n t
 bytes_low zero a t = refl
 bytes_low (suc n) a t =

@@ -1,4 +1,4 @@
--- Masks, and values that stand above one another, over plain numbers.
+-- Masks, and sums of values that have no bits in common, over plain numbers.
 use Rattle.std.specs.Prelude.{bit_or, bit_and}
 use Rattle.std.proofs.Common.{◌≡◌, ℕ, ◌+◌, ◌-◌, ◌*◌, ◌/◌, ◌%◌, ◌^◌, ◌<◌, ◌≤◌, ap, ◌∙◌, arith}
 use Rattle.std.proofs.lemmas.Nat.{and_mask, shr_split, or_shifted}

@@ -1,4 +1,4 @@
--- Signed words, and the order of zigzags.
+-- Signed encodings, and the zigzag order.
 use Rattle.std.proofs.Common.{◌≡◌, ℕ, ◌+◌, ◌-◌, ◌*◌, ◌%◌, ◌^◌, ◌<◌, ◌≤◌, ◌⊎◌, inl, inr, refl, ap, sym, ◌∙◌, arith}
 use Rattle.std.specs.Prelude.{ℤ, pos, negsuc}
 use Rattle.std.proofs.Math.Nat.{mod-eq_of_lt}
@@ -26,7 +26,7 @@ signed_number-signed_word o n x some fits =
     rw (length-word o n (residue n x), number-word o n (residue n x), mod-eq_of_lt (residue-lt n x))
     (signed_from-residue n x some fits)
 
--- the bytes of a number of a type are no other's
+-- two signed numbers of n bits are equal if their bytes are equal
 pub same_from_residue : (n k : ℕ) (o : Order) (x y : ℤ) → n ≡ 8 * k → 0 < n → FitsSignedBits n x → FitsSignedBits n y
     → bytes o k (residue n x) ≡ bytes o k (residue n y) → x ≡ y
 same_from_residue n k o x y size some p q e =

@@ -1,4 +1,4 @@
--- Words: their lengths, the numbers they give back, and how they split.
+-- Encodings: their lengths, the numbers that they represent, and how they split.
 use Rattle.std.proofs.Common.{◌≡◌, ℕ, zero, suc, ◌+◌, ◌-◌, ◌*◌, ◌/◌, ◌%◌, ◌^◌, ◌<◌, ◌≤◌, ◌⊎◌, Bool, true, false, eqb, List, [], ◌∷◌, ◌++◌, length, reverse, refl, sym, ap, ap₂, ◌∙◌, subst, arith, inl, inr}
 use Rattle.std.specs.List.{flat_map}
 use Rattle.std.specs.Int.{byte_at, bytes_high_first}
@@ -37,7 +37,7 @@ digits-add (suc a) b v =
     let high : v / 2 ^ b / 2 ^ a ≡ v / 2 ^ (a + b) = shr-shr v b a ∙ ap (λ k. v / 2 ^ k) (add_comm b a) in
     rw (suc-add a b, ← high, digits-add a b v) refl
 
--- the digits of what stands above a number don't show
+-- the n lowest digits of a number do not depend on its digits from k on, where k is at least n
 digits_low : (n k a b : ℕ) → n ≤ k → digits n (a * 2 ^ k + b) ≡ digits n b
 unfolding digits
 digits_low zero k a b le = refl
@@ -102,7 +102,7 @@ pub in_order-append : {A : Type 0} (o : Order) (xs ys : List A) → in_order o (
 in_order-append High xs ys = refl
 in_order-append Low xs ys = reverse-append xs ys
 
--- ---- words
+-- ---- encodings
 
 pub length-word : (o : Order) (n v : ℕ) → length (word o n v) ≡ n
 length-word o n v = length-in_order o (digits n v) ∙ length-digits n v
@@ -110,7 +110,7 @@ length-word o n v = length-in_order o (digits n v) ∙ length-digits n v
 pub word-add : (o : Order) (a b v : ℕ) → word o (a + b) v ≡ concat_in o (word o a (v / 2 ^ b)) (word o b v)
 word-add o a b v = ap (in_order o) (digits-add a b v) ∙ in_order-append o (digits a (v / 2 ^ b)) (digits b v)
 
--- the word of a number that is put together from two
+-- the encoding of a number that is made of two numbers
 pub word_cat : (o : Order) (a b u v : ℕ) → v < 2 ^ b → word o (a + b) (u * 2 ^ b + v)
     ≡ concat_in o (word o a u) (word o b v)
 word_cat o a b u v small =
@@ -181,7 +181,7 @@ pub bits-bytes : (o : Order) (n v : ℕ) → bits o (bytes o n v) ≡ word o (8 
 bits-bytes High n v = bits_high n v
 bits-bytes Low n v = flat_map-reverse (digits 8) (bytes_high_first n v) ∙ ap reverse (bits_high n v)
 
--- the bytes of a number of n bits are no other's
+-- two numbers of n bits are equal if their bytes are equal
 pub same_from_bytes : (o : Order) (n k u v : ℕ) → n ≡ 8 * k → u < 2 ^ n → v < 2 ^ n → bytes o k u ≡ bytes o k v → u ≡ v
 same_from_bytes o n k u v size p q e =
     let same : word o (8 * k) u ≡ word o (8 * k) v = sym (bits-bytes o k u) ∙ ap (bits o) e ∙ bits-bytes o k v in

@@ -1,22 +1,23 @@
-//! Laws of words, bytes and numbers, independent of any reader or writer.
+//! Laws of encodings, bytes and numbers, independent of any reader or writer.
 //!
-//! The contract of each function is a law. A law that is only about words has an empty body. A law
-//! of numbers calls the functions that it is about, for any type that its bound allows.
+//! The contract of each function is a law. The n-bit encoding of a number is the list of the n bits
+//! that are written for it. A law that is only about encodings has an empty body. A law about
+//! numbers calls the functions that it is about, for any type that its bound allows.
 
 ghost use Rattle.std.specs.Prelude.{◌≡◌, ℕ, ℤ, pos, ◌+◌, ◌*◌, ◌%◌, ◌^◌, ◌<◌, ◌≤◌, ◌+ℤ◌, ◌*ℤ◌, ◌≤ℤ◌, ◌<ℤ◌, Bool, List, ◌++◌, length};
 ghost use Rattle.bitstream_number.specs.Word.{Order, High, Low, word, number, bits, bytes, FitsSignedBits, signed_word, signed_number, zig, zag};
 
 use crate::number::{Numeric, Primitive, SignedInteger, UnsignedInteger};
 
-/// The word of a number at n bits has n bits, and encodes the number modulo 2^n.
+/// The n-bit encoding of a number has n bits, and represents the number modulo 2^n.
 pub fn words_hold_numbers()
-    // The word of a number at n bits has n bits.
+    // The n-bit encoding of a number has n bits.
     ensures length { (o : Order) (n v : ℕ) → length (word o n v) ≡ n }
-    // The number of that word is v, modulo 2^n.
+    // It represents v modulo 2^n.
     ensures number { (o : Order) (n v : ℕ) → number o (word o n v) ≡ v % 2 ^ n }
-    // A list of bits is the word of its own number.
+    // A list of bits is the encoding of the number that it represents.
     ensures word { (o : Order) (w : List Bool) → word o (length w) (number o w) ≡ w }
-    // Two numbers below 2^n are equal if their words at n bits are equal.
+    // Two numbers below 2^n are equal if their n-bit encodings are equal.
     ensures same { (o : Order) (n u v : ℕ) → u < 2 ^ n → v < 2 ^ n
         → word o n u ≡ word o n v → u ≡ v }
     // A signed number that fits in n bits, where n is not 0, round-trips through its two's
@@ -25,17 +26,18 @@ pub fn words_hold_numbers()
         → signed_number o (signed_word o n x) ≡ x }
 {}
 
-/// The number that two concatenated words encode is computed from the numbers of the two words.
+/// The number that two concatenated encodings represent is computed from the numbers that each of
+/// them represents.
 pub fn words_split()
-    // Big-endian: the first word is the high part of the combined number.
+    // Big-endian: the first encoding is the high part of the combined number.
     ensures high { (first second : List Bool) → number High (first ++ second)
         ≡ number High first * 2 ^ length second + number High second }
-    // Little-endian: the first word is the low part of the combined number.
+    // Little-endian: the first encoding is the low part of the combined number.
     ensures low { (first second : List Bool) → number Low (first ++ second)
         ≡ number Low first + number Low second * 2 ^ length first }
 {}
 
-/// The bits of a number's bytes are the number's word.
+/// The bits of the n bytes of a number are its 8n-bit encoding.
 pub fn bytes_are_words()
     ensures { (o : Order) (n v : ℕ) → bits o (bytes o n v) ≡ word o (8 * n) v }
 {}

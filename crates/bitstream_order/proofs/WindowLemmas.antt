@@ -1,4 +1,4 @@
--- Words in the midst of a number, and runs of its digits.
+-- Bits in the middle of a number, and runs of its digits.
 use Rattle.std.specs.Prelude.{◌==◌, bit_and}
 use Rattle.std.proofs.Common.{◌≡◌, ℕ, zero, suc, ◌+◌, ◌-◌, ◌*◌, ◌/◌, ◌%◌, ◌^◌, ◌<◌, ◌≤◌, Bool, true, false, not, List, [], ◌∷◌, ◌++◌, length, drop, map, reverse, replicate, refl, sym, ap, ap₂, ◌∙◌, arith, append-nil, inl, inr, ◌⊎◌, w64, mod-lt, add-zero, div-le_self}
 use Rattle.std.specs.Int.{bit_at, bit_not}
@@ -14,7 +14,7 @@ use Rattle.bitstream_count.proofs.UnaryLemmas.{lead-others}
 use Rattle.bitstream_number.specs.Word.{Order, High, Low, digits, word}
 use Rattle.bitstream_number.proofs.WordLemmas.{digits-add, word-add, word-mod, length-word}
 
--- ---- words in the midst
+-- ---- bits in the middle
 
 -- k of s bits, of which n went off the prefix
 pub middle_high : (v n k s : ℕ) → n + k ≤ s → v * 2 ^ n % 2 ^ s / 2 ^ (s - k) ≡ v / 2 ^ (s - (n + k)) % 2 ^ k
@@ -154,7 +154,7 @@ trailing_is (suc k) a =
           ∙ sym (ap (lead true) (parts ∙ ap (λ x. x ++ w) (low_digit a 1 one)))
     ]
 
--- a number whose word begins with the last bits of another
+-- a number whose encoding begins with the last bits of another number's encoding
 begins_high : (v at : ℕ) → at ≤ 64
     → word High 64 (v * 2 ^ at % 2 ^ 64) ≡ drop at (word High 64 v) ++ word High at (v * 2 ^ at % 2 ^ 64)
 begins_high v at le =
@@ -187,7 +187,7 @@ begins_low v at le =
 pub rest_long : (o : Order) (v at : ℕ) → length (drop at (word o 64 v)) ≡ 64 - at
 rest_long o v at = length-drop at (word o 64 v) ∙ ap (λ n. n - at) (length-word o 64 v)
 
--- a run that ends within the bits of a number behind the first few, from a number that begins with them
+-- a run that ends within the last bits of a number, from a number that begins with these bits
 run_behind : (o : Order) (stop : Bool) (v at w r : ℕ) (y : List Bool) → at < 64
     → word o 64 w ≡ drop at (word o 64 v) ++ y → r ≡ lead stop (word o 64 w) → r + at < 64
     → r ≡ lead stop (drop at (word o 64 v))

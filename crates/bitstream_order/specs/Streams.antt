@@ -9,7 +9,7 @@ pub record InputStream (R : Type 0) : Type 1 where
   pub remaining : R → Option (List ℕ)
   -- the references through which it is reached
   pub references : R → List Reference
-  -- the ways in which it may refuse a request for a number of bytes, and the kinds
+  -- the ways in which a request for a number of bytes may fail, with the kinds of the errors
   pub refuses : R → ℕ → ErrorKind → R → Type 0
   -- the other effects of a request that took a number of bytes
   pub takes : R → ℕ → R → Type 0
@@ -20,7 +20,7 @@ pub record OutputStream (W : Type 0) : Type 1 where
   pub contents : W → Option (List ℕ)
   -- the references through which it is reached
   pub references : W → List Reference
-  -- the ways in which it may refuse a request to send a number of bytes, and the kinds
+  -- the ways in which a request to send a number of bytes may fail, with the kinds of the errors
   pub refuses : W → ℕ → ErrorKind → W → Type 0
   -- the effect of a flush that succeeded
   pub flushes : W → W → Type 0

@@ -1,5 +1,5 @@
-//! Values that only contracts see: a count, the refusals of a stream, and the earlier bytes of a
-//! slice. They take no memory.
+//! Values that only contracts see: a count, the failed requests of a stream, and the earlier bytes
+//! of a slice. They take no memory.
 ghost use Rattle.std.specs.Prelude.{◌≡◌, ℕ, ◌+◌, ◌*◌, List, [], ◌∷◌};
 ghost use Rattle.std.specs.Borrow.{ftrue};
 ghost use Rattle.bitstream_order.specs.Refusal.{Refusal};
@@ -70,7 +70,7 @@ impl GhostCount {
     }
 }
 
-/// A list of refusals that only contracts see, the most recent one first.
+/// A list of failed requests that only contracts see, the most recent one first.
 #[derive(Drop)]
 pub struct GhostRefusals {
     seal: (),

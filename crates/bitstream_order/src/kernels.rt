@@ -1,5 +1,5 @@
-//! The functions that move words: they gather words from a port, send them to it, shift, convert
-//! signs, count and copy.
+//! The functions that move bits: they take bits from a port, send bits to it, shift them, convert
+//! signs, count unary numbers and copy bytes.
 
 pub(crate) mod copy;
 pub mod gather;

@@ -1,4 +1,4 @@
-//! A stream, with counts of its requests that only contracts see.
+//! A stream, with counts of the requests made to it. Only contracts see the counts.
 ghost use Rattle.std.specs.Prelude.{◌≡◌, ◌≤◌, ◌*◌, [], ◌∷◌, IfSome, Ok, OnOk, length, pos, take};
 ghost use Rattle.std.specs.Io.KnownBytes.{Keeps};
 ghost use Rattle.std.specs.Io.Seek.{StaysAt, SeekMoves};
@@ -17,8 +17,8 @@ use std::io;
 use std::io::{ErrorKind, SeekFrom};
 use std::snapshot::Snapshot;
 
-/// The only holder of a stream: nothing else asks the stream for bytes or sends bytes to it. The
-/// counts take no memory at run time.
+/// A stream, with counts of the requests made to it. While a port holds a stream, only the port
+/// requests bytes from it or sends bytes to it. The counts take no memory at run time.
 #[derive(Drop)]
 pub struct Port<S> {
     stream: S,
@@ -28,7 +28,7 @@ pub struct Port<S> {
     refusals: GhostRefusals,
 }
 
-/// Returns the error for a refused request that is not a read.
+/// Converts the error of a failed request that is not a read.
 fn refusal(error: io::Error) -> Error
     ensures { result ≡ refusal_of (error_kind error) }
 {
@@ -38,7 +38,7 @@ fn refusal(error: io::Error) -> Error
     }
 }
 
-/// Returns the error for a refused read.
+/// Converts the error of a failed read.
 fn read_refusal(error: io::Error) -> Error
     ensures { result ≡ read_refusal_of (error_kind error) }
 {
@@ -48,7 +48,7 @@ fn read_refusal(error: io::Error) -> Error
     }
 }
 
-/// Records a failed request for bytes.
+/// Adds a failed request for bytes to the list of failed requests.
 fn record_refused_read<S: Source>(
     refusals: &mut GhostRefusals,
     _before: &Snapshot<S>,
@@ -63,7 +63,7 @@ fn record_refused_read<S: Source>(
     refusals.push(0);
 }
 
-/// Records a failed request to send bytes.
+/// Adds a failed request to send bytes to the list of failed requests.
 fn record_refused_write<S: Target>(
     refusals: &mut GhostRefusals,
     _before: &Snapshot<S>,
@@ -82,7 +82,7 @@ impl<S> Port<S> {
     ghost use Rattle.std.specs.Borrow.{Lends, sem};
     ghost use Rattle.bitstream_order.specs.contracts.port.Port.{the_row};
 
-    /// Returns a new port to a stream, which has made no request yet.
+    /// Returns a port to a stream. No request has been made through it yet.
     pub fn new(stream: S) -> Port<S>
         // The port holds this stream.
         ensures stream { port_stream result ≡ stream }
@@ -91,7 +91,7 @@ impl<S> Port<S> {
         // No byte was sent yet.
         ensures sent { sent_count result ≡ 0 }
         ensures requests { requests_count result ≡ 0 }
-        // No request was refused yet.
+        // No request has failed yet.
         ensures refusals { port_refusals result ≡ [] }
     {
         Port {
@@ -103,10 +103,12 @@ impl<S> Port<S> {
         }
     }
 
-    /// Lends the stream. Requests made through the loan are not counted.
+    /// Returns the stream, by mutable reference. Requests made through the reference are not
+    /// counted.
     pub fn lend(&mut self) -> &mut S
         ensures value { result.now ≡ port_stream self.old }
-        // When the borrow ends, only the stream may have changed: it is as the borrower left it.
+        // When the borrow ends, the port holds the stream with the borrower's changes. The counts
+        // are unchanged.
         ensures* writes_back { sem 𝓛
             (Lends (the_row S.row) S.row self.entry result (with_stream self.old)) }
     {
@@ -120,9 +122,9 @@ impl<S> Port<S> {
         &self.stream
     }
 
-    /// Forgets the requests made to the stream, which is unchanged.
+    /// Resets all counts to 0 and empties the list of failed requests. The stream is unchanged.
     pub fn restart(&mut self)
-        // The stream stays as it is.
+        // The stream is unchanged.
         ensures stream { port_stream self.new ≡ port_stream self.old }
         // No byte counts as fetched.
         ensures fetched { fetched_count self.new ≡ 0 }
@@ -130,7 +132,7 @@ impl<S> Port<S> {
         ensures sent { sent_count self.new ≡ 0 }
         // No request counts as made.
         ensures requests { requests_count self.new ≡ 0 }
-        // No refusal is recorded any more.
+        // The list of failed requests is empty.
         ensures refusals { port_refusals self.new ≡ [] }
     {
         self.fetched = GhostCount::new();
@@ -139,7 +141,7 @@ impl<S> Port<S> {
         self.refusals = GhostRefusals::new();
     }
 
-    /// Returns the number of bits in all fetched bytes, as a ghost count.
+    /// Returns the number of bits fetched so far, as a ghost count: 8 bits for each fetched byte.
     pub fn fetched_bits(&self) -> GhostCount
         ensures { result.count ≡ 8 * fetched_count self.now }
     {
@@ -148,7 +150,7 @@ impl<S> Port<S> {
         bits
     }
 
-    /// Returns the stream.
+    /// Consumes the port and returns the stream.
     pub fn into_inner(self) -> S
         ensures { result ≡ port_stream self }
     {
@@ -157,13 +159,13 @@ impl<S> Port<S> {
 }
 
 impl<S: Source> Port<S> {
-    /// Fills the buffer by one request.
+    /// Fills the whole buffer with the next bytes of the stream, by one request.
     ///
     /// # Errors
     ///
-    /// `EndOfInput` if the stream refuses with the kind `UnexpectedEof`, `OutOfMemory` if with the
-    /// kind `OutOfMemory`, and otherwise `Stream` with the kind of the refusal. After an error, no
-    /// byte is counted as fetched.
+    /// `EndOfInput` if the request fails with the kind `UnexpectedEof`. `OutOfMemory` if it fails
+    /// with the kind `OutOfMemory`. Otherwise `Stream` with the kind of the error. After an error,
+    /// no byte is counted as fetched.
     #[inline(always)]
     pub fn fetch(&mut self, buf: &mut [u8]) -> Result<(), Error>
         ensures fetches { Fetches (MayRefuseRead S.stream)
@@ -173,9 +175,9 @@ impl<S: Source> Port<S> {
         self.fetch_prefix(buf, count, true)
     }
 
-    /// Fills the first `count` bytes of the buffer, which has at least `count`, by one request for
-    /// only these bytes. The rest of the buffer is then unspecified. `constant` is true if `count`
-    /// is known at compile time, and changes only how the bytes are copied.
+    /// Fills the first `count` bytes of the buffer, by one request for only these bytes. The buffer
+    /// must have at least `count` bytes. Its other bytes are unspecified after the call. `constant`
+    /// is true if `count` is known at compile time, and changes only how the bytes are copied.
     ///
     /// # Errors
     ///
@@ -188,15 +190,15 @@ impl<S: Source> Port<S> {
         constant: bool,
     ) -> Result<(), Error>
         requires { count ≤ length buf.old }
-        // The first `count` bytes of the buffer become the next `count` bytes of the stream by one
-        // request, or the request is refused.
+        // One request is made. If it succeeds, the first `count` bytes of the buffer are the next
+        // `count` bytes of the stream.
         ensures fetches { Fetches (MayRefuseRead S.stream)
             (source_state S.stream self.old) (take count buf.new) result
             (source_state S.stream self.new) }
         ensures len { length buf.new ≡ length buf.old }
     {
         let before = Snapshot::of(&self.stream);
-        // A request counts even if it is refused.
+        // A failed request counts too.
         self.requests.add(1);
         match self.stream.read_prefix(buf, count, constant) {
             Ok(()) => {
@@ -212,19 +214,19 @@ impl<S: Source> Port<S> {
 }
 
 impl<S: Target> Port<S> {
-    /// Sends the bytes by one request.
+    /// Sends the bytes to the stream by one request.
     ///
     /// # Errors
     ///
-    /// `OutOfMemory` if the stream refuses with the kind `OutOfMemory`, and otherwise `Stream` with
-    /// the kind of the refusal. After an error, no byte is counted as sent.
+    /// `OutOfMemory` if the request fails with the kind `OutOfMemory`. Otherwise `Stream` with the
+    /// kind of the error. After an error, no byte is counted as sent.
     #[inline(always)]
     pub fn send(&mut self, bytes: &[u8]) -> Result<(), Error>
         ensures { Sends (MayRefuseWrite S.stream) (target_state S.stream self.old) bytes.now result
             (target_state S.stream self.new) }
     {
         let before = Snapshot::of(&self.stream);
-        // A request counts even if it is refused.
+        // A failed request counts too.
         self.requests.add(1);
         match self.stream.write_all(bytes) {
             Ok(()) => {
@@ -244,25 +246,25 @@ impl<S: Target> Port<S> {
         }
     }
 
-    /// Flushes the stream by one request, which sends no bytes. The stream passes on the bytes that
-    /// it has buffered itself.
+    /// Flushes the stream by one request: the stream passes on the bytes that it has buffered. The
+    /// port sends no bytes.
     ///
     /// # Errors
     ///
-    /// The errors of [`send`](Port::send). After an error too, the stream holds the same bytes as
-    /// before.
+    /// The errors of [`send`](Port::send). The stream holds the same bytes as before, even after an
+    /// error.
     pub fn flush(&mut self) -> Result<(), Error>
-        // One request is made, and no byte is sent, whether it is refused or not.
+        // One request is made. No byte is sent, even if the request fails.
         ensures sends { Sends (MayRefuseWrite S.stream) (target_state S.stream self.old) [] result
             (target_state S.stream self.new) }
-        // The stream holds the same bytes as before, if they are known.
+        // If the stream's contents are known, they are unchanged.
         ensures bytes { Keeps (S.stream.contents (port_stream self.old))
             (S.stream.contents (port_stream self.new)) }
-        // If it succeeds, its effect is the one that the stream states for a flush.
+        // If it succeeds, the stream changes as its properties state for a flush.
         ensures flushed { OnOk result (S.stream.flushes (port_stream self.old) (port_stream self.new)) }
     {
         let before = Snapshot::of(&self.stream);
-        // A request counts even if it is refused.
+        // A failed request counts too.
         self.requests.add(1);
         match self.stream.flush() {
             Ok(()) => Ok(()),
@@ -276,27 +278,28 @@ impl<S: Target> Port<S> {
 }
 
 impl<S: SeekSource> Port<S> {
-    /// Seeks by one request, and returns the new position in bytes. The count of fetched bytes
-    /// restarts at 0.
+    /// Moves the stream to another position by one request. Returns the new position in bytes from
+    /// the start of the stream. Resets the count of fetched bytes to 0.
     ///
     /// # Errors
     ///
-    /// `OutOfMemory` if the stream refuses with the kind `OutOfMemory`, and otherwise `Stream` with
-    /// the kind of the refusal. After an error, the position is unchanged.
+    /// `OutOfMemory` if the request fails with the kind `OutOfMemory`. Otherwise `Stream` with the
+    /// kind of the error. After an error, the position is unchanged.
     pub fn seek(&mut self, to: SeekFrom) -> Result<u64, Error>
-        // One request is made. The count of fetched bytes restarts at 0, or is unchanged if the
-        // request is refused.
+        // One request is made. If it succeeds, the count of fetched bytes is 0. If it fails, the
+        // count is unchanged.
         ensures seeks { Seeks (MayRefuseSeek S.stream S.refuses_seek to)
             (source_state S.stream self.old) result (source_state S.stream self.new) }
-        // If the stream's position is known, the new position is the result, or the old one if the
-        // seek is refused. If its bytes are known too, the result is the position that `to` means.
+        // If the stream's position is known, the new position is the result, or is the old position
+        // if the seek fails. If its bytes are known too, the result is the position that `to`
+        // means.
         ensures moves { SeekMoves (S.position (port_stream self.old))
             (S.position (port_stream self.new)) (S.bytes (port_stream self.old)) to result }
-        // All bytes of the stream stay the same, if they are known.
+        // If the stream's bytes are known, they are unchanged.
         ensures bytes { Keeps (S.bytes (port_stream self.old)) (S.bytes (port_stream self.new)) }
     {
         let before = Snapshot::of(&self.stream);
-        // A request counts even if it is refused.
+        // A failed request counts too.
         self.requests.add(1);
         match self.stream.seek(to) {
             Ok(at) => {
@@ -311,27 +314,27 @@ impl<S: SeekSource> Port<S> {
         }
     }
 
-    /// Returns the position in bytes. It makes one request: a seek by 0 bytes. The count of fetched
-    /// bytes is unchanged.
+    /// Returns the position in bytes from the start of the stream. The port makes one request: a
+    /// seek to the current position. The position and the count of fetched bytes are unchanged.
     ///
     /// # Errors
     ///
-    /// `OutOfMemory` if the stream refuses with the kind `OutOfMemory`, and otherwise `Stream` with
-    /// the kind of the refusal.
+    /// `OutOfMemory` if the request fails with the kind `OutOfMemory`. Otherwise `Stream` with the
+    /// kind of the error.
     pub fn position(&mut self) -> Result<u64, Error>
-        // One request is made, and no byte is fetched or sent, whether it is refused or not.
+        // One request is made. No byte is fetched or sent, even if the request fails.
         ensures places { Places (MayRefuseSeek S.stream S.refuses_seek (Current (pos 0)))
             (source_state S.stream self.old) result (source_state S.stream self.new) }
-        // A known position of the stream stays the same.
+        // The stream's position is unchanged, if it is known.
         ensures stays { StaysAt (S.position (port_stream self.old)) (S.position (port_stream self.new)) }
-        // If it succeeds, the result is the position of the stream, if it is known.
+        // If the request succeeds and the stream's position is known, the result is that position.
         ensures answer { OnOk result (IfSome (S.position (port_stream self.old))
             (λ position. result ≡ Ok position)) }
-        // All bytes of the stream stay the same, if they are known.
+        // If the stream's bytes are known, they are unchanged.
         ensures bytes { Keeps (S.bytes (port_stream self.old)) (S.bytes (port_stream self.new)) }
     {
         let before = Snapshot::of(&self.stream);
-        // A request counts even if it is refused.
+        // A failed request counts too.
         self.requests.add(1);
         match self.stream.seek(SeekFrom::Current(0)) {
             Ok(at) => Ok(at),

@@ -9,7 +9,7 @@ use Rattle.bitstream_sink.specs.Counting.{counter_sink}
 
 module _ {S : Type 0} (o : Order) (count : S → ℕ) (greatest : ℕ) (full : IsFullLimit (Some greatest)) (within : (s : S)
     → count s ≤ greatest) where
-  -- a word of n bits was counted
+  -- an encoding of n bits was counted
   pub counted : {T : Type 0} (encoder : Encoder) (old : S) (result : Result T Error) (new : S) (x : List Bool)
       (n : ℕ) (done : T)
       → encoder (count old) ≡ Ok x → length x ≡ n → result ≡ Ok done → count new ≡ count old + n

@@ -26,7 +26,7 @@ added : (xs ys bytes : List ℕ) (old new : ℕ) → Appends (Some xs) (Some ys)
     ≡ old + length bytes → new ≡ length ys
 added xs ys bytes old new grows is more = omega (arith, is, more, ap length grows, length-append xs bytes)
 
--- all that was sent before a refusal
+-- all bytes sent before a failed request
 sent_before : (old new queued kept prefix bytes rest : ℕ) → (8 * new + kept) % 8 ≡ 0 → kept < 8
     → 8 * old + queued + prefix < 8 * new + kept + 8 → 8 * new + kept ≤ 8 * old + queued + prefix → queued + prefix
     ≡ 8 * bytes + rest → rest < 8
@@ -100,7 +100,7 @@ module _ {N E A : Type 0} (o : Order) where
         length-word o (recorded_queued a) (recorded_queue a),
       )
 
-  -- a recorder fails as memory was refused
+  -- a recorder fails because an allocation failed
   pub refused_memory : (a b : BitRecorder N E A) (x : List Bool) (error : Error)
       → WriteRefused (recorder_sink o) a x error b → error ≡ OutOfMemory
   refused_memory a b x error k = k.answer ∙ ap refusal_of k.allowed.refused.memory
@@ -109,7 +109,7 @@ module _ {N E A : Type 0} (o : Order) where
 
 module _ {S : Type 0} (K : Sink S) (bytes given : List ℕ) (is : given ≡ bytes) (s t : S)
     (r : Result (Unit {0}) Error) where
-  -- its first call was refused
+  -- its first call failed
   pub play_stops : (es : List Encoder) (d : Error) → r ≡ Err d
       → Writes {T = Unit {0}} K (buffer K.order given) s (Err d) t → WritesAll K (buffer K.order bytes ∷ es) s r t
   play_stops es d answer h = all_err K _ es s r d t answer

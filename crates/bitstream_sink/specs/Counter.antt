@@ -2,7 +2,7 @@
 use Rattle.std.specs.Prelude.{◌≡◌, ℕ, ◌+◌, ◌<◌, ◌≤◌, Result, Ok, Err, OkIff, MatchResult}
 use Rattle.std.proofs.Common.{arith}
 
--- the value of this number, or an error exactly if the number passes the greatest one
+-- the value of this number, or an error exactly if it is above the greatest number of the type
 abbrev pub Counts : {N E : Type 0} → (N → ℕ) → ℕ → ℕ → Result N E → Type 0
 Counts value greatest n result = MatchResult result (λ x. (value x ≡ n) × (n ≤ greatest)) (λ _. greatest < n)
 

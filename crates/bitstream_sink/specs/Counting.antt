@@ -7,7 +7,7 @@ use Rattle.bitstream_count.specs.Codec.{Encoder}
 use Rattle.bitstream_count.specs.declared.error.Error.{Error}
 use Rattle.bitstream_stream.specs.Writing.Sink.{Sink, Writes, IsFullLimit}
 
--- a sink that keeps only the length of the words written, up to the greatest number of its type
+-- a sink that keeps only the number of bits written, up to the greatest number of its type
 abbrev pub counter_sink : {S : Type 0} → Order → (count : S → ℕ) → (greatest : ℕ) → IsFullLimit (Some greatest)
     → ((s : S) → count s ≤ greatest) → Sink S
 counter_sink o count greatest full within = record {
@@ -29,7 +29,7 @@ counter_sink o count greatest full within = record {
   limit_full = full;
 }
 
--- a call whose word has n bits, whatever its encoder is
+-- a call whose encoding has n bits, whatever its encoder is
 abbrev pub CountsWord : {S T : Type 0} → Sink S → ℕ → S → Result T Error → S → Type 0
 CountsWord K n old result new = (encoder : Encoder) (x : List Bool) → encoder (K.len old) ≡ Ok x → length x ≡ n
     → Writes K encoder old result new

@@ -29,16 +29,16 @@ recorded_bits o recorder = bits o (recorded_bytes recorder)
 abbrev pub recorder_sink : {N E A : Type 0} → Order → Sink (BitRecorder N E A)
 recorder_sink o = inner_sink (λ recorder. recorder.writer) (growing_sink o)
 
--- nothing was recorded, and nothing refused
+-- nothing was recorded, and no allocation failed
 abbrev pub IsEmptyRecorder : {N E A : Type 0} → BitRecorder N E A → Type 0
 IsEmptyRecorder recorder = growing_state recorder.writer ≡ new_writer_state (Some []) []
 
--- true if memory was refused to a recorder, which was not cleared since
+-- true if an allocation of a recorder failed, and the recorder was not cleared since
 abbrev pub recorder_failed : {N E A : Type 0} → BitRecorder N E A → Bool
 recorder_failed recorder = has_failed recorder.writer
 
 -- the calls that play a recorder to a sink of this order: one of its whole bytes, and one of the bits after
--- them as a word
+-- them as a number
 abbrev pub playback_encoders : {N E A : Type 0} → Order → BitRecorder N E A → List Encoder
 playback_encoders o recorder = buffer o (recorded_bytes recorder) ∷ unsigned o 8 (recorded_queued recorder)
     (recorded_queue recorder) ∷ []

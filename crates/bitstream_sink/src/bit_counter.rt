@@ -12,13 +12,14 @@ use bitstream_stream::width::{check, check_signed};
 use bitstream_stream::write::BitWrite;
 use std::marker::PhantomData;
 
-/// Counts the bits written to it in the order E and keeps none of them, so that the length of a value is known before
-/// the value is written. It does not allocate. [`BitsWritten`](crate::written::BitsWritten) is a counter without a
-/// parameter for the order.
+/// Counts the bits written to it in the order E and keeps none of them, so that the length of a
+/// value is known before the value is written. It does not allocate.
+/// [`BitsWritten`](crate::written::BitsWritten) is a counter without a parameter for the order.
 ///
-/// A call adds the length of its word in bits, in one addition. If the sum is above the greatest
-/// number of N, the call returns `CounterOverflow` and adds nothing. Errors of a width or a value
-/// come first, as in a writer. A word has the same length in both orders of bits.
+/// A call adds the length of its encoding in bits, in one addition. If the sum is above N's
+/// greatest value, the call returns `CounterOverflow` and adds nothing. Errors of a width or a
+/// value are returned first, as in a writer. An encoding has the same length in both orders of
+/// bits.
 ///
 /// # Examples
 ///
@@ -40,7 +41,7 @@ pub struct BitCounter<N: Counter, E> {
 impl<N: Counter, E: Endianness> BitCounter<N, E> {
     ghost use Rattle.bitstream_sink.specs.Counting.{CountsWord};
 
-    /// Returns a counter to which nothing was written.
+    /// Returns a counter at 0 bits.
     pub fn new() -> BitCounter<N, E>
         ensures { ⟦<BitCounter<N, E> as BitWrite>⟧.sink.len result ≡ 0 }
     {
@@ -50,21 +51,21 @@ impl<N: Counter, E: Endianness> BitCounter<N, E> {
         }
     }
 
-    /// Returns the number of bits that were written.
+    /// Returns the number of bits written.
     pub fn written(&self) -> N
         ensures { N.value result ≡ ⟦<BitCounter<N, E> as BitWrite>⟧.sink.len self.now }
     {
         self.count
     }
 
-    /// Returns the number of bits that were written.
+    /// Returns the number of bits written.
     pub fn into_written(self) -> N
         ensures { N.value result ≡ ⟦<BitCounter<N, E> as BitWrite>⟧.sink.len self }
     {
         self.count
     }
 
-    /// Counts a word of `bits` bits.
+    /// Counts an encoding of `bits` bits.
     ///
     /// # Errors
     ///

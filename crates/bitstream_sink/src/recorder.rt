@@ -146,7 +146,7 @@ impl<N, E: Endianness, A: Allocator> BitRecorder<N, E, A> {
     /// an error, the whole bytes stay written.
     pub fn playback<W: BitWrite>(&self, target: &mut W) -> Result<(), Error>
         // Unless the recorder has failed, the whole bytes are written, and then the bits after them
-        // as one word, up to the first error.
+        // as one number, up to the first error.
         ensures writes { recorder_failed self.now ≡ false →
             WritesAll W.sink (playback_encoders W.sink.order self.now) target.old result target.new }
         // If it succeeds and both have one order, only the recorded bits are appended.

@@ -3,11 +3,11 @@
 use crate::bit_counter::BitCounter;
 use bitstream_order::order::BigEndian;
 
-/// Counts the bits written to it, as [`BitCounter`] does, without a parameter for the order: a word has the same
-/// length in both orders of bits. The counter's own order is big-endian.
+/// Counts the bits written to it, as [`BitCounter`] does, without a parameter for the order: an
+/// encoding has the same length in both orders of bits. The counter's own order is big-endian.
 ///
-/// If the sum is above the greatest number of N, a call returns `CounterOverflow` and adds nothing.
-/// Errors of a width or a value come first, as in a writer.
+/// If the sum is above N's greatest value, a call returns `CounterOverflow` and adds nothing.
+/// Errors of a width or a value are returned first, as in a writer.
 ///
 /// # Examples
 ///

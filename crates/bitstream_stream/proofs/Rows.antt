@@ -14,7 +14,7 @@ use Rattle.bitstream_stream.specs.Writing.WriteTable.{unsigned, unary_word, alig
 four_bytes : List ℕ
 four_bytes = 177 ∷ 237 ∷ 59 ∷ 193 ∷ []
 
--- what is left of their bits behind the first p
+-- the bits left after the first p bits
 left_of : Order → ℕ → List Bool
 left_of o p = drop p (bits o four_bytes)
 
@@ -114,7 +114,7 @@ variable_width :
 unfolding groups digits groups_decoder groups_at digits_number four_bytes signed_groups_decoder and_then
 variable_width = (refl, refl, refl, refl, refl, refl, refl, refl, refl)
 
--- groups of zeros behind others, read strictly and leniently
+-- groups of zeros after others, read strictly and leniently
 redundant_groups :
     ((vbr_decoder High 4 8 (2 ^ 8)).reads 0 (bits High (128 ∷ [])) ≡ Done 8 (Err RedundantGroup))
     × ((any_vbr_decoder High 4 8 (2 ^ 8)).reads 0 (bits High (128 ∷ [])) ≡ Done 8 (Ok 0))

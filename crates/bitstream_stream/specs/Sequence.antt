@@ -1,10 +1,10 @@
--- Runs: what lists of calls mean, made one after another.
+-- Call sequences: the meaning of lists of calls that are made one after another.
 use Rattle.std.specs.Prelude.{ℕ, ◌+◌, Bool, List, [], ◌∷◌, ◌++◌, length, drop, Option, Some, None, Result, Ok, Err}
 use Rattle.bitstream_count.specs.declared.error.Error.{Error}
 use Rattle.bitstream_count.specs.declared.error.Error.TheVariants.{RunTooLong}
 use Rattle.bitstream_count.specs.Codec.{Prefix, Incomplete, Done, Decoder, Encoder}
 
--- the word of an accepted call, and no bits for a rejected one
+-- the encoding of an accepted call, and no bits for a rejected one
 abbrev pub accepted_bits : Result (List Bool) Error → List Bool
 accepted_bits (Ok w) = w
 accepted_bits (Err e) = []
@@ -14,7 +14,7 @@ abbrev pub refusal_if_any : Result (List Bool) Error → Option Error
 refusal_if_any (Ok w) = None
 refusal_if_any (Err e) = Some e
 
--- the words of the accepted calls in their order, each at the length that is reached before it
+-- the encodings of the accepted calls, in the order of the calls; each one is for the length reached before it
 abbrev pub write_sequence : List Encoder → ℕ → List Bool
 write_sequence [] len = []
 write_sequence (decoder ∷ decoders) len =

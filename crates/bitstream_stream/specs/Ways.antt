@@ -1,5 +1,5 @@
--- The streams of readers and writers, and readers and writers after their stream was lent. A reader or writer
--- whose queue was dropped keeps the facts of its type: so lemmas are imported.
+-- The streams of readers and writers, and readers and writers after their stream was lent. Lemmas are imported, because
+-- a reader or writer whose queue was dropped must still satisfy the facts of its type.
 use Rattle.std.specs.Prelude.{◌≡◌, ◌+◌, true, false, [], Result, Ok, Err}
 use Rattle.std.specs.Borrow.{GName}
 use Rattle.std.proofs.Common.{refl}
@@ -50,7 +50,7 @@ byte_reader_with reader stream = record reader { port = with_stream reader.port 
 abbrev pub byte_writer_with : {W E : Type 0} → ByteWriter W E → W → ByteWriter W E
 byte_writer_with writer stream = record writer { port = with_stream writer.port stream }
 
--- a reader whose queue was dropped. One that has failed has none.
+-- a reader whose queue was dropped. A reader that has failed has an empty queue.
 abbrev pub aligned_reader : {R E : Type 0} → BitReader R E → BitReader R E
 aligned_reader reader = record {
   port = reader.port;
@@ -83,7 +83,7 @@ byte_reader_name reader = (port_stream reader.port).at.ghost_name
 abbrev pub byte_writer_name : {W E : Type 0} → ByteWriter (Lent W) E → GName
 byte_writer_name writer = (port_stream writer.port).at.ghost_name
 
--- a writer as another was, but for its stream
+-- a writer that equals another, except for its stream
 pub record IsWriterWith {W E : Type 0} (old : BitWriter W E) (stream : W) (new : BitWriter W E) : Type 0 where
   pub port : new.port ≡ with_stream old.port stream
   pub queue : new.queue ≡ old.queue
@@ -106,7 +106,7 @@ abbrev pub EndsUnaligned : {W E A : Type 0} → Sink (BitWriter W E) → BitWrit
 EndsUnaligned K old result new = Writes {T = Unit {0}} K align old (result_map (λ _. tt) result) new
 
 -- A flush. The writer had failed; or the stream passed on its buffered bytes, and all else is unchanged; or the
--- stream refused the request, as it may, and the writer has failed with an empty queue.
+-- request failed, as the stream allows, and the writer has failed with an empty queue.
 pub data Flushes (may : Refusal → Type 0) (old : WriterState) (result : Result (Unit {0}) Error) (new : WriterState) :
     Type 0 where
   had_failed : old.failed ≡ true → result ≡ Err Failed → new ≡ old → Flushes may old result new

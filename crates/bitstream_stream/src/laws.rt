@@ -55,7 +55,7 @@ pub fn words_join()
 {}
 
 /// Reading or writing the bytes of a number, in the order of the bits, equals reading or writing
-/// the number as one word.
+/// the number by one call.
 pub fn bytes_are_numbers()
     // A read of n bytes returns the bytes of the number that a read of 8 * n bits returns.
     ensures reads { (o : Order) (n p : ℕ) (bits : List Bool) →
@@ -72,8 +72,8 @@ pub fn dropped_queues_are_alignments<R: Source, E: Endianness>()
         reader (Ok tt) (aligned_reader reader) }
 {}
 
-/// If the stream refuses only at the end of its input, a call of any reader returns the result for
-/// a prefix of the bits left, or `EndOfInput` if too few bits are left.
+/// If requests to the stream fail only at the end of its input, a call of any reader returns the
+/// result for a prefix of the bits left, or `EndOfInput` if too few bits are left.
 pub fn ends_are_known<R: BitRead, A>()
     ensures { (decoder : Decoder A) (old new : R) (answer : Result A Error) (bytes : List ℕ)
         → TrueEnds R.source.may
@@ -83,9 +83,9 @@ pub fn ends_are_known<R: BitRead, A>()
         ((R.source.state old).queue ++ bits_of R.source.order bytes)) }
 {}
 
-/// If the stream refuses only at the end of its input, a call that takes n bits, whatever their
-/// values, completes if n bits are left. So one test of the number of bits left shows that no read
-/// of them is refused.
+/// If requests to the stream fail only at the end of its input, a call that takes n bits, whatever
+/// their values, completes if n bits are left. So one test of the number of bits left shows that no
+/// read of them fails.
 pub fn enough_bits_are_known<R: BitRead, A>()
     ensures { (decoder : Decoder A) (n : ℕ) (left : List Bool) (old new : R) (answer : Result A Error)
         → TrueEnds R.source.may → (R.source.state old).failed ≡ false
@@ -95,8 +95,8 @@ pub fn enough_bits_are_known<R: BitRead, A>()
         × (bits_left R.source.order (R.source.state new) ≡ Some (drop n left)) }
 {}
 
-/// A call for a word of a known length completes with that number of bits, and two calls complete
-/// with the sum of both lengths.
+/// A call for an encoding of a known length completes if that number of bits is left. Two calls
+/// complete if the sum of both lengths is left.
 pub fn known_lengths_are_enough<A, B>()
     // One bit.
     ensures bit { IsDoneBy 1 bit_decoder }
@@ -119,13 +119,13 @@ pub fn known_lengths_are_enough<A, B>()
         → ((value : A) → IsDoneBy n (second value)) → IsDoneBy (m + n) (and_then first second) }
 {}
 
-/// A [`Slice`] refuses only at the end of its input.
+/// Requests to a [`Slice`] fail only at the end of its input.
 pub fn slices_end<E: Endianness>()
     ensures { TrueEnds ⟦<BitReader<Slice<'static>, E> as BitRead>⟧.source.may }
 {}
 
-/// If a writer's target refuses only for lack of room, its calls all complete if they are accepted
-/// and there is room for their words.
+/// If requests to a writer's target fail only for lack of room, all calls of the writer complete if
+/// they are accepted and there is room for their encodings.
 pub fn rooms_are_known<W: Target, E: Endianness>()
     ensures { (encoders : List Encoder) (old new : BitWriter W E) (answer : Result (Unit {0}) Error)
         → AllLackRoom ⟦<BitWriter<W, E> as BitWrite>⟧.sink.may
@@ -136,7 +136,8 @@ pub fn rooms_are_known<W: Target, E: Endianness>()
         → WritesAll ⟦<BitWriter<W, E> as BitWrite>⟧.sink encoders old answer new → answer ≡ Ok tt }
 {}
 
-/// If a sink's stream refuses only for lack of room, a write of bytes completes if there is room.
+/// If requests to a sink's stream fail only for lack of room, a write of bytes completes if there
+/// is room.
 pub fn rooms_of_bytes_are_known<W: ByteWrite, A>()
     ensures { (bytes held : List ℕ) (capacity : ℕ) (old new : W) (answer : Result A Error)
         → AllLackRoom W.sink.may → W.sink.limit ≡ None → W.sink.contents old ≡ Some held
@@ -144,7 +145,7 @@ pub fn rooms_of_bytes_are_known<W: ByteWrite, A>()
         → ByteWrites W.sink bytes old answer new → (done : A) × (answer ≡ Ok done) }
 {}
 
-/// A [`SliceMut`] refuses only for lack of room.
+/// Requests to a [`SliceMut`] fail only for lack of room.
 pub fn slices_tell_their_room<E: Endianness>()
     ensures { AllLackRoom ⟦<BitWriter<SliceMut<'static>, E> as BitWrite>⟧.sink.may }
 {}
@@ -170,12 +171,12 @@ pub fn slices_tell_their_rest<E: Endianness>()
         (MayRefuseSeek slice_stream slice_refuses_seek)) }
 {}
 
-/// A [`Slice`] refuses none of the seeks that a seek of a reader makes.
+/// The seek requests that a reader makes to a [`Slice`] never fail.
 pub fn slices_refuse_no_seek()
     ensures { (refusal : Refusal) → MaySeek (MayRefuseSeek slice_stream slice_refuses_seek) refusal → ⊥ }
 {}
 
-/// A reader of bytes in memory is refused only at the end of its input.
+/// Requests of a reader of bytes in memory fail only at the end of its input.
 pub fn memory_ends<E: Endianness>()
     ensures { TrueEnds ⟦<SliceReader<'static, E> as BitRead>⟧.source.may }
 {}

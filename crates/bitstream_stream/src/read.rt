@@ -23,8 +23,8 @@ pub mod slice_reader;
 ///
 /// # Errors
 ///
-/// If the stream refuses a request, a call returns `EndOfInput`, `OutOfMemory` or `Stream` with the
-/// kind of the refusal, and the reader has failed. From then on each call that reads a value
+/// If a request to the stream fails, a call returns `EndOfInput`, `OutOfMemory`, or `Stream` with the
+/// kind of the failure. The reader has then failed. From then on each call that reads a value
 /// returns `Failed`, before any other check and also at a width of 0 bits. After any other error
 /// the reader continues where it was, unless the documentation of the call states otherwise. The
 /// calls below list only their additional errors.
@@ -313,8 +313,8 @@ pub trait BitRead {
     ///
     /// `VariableWidthOverflow` if the number does not fit in U, or if a group begins beyond the
     /// bits of U. `RedundantGroup` if there are two or more groups and the last one is 0. So each
-    /// number has only one accepted word. After an error, the groups up to the faulty one have been
-    /// taken, and the reader continues after them.
+    /// number has only one accepted encoding. After an error, the groups up to the faulty one have
+    /// been taken, and the reader continues after them.
     fn read_unsigned_vbr<F: Width, U: UnsignedInteger>(&mut self) -> Result<U, Error>
         requires some { 2 ≤ F.BITS }
         requires within { F.BITS < U.BITS_SIZE }
@@ -329,7 +329,7 @@ pub trait BitRead {
     ///
     /// # Errors
     ///
-    /// `VariableWidthOverflow`, as [`read_unsigned_vbr`](BitRead::read_unsigned_vbr).
+    /// `VariableWidthOverflow`, as for [`read_unsigned_vbr`](BitRead::read_unsigned_vbr).
     fn read_unsigned_vbr_any<F: Width, U: UnsignedInteger>(&mut self) -> Result<U, Error>
         requires some { 2 ≤ F.BITS }
         requires within { F.BITS < U.BITS_SIZE }
@@ -375,7 +375,7 @@ pub trait BitRead {
     fn by_ref(&mut self) -> &mut Self
         // It refers to this reader, unchanged.
         ensures value { result.now ≡ self.old }
-        // It is this very reference, so calls on it change this reader.
+        // The result is this same reference, so calls on it change this reader.
         ensures same_reference { result.ghost_name ≡ self.entry.ghost_name }
     {
         self

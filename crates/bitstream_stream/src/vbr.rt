@@ -31,8 +31,8 @@ pub fn vbr_bits<F: Width, U: UnsignedInteger>(value: U) -> u32
 }
 
 /// Splits a number into its first group and the rest, which the later groups hold. The first group
-/// is the lowest digits, below a bit of 1 that states that another group follows. Returns `None` if
-/// one group holds the number.
+/// holds the lowest digits. The bit above them is 1: another group follows. Returns `None` if one
+/// group holds the number.
 #[inline(always)]
 pub(crate) fn split_group<F: Width, U: UnsignedInteger>(value: U) -> Option<(U, U)>
     requires some { 2 ≤ F.BITS }
@@ -41,7 +41,7 @@ pub(crate) fn split_group<F: Width, U: UnsignedInteger>(value: U) -> Option<(U, 
     // second part, which is less than the number.
     ensures first { IfSome result (λ parts.
         IsFirstGroup F.BITS (U.value value) (U.value parts.0) (U.value parts.1)) }
-    // If `None` is returned, the number has one group, which is its word at `F::BITS` bits.
+    // If `None` is returned, the number has one group: its encoding in `F::BITS` bits.
     ensures last { result ≡ None → IsLastGroup F.BITS (U.value value) }
 {
     let payload = F::BITS - 1;

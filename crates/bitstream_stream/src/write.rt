@@ -15,11 +15,12 @@ pub mod writer;
 ///
 /// # Errors
 ///
-/// If the stream refuses a request, a call returns `OutOfMemory` or `Stream` with the kind of the
-/// refusal, and the sink has failed: its queued bits are lost. From then on each call that writes
-/// returns `Failed`, before any other check and also at a width of 0 bits. A sink with a limit
-/// returns `CounterOverflow` if the bits would exceed the limit. After this and any other error no
-/// bit is written, and the sink is unchanged. The calls below list only their additional errors.
+/// If a request to the stream fails, a call returns `OutOfMemory`, or `Stream` with the kind of the
+/// failure. The sink has then failed, and its queued bits are lost. From then on each call that
+/// writes returns `Failed`, before any other check and also at a width of 0 bits. A sink with a
+/// limit returns `CounterOverflow` if the bits would exceed the limit. After this and any other
+/// error no bit is written, and the sink is unchanged. The calls below list only their additional
+/// errors.
 ///
 /// # Examples
 ///
@@ -281,7 +282,7 @@ pub trait BitWrite {
     fn by_ref(&mut self) -> &mut Self
     where
         Self: Sized,
-        // It is this very reference, so calls on it change this sink.
+        // The result is this same reference, so calls on it change this sink.
         ensures same_reference { result.ghost_name ≡ self.entry.ghost_name }
         // It refers to this sink, unchanged.
         ensures same_value { result.now ≡ self.old }

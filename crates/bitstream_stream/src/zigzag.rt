@@ -4,7 +4,7 @@ ghost use Rattle.bitstream_number.specs.Word.{zig, zag};
 
 use bitstream_number::number::{Numeric, SignedInteger, UnsignedInteger};
 
-/// Returns the place of a signed number in that order.
+/// Returns the place of a signed number in the zigzag order.
 pub(crate) fn zigzag<S: SignedInteger>(number: S) -> S::Unsigned
     ensures { S.Unsigned.value result ≡ zig (S.integer number) }
 {
@@ -16,7 +16,7 @@ pub(crate) fn zigzag<S: SignedInteger>(number: S) -> S::Unsigned
     }
 }
 
-/// Returns the signed number at a place of that order.
+/// Returns the signed number at a place in the zigzag order.
 pub(crate) fn unzigzag<S: SignedInteger>(place: S::Unsigned) -> S
     ensures { S.integer result ≡ zag (S.Unsigned.value place) }
 {

@@ -41,7 +41,7 @@ module _ {R : Type 0} {K : BitSource R} where
   items-later e n zero h = rw (zero-add n) h
   items-later e n (suc k) h = rw (suc-add k n, items-suc e (k + n)) (Reads-and_then-err _ _ (items-later e n k h))
 
-  -- an item that is refused, or meets a fault
+  -- an item that fails, or meets a fault
   pub items-stop : {A : Type 0} (e : Decoder A) (n all : ℕ) (xs : List A) {x : Error} {s t z : R} → n < all
       → Reads K (items_decoder e n) s (Ok xs) t → Reads K e t (Err x) z → Reads K (items_decoder e all) s (Err x) z
   items-stop e n all xs {x = x} {s = s} {z = z} more h k =

@@ -1,4 +1,4 @@
--- What is written is read back: the read of a value finds the value in the word that its write made.
+-- What is written is read back: the read of a value finds the value in the encoding that its write made.
 -- A caller's proof is `search (round_trip, FACTS)`, where the facts say that the values fit their widths.
 use Rattle.std.proofs.Common.{◌≡◌, ℕ, ℤ, ◌+◌, ◌^◌, ◌<◌, ◌≤◌, Bool, true, List, [], ◌∷◌, ◌++◌, length, Ok, refl, ◌∙◌, arith}
 use Rattle.std.proofs.Math.Nat.{mod-eq_of_lt}
@@ -27,7 +27,7 @@ pub signed-word : (o : Order) (size n : ℕ) → 1 ≤ n → n ≤ size
 unfolding signed_decoder
 signed-word o size n some le = record { reads = λ p b. rw (ne_eqb n 0 (λ e. omega arith), le-leb n size le) refl }
 
--- a call that takes a word, and one that writes it, and those behind them
+-- a call that takes an encoding, and one that writes it, and those after them
 pub word-back : {A B : Type 0} (e : Decoder A) (n : ℕ) (g : List Bool → A) (x : Encoder) (w : List Bool)
     (a : A) (f : A → Decoder B) (es : List Encoder) (b : B)
     → IsWord e n (λ v. Ok (g v)) → ((len : ℕ) → x len ≡ Ok w) → length w ≡ n → g w ≡ a → RoundTrip (f a) es b

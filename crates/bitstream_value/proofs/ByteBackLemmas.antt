@@ -1,4 +1,4 @@
--- Bytes that a read of bytes takes, whatever stands behind them, and what it answers then: how a caller's law of
+-- Bytes that a read of bytes takes, whatever is after them, and what it returns then: how a caller's law of
 -- reading back goes through its parts.
 use Rattle.std.proofs.Common.{◌≡◌, ℕ, suc, ◌+◌, ◌*◌, ◌^◌, ◌<◌, List, [], ◌∷◌, ◌++◌, length, Result, Ok, refl, sym, ap, ◌∙◌, subst, append_assoc, append-nil, length-append, arith}
 use Rattle.std.specs.List.{All, AllByRecursion, flat_map}
@@ -14,7 +14,7 @@ use Rattle.bitstream_value.specs.ByteTypes.{byte_and_then, byte_pure, byte_store
 use Rattle.bitstream_value.proofs.ByteSteps.{and_then-ok, bytes_in, number-bytes}
 use Rattle.bitstream_value.proofs.ByteGrowsLemmas.{byte_parts-suc}
 
--- these bytes are taken, whatever follows, and this is answered
+-- these bytes are taken, whatever follows, and this is returned
 abbrev pub BytesBack : {A : Type 0} → ByteDecoder A → List ℕ → A → Type 0
 BytesBack e taken a = (more : List ℕ) → e.reads (taken ++ more) ≡ Done (length taken) (Ok a)
 
@@ -34,7 +34,7 @@ and_then-back e f u v a b first second = λ more.
     rw (append_assoc u v more, length-append u v)
     (and_then-ok e f u (v ++ more) a (Done (length v) (Ok b)) (first (v ++ more)) (second more))
 
--- a read whose answer goes into another
+-- a read whose result goes into another
 pub made-back : {A B : Type 0} (e : ByteDecoder A) (f : A → B) (u : List ℕ) (a : A) → BytesBack e u a
     → BytesBack (byte_and_then e (λ x. byte_pure (f x))) u (f a)
 made-back e f u a first =
@@ -54,7 +54,7 @@ number-back o n v fits =
     (made-back (given_bytes n) (λ w. number o (bits o w)) (bytes_in o n v) (bytes_in o n v)
     (given-back n (bytes_in o n v) (length-bytes_in o n v)))
 
--- a part with errors of its own, which answers none, and what stands behind it
+-- a part with errors of its own, which returns none, and what is after it
 pub byte_part-back : {A B E : Type 0} (e : ByteDecoder (Result A E)) (f : A → ByteDecoder (Result B E))
     (u v : List ℕ) (a : A) (b : Result B E) → BytesBack e u (Ok a) → BytesBack (f a) v b
     → BytesBack (byte_and_then e (byte_part_then f)) (u ++ v) b

@@ -48,9 +48,9 @@ vec_bytes-allocates n w few = elim (cases_lt (length w) n) [
       cc
 ]
 
--- ---- memory that was refused
+-- ---- allocations that failed
 
--- memory was refused here, where a call may allocate
+-- an allocation failed here, where a call may allocate
 pub bytes-growth-here : {R A : Type 0} {K : ByteSource R} (e : ByteDecoder A) (s : R) → IsTrue (e.allocates [])
     → ByteGrowingOutcome K e s (Err OutOfMemory) s
 bytes-growth-here {K = K} e s asked = between_reads (record {
@@ -171,7 +171,7 @@ module _ {R A B E : Type 0} {K : ByteSource R} {becomes : Error → E → Type 0
       → ByteGrowsOwn K becomes (byte_and_then e f) s r t
   stop_grown_bytes {x = x} h k = record { plain = Err x; called = bytes-grow-err e f h; answer = k }
 
-  -- a read whose answer a `?` looked at, and what follows it, or the end
+  -- a read whose result a `?` checked, and what follows it, or the end
   pub then_grown_bytes : {z : R} {a : A} {answer : Result A Error} {flow : ControlFlow _ A} → ByteReads K e s answer t
       → answer ≡ result_from_control_flow flow → flow ≡ Continue a → ByteGrowsOwn K becomes (f a) t r z
       → ByteGrowsOwn K becomes (byte_and_then e f) s r z
@@ -184,7 +184,7 @@ module _ {R A B E : Type 0} {K : ByteSource R} {becomes : Error → E → Type 0
   end_grown_bytes h p q k =
       stop_grown_bytes (bytes_grown (subst (λ x. ByteReads K e s x t) (p ∙ ap result_from_control_flow q) h)) k
 
--- a read into a vector, whose answer is seen by a view
+-- a read into a vector, whose result is seen by a view
 module _ {R B E : Type 0} {K : ByteSource R} {becomes : Error → E → Type 0} (n : ℕ) (f : List ℕ
     → ByteDecoder (Result B E)) {r : Result B E} {s t : R} where
   pub then_growing_bytes : {V : Type 0} (view : V → List ℕ) {z : R} {v : V} {answer : Result V Error}
@@ -221,7 +221,7 @@ module _ {R B E : Type 0} {K : ByteSource R} {becomes : Error → E → Type 0} 
       (p ∙ ap result_from_control_flow q) h in
       stop_grown_bytes f (bytes_grown (number_stops o n read)) k
 
--- the answer behind all reads: a value, or an error of the type's own
+-- the result after all reads: a value, or an error of the type's own
 pub grown_bytes_end : {R A E : Type 0} {K : ByteSource R} {becomes : Error → E → Type 0} (r : Result A E) (s : R)
     → ByteGrowsOwn K becomes (byte_pure r) s r s
 grown_bytes_end r s = record { plain = Ok r; called = by_reads (nothing_read r s); answer = refl }
@@ -272,7 +272,7 @@ module _ {R A B E : Type 0} {K : ByteSource R} {becomes : Error → E → Type 0
       → ByteGrowsOwn K becomes (byte_and_then e (byte_part_then f)) s r t
   byte_part_stop {x = x} h is = part_stops f x h.plain is h.called h.answer
 
-  -- one whose answer a `?` looked at, and what follows it, or the end
+  -- one whose result a `?` checked, and what follows it, or the end
   pub then_growing_byte_part : {z : R} {a : A} {answer : Result A E} {flow : ControlFlow _ A}
       → ByteGrowsOwn K becomes e s answer t → answer ≡ result_from_control_flow flow → flow ≡ Continue a
       → ByteGrowsOwn K becomes (f a) t r z → ByteGrowsOwn K becomes (byte_and_then e (byte_part_then f)) s r z
@@ -306,7 +306,7 @@ pub byte_parts-suc : {A E : Type 0} (e : ByteDecoder (Result A E)) (n : ℕ) →
 unfolding byte_parts
 byte_parts-suc e n = refl
 
--- a value that was stored, behind all reads
+-- a value that was stored, after all reads
 stored_bytes_end : {R A E : Type 0} {K : ByteSource R} {becomes : Error → E → Type 0} (r : Result A E) (s : R)
     → ByteGrowsOwn K becomes (byte_stores r) s r s
 stored_bytes_end {K = K} r s = record {
@@ -326,7 +326,7 @@ module _ {R A E : Type 0} {K : ByteSource R} {becomes : Error → E → Type 0} 
   unfolding byte_parts
   byte_parts-begin {s = s} none = rw none (grown_bytes_end (Ok []) s)
 
-  -- one more, pushed behind the others
+  -- one more, pushed after the others
   pub byte_parts-push : (n : ℕ) {xs ys : List A} {x : A} {s t z : R} → ys ≡ xs ++ x ∷ []
       → BytePartsRead K becomes e n s xs t → ByteGrowsOwn K becomes e t (Ok x) z
       → BytePartsRead K becomes e (n + 1) s ys z

@@ -53,7 +53,7 @@ pub none_needed : (prefix : List ℕ) (b : ℕ) (back : List ℕ) → [] ≡ pre
 none_needed [] b back e = cc
 none_needed (c ∷ prefix) b back e = cc
 
--- a beginning of the bytes of two reads, one behind the other, is too short for both
+-- a beginning of the bytes of two reads, one after the other, is too short for both
 module _ {A B : Type 0} (e : ByteDecoder A) (f : A → ByteDecoder B) where
   pub and_then-needs : (u v : List ℕ) (a : A) → ((more : List ℕ) → e.reads (u ++ more) ≡ Done (length u) (Ok a))
       → ((prefix : List ℕ) (b : ℕ) (back : List ℕ) → u ≡ prefix ++ b ∷ back → e.reads prefix ≡ Incomplete)
@@ -156,7 +156,7 @@ nothing_read {K = K} a s = was_done (record {
 
 -- ---- numbers
 
--- the n bytes of a number in an order, as `read` answers it
+-- the n bytes of a number in an order, as `read` returns it
 abbrev pub bytes_in : Order → ℕ → ℕ → List ℕ
 bytes_in o n = value_bytes o (λ (x : ℕ). bytes High n x) (λ (x : ℕ). bytes Low n x)
 
@@ -189,7 +189,7 @@ module _ {R A B E : Type 0} {K : ByteSource R} {becomes : Error → E → Type 0
       → ByteReadsOwn K becomes (byte_and_then e f) s r t
   own_stops {x = x} h k = record { plain = Err x; called = and_then_stops e f h; answer = k }
 
-  -- a read whose answer a `?` looked at, and what follows it, or the end
+  -- a read whose result a `?` checked, and what follows it, or the end
   module _ {answer : Result A Error} {flow : ControlFlow _ A} where
     pub then_bytes : {z : R} {a : A} → ByteReads K e s answer t → answer ≡ result_from_control_flow flow → flow
         ≡ Continue a → ByteReadsOwn K becomes (f a) t r z → ByteReadsOwn K becomes (byte_and_then e f) s r z
@@ -218,7 +218,7 @@ module _ {R B E : Type 0} {K : ByteSource R} {becomes : Error → E → Type 0} 
       (p ∙ ap result_from_control_flow q) h in
       own_stops f (number_stops o n read) k
 
--- the answer behind all reads: a value, or an error of the type's own
+-- the result after all reads: a value, or an error of the type's own
 pub bytes_end : {R A E : Type 0} {K : ByteSource R} {becomes : Error → E → Type 0} (r : Result A E) (s : R)
     → ByteReadsOwn K becomes (byte_pure r) s r s
 bytes_end r s = record { plain = Ok r; called = nothing_read r s; answer = refl }

@@ -25,7 +25,7 @@ plainly_written K buffers (Err x) s t h = record { plain = Err x; called = h; an
 
 module _ {S : Type 0} (K : ByteSink S) (buffer : List ℕ) (buffers : List (List ℕ)) (r : Result (Unit {0}) Error)
     (s t : S) (answer : Result (Unit {0}) Error) where
-  -- a call whose answer a `?` looked at, and what follows it
+  -- a call whose result a `?` checked, and what follows it
   pub then_buffer : (z : S) (flow : ControlFlow _ (Unit {0})) → ByteWrites K buffer s answer t → answer
       ≡ result_from_control_flow flow → flow ≡ Continue tt → ByteWritesAll K buffers t r z
       → ByteWritesAll K (buffer ∷ buffers) s r z
@@ -123,7 +123,7 @@ module _ {S : Type 0} (K : ByteSink S) (most : ℕ) (limit : K.limit ≡ Some mo
       let others = all_error buffers p.0 x t p.2 in
       (others.0, omega (arith, first, others.1))
 
-  -- what they answer on a new counter
+  -- what they return on a new counter
   held_as : (buffers : List (List ℕ)) (s : S) (plain : Result (Unit {0}) Error) (t : S) → K.len s ≡ 0
       → ByteWritesAll K buffers s plain t → held_by most (total_length buffers) ≡ result_then plain (λ _. Ok (K.len t))
   held_as buffers s (Ok v) t start h =
@@ -135,7 +135,7 @@ module _ {S : Type 0} (K : ByteSink S) (most : ℕ) (limit : K.limit ≡ Some mo
       let error = all_error buffers s x t h in
       if-true _ _ _ (past most (total_length buffers) (omega (arith, error.1, start))) ∙ ap Err (sym error.0)
 
--- ---- what is answered for a count of the bytes of calls
+-- ---- what is returned for a count of the bytes of calls
 
 counted_by : {C E : Type 0} (value : C → ℕ) (most : ℕ) (becomes : Error → E → Type 0) (buffers : List (List ℕ))
     (answer : Result (Unit {0}) E) (x : Result ℕ Error) (r : Result C E)
@@ -161,7 +161,7 @@ module _ {S C E : Type 0} (K : ByteSink S) (most : ℕ) (value : C → ℕ) (bec
   done_by c (Err x) all is own = absurd own
 
   module _ (limit : K.limit ≡ Some most) (never : (x : Refusal) → K.may x → ⊥) (start : K.len s ≡ 0) where
-    -- behind calls on a new counter that answered an error
+    -- after calls on a new counter that returned an error
     pub count_stopped : (error : E) (r : Result C E) → IsErrAnd r (λ y. y ≡ error)
         → ByteWritesOwn K becomes buffers answer s (Err error) t → CountsBytes value most becomes buffers answer r
     count_stopped error (Ok c) left h = absurd left
@@ -169,7 +169,7 @@ module _ {S C E : Type 0} (K : ByteSink S) (most : ℕ) (value : C → ℕ) (bec
         subst (λ z. CountsBytes value most becomes buffers answer (Err z)) (sym left)
         (stopped_by error h.plain (held_as K most limit never buffers s h.plain t start h.called) h.answer)
 
-    -- and behind calls that were done
+    -- and after calls that were done
     pub count_done : (c : C) → value c ≡ K.len t → ByteWritesOwn K becomes buffers answer s (Ok tt) t
         → CountsBytes value most becomes buffers answer (Ok c)
     count_done c is h = done_by c h.plain is (held_as K most limit never buffers s h.plain t start h.called) h.answer

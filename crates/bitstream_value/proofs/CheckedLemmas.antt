@@ -30,7 +30,7 @@ signed_from-fits n k some below = elim (cases_lt k (2 ^ (n - 1))) [
   | inr more ↦ rw (le-ltb k (2 ^ (n - 1)) more) (omega (arith, half n some, below, more))
 ]
 
--- a word of n bits that was read, as a two's complement
+-- an encoding of n bits that was read, as a two's complement
 prefix-fits : (o : Order) (n k : ℕ) (w : List Bool) (x : ℤ) → 0 < n → word_prefix n (λ v. Ok (signed_number o v)) w
     ≡ Done k (Ok x) → FitsSignedBits n x
 prefix-fits o n k w x some is = elim (split n w) [
@@ -92,7 +92,7 @@ module _ {R : Type 0} {K : BitSource R} (o : Order) (size n : ℕ) {s t : R} whe
             (sym ((signed-word o size n some le).reads (K.state s).taken (d.word ++ [])) ∙ d.decides []),
       )
 
-  -- so the count holds whatever a call answered
+  -- so the count holds whatever a call returned
   pub unsigned-held : {B : Type 0} (view : B → ℕ) (r : Result B Error)
       → Reads K (unsigned_decoder o size n) s (result_map view r) t → IfOk r (λ v. HoldsUnsigned size n (view v))
   unsigned-held view (Ok v) h = unsigned-holds h
@@ -105,7 +105,7 @@ module _ {R : Type 0} {K : BitSource R} (o : Order) (size n : ℕ) {s t : R} whe
 
 -- ---- reads
 
--- an answer that is kept with a count, by the number that is seen of it
+-- a result that is kept with a count, by the number that is seen of it
 module _ {B C N : Type 0} (view : B → N) (to_int : N → ℤ) (count : C) (e : Decoder N) {R : Type 0} {K : BitSource R}
     {s t : R} where
   kept-ok : {a : N} {d : C} {z : ℤ} → d ≡ count → z ≡ to_int a → Reads K e s (Ok a) t
@@ -132,7 +132,7 @@ module _ {B C : Type 0} (count : C) {R : Type 0} {K : BitSource R} (o : Order) (
 
 -- ---- writes
 
--- a value that its count holds is its word
+-- a value that its count holds is its encoding
 module _ {S T : Type 0} (K : Sink S) (o : Order) (size : ℕ) {m k n : ℕ} {r : Result T Error} {s t : S} where
   pub writes-held : {u v : ℕ} → m ≡ k → k ≡ n → u ≡ v → HoldsUnsigned size k u → Writes K (unsigned o size m u) s r t
       → Writes K (plain (word o n v)) s r t

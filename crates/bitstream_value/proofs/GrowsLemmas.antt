@@ -74,9 +74,9 @@ vec-allocates o n p w few = elim (split (8 * n) w) [
       cc
 ]
 
--- ---- memory that was refused
+-- ---- allocations that failed
 
--- the same refusal, as one of another call
+-- the same failure, as one of another call
 lacks_as : {A B : Type 0} (o : Order) (d : Decoder A) (e : Decoder B) (r : Result A Error) (x : Result B Error)
     (s t : ReaderState) (h : ReadLacksMemory o d s r t) → x ≡ Err OutOfMemory
     → e.reads s.taken h.refused.word ≡ Incomplete → IsTrue (e.allocates s.taken h.refused.word)
@@ -100,7 +100,7 @@ lacks_as o d e r x s t h is few asked = record {
   asked = asked;
 }
 
--- memory was refused here, where a call may allocate
+-- an allocation failed here, where a call may allocate
 pub growth-here : {R A : Type 0} {K : BitSource R} (e : Decoder A) (s : R) → (K.state s).failed ≡ false
     → IsTrue (e.allocates (K.state s).taken []) → GrowingOutcome K e s (Err OutOfMemory) s
 growth-here {K = K} e s fine asked = between_reads (record {
@@ -121,7 +121,7 @@ refused-first o e f x s t h = record {
   took = h.took;
 }
 
--- what no beginning of two words decides
+-- what no beginning of two encodings decides
 after_first : {A B : Type 0} (o : Order) (e : Decoder A) (f : A → Decoder B) (a : A) (s t : ReaderState)
     (h : ReadDone o e s (Ok a) t) → Behind (and_then e f) s.taken h.word (f a) t.taken
 after_first o e f a s t h = record {
@@ -131,7 +131,7 @@ after_first o e f a s t h = record {
 }
 
 module _ {R A B : Type 0} {K : BitSource R} (e : Decoder A) (f : A → Decoder B) where
-  -- the first call was done, and then memory was refused
+  -- the first call was done, and then an allocation failed
   refused-behind : {a : A} {r : Result B Error} {s t z : R} → Reads K e s (Ok a) t
       → GrowthRefused K.order (f a) (K.state t) r (K.state z)
       → GrowthRefused K.order (and_then e f) (K.state s) r (K.state z)
@@ -150,7 +150,7 @@ module _ {R A B : Type 0} {K : BitSource R} (e : Decoder A) (f : A → Decoder B
   refused-behind (was_refused h) k = let p = h.answer in cc
   refused-behind (memory_refused g h) k = cc
 
-  -- the first call was done, and then memory was refused to the second
+  -- the first call was done, and then an allocation of the second failed
   lacks-behind : {a : A} {r : Result B Error} {s t z : R} → Reads K e s (Ok a) t
       → ReadLacksMemory K.order (f a) (K.state t) r (K.state z)
       → ReadLacksMemory K.order (and_then e f) (K.state s) r (K.state z)
@@ -208,7 +208,7 @@ module _ {R A B : Type 0} {K : BitSource R} (e : Decoder A) (f : A → Decoder B
   grows-and_then-err {x = x} {s = s} {t = t} (between_reads h) =
       between_reads (refused-first K.order e f x (K.state s) (K.state t) h)
 
--- a call that answered with a value on a reader that goes on
+-- a call that returned a value on a reader that goes on
 still_fine : {R A : Type 0} {K : BitSource R} {e : Decoder A} {a : A} {s t : R} → e.on_failed ≡ Err Failed
     → GrowingOutcome K e s (Ok a) t → (K.state t).failed ≡ false
 still_fine failed (by_reads h) = (ok_prefix failed h).failed
@@ -241,7 +241,7 @@ pub if_grown : {R A E : Type 0} {K : BitSource R} {becomes : Error → E → Typ
 if_grown true h = h
 if_grown false h = record { plain = h.plain; called = grown h.called; answer = h.answer }
 
--- memory was refused here, where a call may allocate
+-- an allocation failed here, where a call may allocate
 pub own_refused : {R A E : Type 0} {K : BitSource R} {becomes : Error → E → Type 0} (e : Decoder (Result A E))
     (r : Result A E) (s : R) → (K.state s).failed ≡ false → IsTrue (e.allocates (K.state s).taken [])
     → IsErrAnd r (becomes OutOfMemory) → GrowsOwn K becomes e s r s
@@ -257,7 +257,7 @@ module _ {R A B E : Type 0} {K : BitSource R} {becomes : Error → E → Type 0}
       → GrowsOwn K becomes (and_then e f) s r t
   stop_grown {x = x} h k = record { plain = Err x; called = grows-and_then-err e f h; answer = k }
 
-  -- a read whose answer a `?` looked at, and what follows it, or the end
+  -- a read whose result a `?` checked, and what follows it, or the end
   pub then_grown_read : {z : R} {a : A} {answer : Result A Error} {flow : ControlFlow _ A} → Reads K e s answer t
       → answer ≡ result_from_control_flow flow → flow ≡ Continue a → GrowsOwn K becomes (f a) t r z
       → GrowsOwn K becomes (and_then e f) s r z
@@ -268,7 +268,7 @@ module _ {R A B E : Type 0} {K : BitSource R} {becomes : Error → E → Type 0}
       → GrowsOwn K becomes (and_then e f) s r t
   end_grown_read h p q k = stop_grown (grown (subst (λ x. Reads K e s x t) (p ∙ ap result_from_control_flow q) h)) k
 
--- a read into a vector, whose answer is seen by a view
+-- a read into a vector, whose result is seen by a view
 module _ {R B E : Type 0} {K : BitSource R} {becomes : Error → E → Type 0} (o : Order) (n : ℕ) (f : List ℕ
     → Decoder (Result B E)) {r : Result B E} {s t : R} where
   pub then_growing : {V : Type 0} (view : V → List ℕ) {z : R} {v : V} {answer : Result V Error} {flow : ControlFlow _ V}
@@ -285,7 +285,7 @@ module _ {R B E : Type 0} {K : BitSource R} {becomes : Error → E → Type 0} (
       stop_grown f (vec-grown o n (subst (λ x. ReadsGrowing K (bytes_decoder o n) s (result_map view x) t)
       (p ∙ ap result_from_control_flow q) h)) k
 
--- the answer behind all reads: a value, or an error of the type's own
+-- the result after all reads: a value, or an error of the type's own
 pub grown_end : {R A E : Type 0} {K : BitSource R} {becomes : Error → E → Type 0} (r : Result A E) (s : R)
     → GrowsOwn K becomes (pure r) s r s
 grown_end r s = record { plain = Ok r; called = by_reads (Reads-pure r s); answer = refl }
@@ -382,7 +382,7 @@ item-refused {K = K} e a s t failed read =
     })
 
 module _ {R A : Type 0} {K : BitSource R} (e : Decoder A) where
-  -- some of the items were read, and then memory was refused
+  -- some of the items were read, and then an allocation failed
   items-lack : (k all : ℕ) (s t : R) → GrowingOutcome K (items_decoder e k) s (Err OutOfMemory) t
       → (k ≡ all) ⊎ (k < all) → GrowingOutcome K (items_decoder e all) s (Err OutOfMemory) t
   items-lack k all s t h (inl is) = subst (λ n. GrowingOutcome K (items_decoder e n) s (Err OutOfMemory) t) is h
@@ -429,7 +429,7 @@ parts-suc : {A E : Type 0} (e : Decoder (Result A E)) (n : ℕ) → parts_decode
 unfolding parts_decoder
 parts-suc e n = refl
 
--- a value that was stored, behind all reads
+-- a value that was stored, after all reads
 stored_end : {R A E : Type 0} {K : BitSource R} {becomes : Error → E → Type 0} (r : Result A E) (s : R)
     → GrowsOwn K becomes (stores r) s r s
 stored_end r s = record {
@@ -450,7 +450,7 @@ module _ {R A E : Type 0} {K : BitSource R} {becomes : Error → E → Type 0} (
   unfolding parts_decoder
   parts-begin {s = s} none = rw none (grown_end (Ok []) s)
 
-  -- one more, pushed behind the others
+  -- one more, pushed after the others
   pub parts-push : (n : ℕ) {xs ys : List A} {x : A} {s t z : R} → ys ≡ xs ++ x ∷ [] → PartsRead K becomes e n s xs t
       → GrowsOwn K becomes e t (Ok x) z → PartsRead K becomes e (n + 1) s ys z
   parts-push n {s = s} {z = z} is h k =
@@ -486,10 +486,10 @@ pub grown_is : {R A E : Type 0} {K : BitSource R} {becomes : Error → E → Typ
     → GrowsOwn K becomes (pure x) s r s
 grown_is {x = x} {s = s} is = rw (sym is) (grown_end x s)
 
--- ---- what is answered over a stream that refuses at true ends alone: the prefix's answer or the end, or that memory was
--- refused
+-- ---- what is returned over a stream that fails only at the end of input: the prefix's result or the end, or that an
+-- allocation failed
 
--- all bits left begin with the word that a call took until memory was refused
+-- all bits left begin with the encoding that a call took until an allocation failed
 lacks_left : {A : Type 0} (o : Order) (e : Decoder A) (r : Result A Error) (s t : ReaderState)
     → ReadLacksMemory o e s r t → (xs : List ℕ) → s.bytes ≡ Some xs → MayAllocate e s.taken (s.queue ++ bits o xs)
 lacks_left o e r s t h xs known =

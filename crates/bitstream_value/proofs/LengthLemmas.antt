@@ -49,7 +49,7 @@ module _ (most : ℕ) (e : Encoder) (es : List Encoder) (n : ℕ) where
 
 module _ {S : Type 0} (K : Sink S) (most : ℕ) (limit : K.limit ≡ Some most) (sound : (s : S) → K.failed s
     ≡ false) (never : (x : Refusal) → K.may x → ⊥) where
-  -- one call that answered an error
+  -- one call that returned an error
   one_error : (e : Encoder) (es : List Encoder) (s : S) (x : Error) (t : S)
       → Writes {T = Unit {0}} K e s (Err x) t → counted_bits most (e ∷ es) (K.len s) ≡ Err x
   one_error e es s x t (had_failed f is k) = let fine = sound s in cc
@@ -60,7 +60,7 @@ module _ {S : Type 0} (K : Sink S) (most : ℕ) (limit : K.limit ≡ Some most) 
   one_error e es s x t (was_refused w y f en le is k) = absurd (never k.refusal k.allowed)
   one_error e es s x t (was_done w v f en le is k) = cc
 
-  -- one that answered `Ok`
+  -- one that returned `Ok`
   one_done : (e : Encoder) (es : List Encoder) (s t : S) → Writes {T = Unit {0}} K e s (Ok tt) t
       → counted_bits most (e ∷ es) (K.len s) ≡ counted_bits most es (K.len t)
   one_done e es s t (had_failed f is k) = cc
@@ -80,7 +80,7 @@ module _ {S : Type 0} (K : Sink S) (most : ℕ) (limit : K.limit ≡ Some most) 
   all_counted (e ∷ es) s (Err x) t (inl p) = one_error e es s x t p.1
   all_counted (e ∷ es) s r t (inr p) = one_done e es s p.0 p.1 ∙ all_counted es p.0 r t p.2
 
--- ---- what is answered for a count of the bits of calls
+-- ---- what is returned for a count of the bits of calls
 
 counted_by : {C E : Type 0} (value : C → ℕ) (most : ℕ) (becomes : Error → E → Type 0) (es : List Encoder)
     (answer : Result (Unit {0}) E) (x : Result ℕ Error) (r : Result C E)
@@ -107,7 +107,7 @@ module _ {S C E : Type 0} (K : Sink S) (most : ℕ) (value : C → ℕ) (becomes
 
   module _ (limit : K.limit ≡ Some most) (sound : (s : S) → K.failed s ≡ false) (never : (x : Refusal) → K.may x
       → ⊥) (start : K.len s ≡ 0) where
-    -- behind calls on a new counter that answered an error
+    -- after calls on a new counter that returned an error
     pub count_stopped : (error : E) (r : Result C E) → IsErrAnd r (λ y. y ≡ error)
         → WritesOwn K becomes es answer s (Err error) t → CountsBits value most becomes es answer r
     count_stopped error (Ok c) left h = absurd left
@@ -116,7 +116,7 @@ module _ {S C E : Type 0} (K : Sink S) (most : ℕ) (value : C → ℕ) (becomes
         ∙ all_counted K most limit sound never es s h.plain t h.called in
         subst (λ z. CountsBits value most becomes es answer (Err z)) (sym left) (stopped_by error h.plain all h.answer)
 
-    -- and behind calls that were done
+    -- and after calls that were done
     pub count_done : (c : C) → value c ≡ K.len t → WritesOwn K becomes es answer s (Ok tt) t
         → CountsBits value most becomes es answer (Ok c)
     count_done c is h =
@@ -191,7 +191,7 @@ module _ {S : Type 0} (K : Sink S) where
         omega (arith, first.2, others.2),
       )
 
-  -- behind calls that were done, the same calls answered an `Ok`
+  -- after calls that were done, the same calls returned an `Ok`
   accepted_answer : {E : Type 0} (becomes : Error → E → Type 0) (answer : Result (Unit {0}) E)
       (es : List Encoder) (s t : S) (plain : Result (Unit {0}) Error) → WritesAll K es s plain t
       → OwnAnswer becomes (λ _. answer) plain (Ok tt)

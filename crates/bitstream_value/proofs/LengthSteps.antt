@@ -1,4 +1,4 @@
--- Lists of write calls whose words have one length in both orders of bits: `search lengths`.
+-- Lists of write calls whose encodings have one length in both orders of bits: `search lengths`.
 use Rattle.std.proofs.Common.{◌≡◌, ℕ, ◌+◌, ◌^◌, ◌%◌, Bool, true, false, List, [], ◌∷◌, length, Result, Ok, Err, refl, sym, ap, ◌∙◌, arith}
 use Rattle.std.specs.Prelude.{if◌then◌else◌, ◌==◌, ◌||◌, nat_lt}
 use Rattle.bitstream_count.specs.declared.error.Error.{Error}
@@ -8,7 +8,7 @@ use Rattle.bitstream_number.proofs.WordLemmas.{length-bits, length-word}
 use Rattle.bitstream_stream.specs.Writing.WriteTable.{bit, buffer, plain, unsigned}
 use Rattle.bitstream_value.specs.Lengths.{HasOneLength, number_of, sequence_length}
 
--- at all places that are as far behind a whole byte, the words of two calls have one length, and those of two lists
+-- at all places that are as far after a whole byte, the encodings of two calls have one length, and those of two lists
 pub record OneCall (e f : Encoder) : Type 0 where
   pub same : (m n : ℕ) → m % 8 ≡ n % 8 → number_of length (e m) ≡ number_of length (f n)
 
@@ -40,7 +40,7 @@ module _ {es fs : List Encoder} (h : OneLength es fs) where
   pub buffer-length : (o p : Order) (bytes : List ℕ) → OneLength (buffer o bytes ∷ es) (buffer p bytes ∷ fs)
   buffer-length o p bytes = plain-length _ _ (length-bits o bytes ∙ sym (length-bits p bytes))
 
--- a call that answers one of two errors, or a word
+-- a call that returns one of two errors, or an encoding
 one_of : (b c : Bool) (x y : Error) (u v : List Bool) → length u ≡ length v
     → number_of length (if b then Err x else (if c then Ok u else Err y))
     ≡ number_of length (if b then Err x else (if c then Ok v else Err y))

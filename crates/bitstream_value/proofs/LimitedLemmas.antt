@@ -1,4 +1,4 @@
--- Limited unary words are the paths of their tree, and are read and written digit by digit.
+-- Limited unary code words are the paths of their tree, and are read and written digit by digit.
 use Rattle.std.proofs.Common.{◌≡◌, ◌⊎◌, inl, inr, ℕ, zero, suc, ◌+◌, ◌-◌, ◌<◌, ◌≤◌, Bool, true, false, not, List, [], ◌∷◌, ◌++◌, replicate, Option, Some, None, Result, Ok, Err, refl, sym, ap, ◌∙◌, subst, arith}
 use Rattle.std.specs.Prelude.{IfSome, if◌then◌else◌}
 use Rattle.std.specs.Result.{IsErrAnd}
@@ -49,7 +49,7 @@ some-path false k (suc m) (suc i) less =
     rw tree-false (subst (λ v. IsPath (limited_tree false (k + 1) m) (unary false i) (Some v)) place
     (some-path false (k + 1) m i (omega arith)))
 
--- a path of the tree is the word of none, or that of a number
+-- a path of the tree is the code word of none, or that of a number
 record IsNumber (stop : Bool) (k m : ℕ) (w : List Bool) (v : Option ℕ) : Type 0 where
   number : ℕ
   below : number < m
@@ -154,7 +154,7 @@ module _ {N : Type 0} {K : BitSource N} where
   digit-refused false k m r e h = rw (tree-false, path_decoder-node)
       (exit (λ c. if c then path_decoder (limited_tree false (k + 1) m) else path_decoder (leaf (Some k))) r e h)
 
--- k digits were read, and what is read from there on is the answer
+-- k digits were read, and what is read from there on is the result
 pub record Counting {N : Type 0} (K : BitSource N) (stop : Bool) (most : ℕ) (from : N) (k : ℕ) (to : N) : Type 0 where
   pub on : (r : Result (Option ℕ) Error) (z : N) → Reads K (path_decoder (limited_tree stop k (most - k))) to r z
       → Reads K (path_decoder (limited_tree stop 0 most)) from r z
@@ -224,7 +224,7 @@ module _ {P : Type 0} (K : Sink P) (stop : Bool) (most k : ℕ) where
   parts : bit_by_bit (unary stop k) ≡ bit_by_bit (replicate k (not stop)) ++ bit stop ∷ []
   parts = map-append bit (replicate k (not stop)) (stop ∷ [])
 
-  -- the digits of a number and the stop digit, or digits that are refused
+  -- the digits of a number and the stop digit, or digits that fail
   pub number-done : k < most → (old mid new : P) (r : Result (Unit {0}) Error)
       → WritesAll K (bit_by_bit (replicate k (not stop))) old (Ok tt) mid → Writes K (bit stop) mid r new
       → WritesAll K (bit_by_bit (limited_unary stop most (Some k))) old r new
@@ -238,6 +238,6 @@ module _ {P : Type 0} (K : Sink P) (stop : Bool) (most k : ℕ) where
   number-refused less old new x r e h =
       rw (lt-ltb k most less, parts) (all_stop K (bit_by_bit (replicate k (not stop))) (bit stop ∷ []) old x r new e h)
 
-  -- a number that has no word
+  -- a number that has no code word
   pub number-unknown : most ≤ k → (s : P) → WritesAll K (bit_by_bit (limited_unary stop most (Some k))) s (Ok tt) s
   number-unknown more s = rw (le-ltb k most more) (all_none K s)

@@ -1,4 +1,4 @@
--- Nodes of trees: which tree stands where, the nodes of two trees in one list, and the way to a symbol's first leaf.
+-- Nodes of trees: which tree is where, the nodes of two trees in one list, and the way to a symbol's first leaf.
 use Rattle.std.proofs.Common.{◌≡◌, ◌⊎◌, inl, inr, ℕ, zero, suc, ◌+◌, ◌-◌, ◌^◌, ◌<◌, ◌≤◌, Bool, true, false, eqb, List, [], ◌∷◌, ◌++◌, length, map, take, get_or, Option, Some, None, refl, sym, ap, ◌∙◌, subst, arith, length-append}
 use Rattle.std.specs.Prelude.{slice_get, is_some, if◌then◌else◌, nat_le, MatchOption}
 use Rattle.std.specs.Option.{option_map}
@@ -26,7 +26,7 @@ get-right [] ys k n e = let same : n ≡ k = omega arith in rw same refl
 get-right (x ∷ xs) ys k zero e = absurd (omega arith)
 get-right (x ∷ xs) ys k (suc n) e = get-right xs ys k n (omega arith)
 
--- ---- the tree that stands from a place up to another
+-- ---- the tree whose nodes lie from a place up to another
 
 -- the places of a branch, and those of its two sides
 pub record Sides {S : Type 0} (nodes : List (Node S)) (A B : ℕ → ℕ → Type 0) (low end : ℕ) : Type 0 where
@@ -191,7 +191,7 @@ nodes_of-some code = Stands-some (nodes_of code) (tree_of code) 0 (length (nodes
 
 -- ---- the nodes of two trees in one list
 
--- the first k of the nodes that are put behind others
+-- the first k of the nodes that are put after others
 pub length-moved : {S : Type 0} (xs ys zs : List (Node S)) (n k : ℕ) → zs ≡ xs ++ map (shift_node n) (take k ys)
     → k ≤ length ys → length zs ≡ length xs + k
 length-moved xs ys zs n k e le =
@@ -276,7 +276,7 @@ nodes_of-end xs ys z o =
     ∙ ap (λ n. length xs + n) (length-map ys (shift_node (length xs))) in
     subst (λ n. slice_get (zs ++ Branch z o ∷ []) n ≡ Some (Branch z o)) size (get-end zs (Branch z o))
 
--- the nodes of two trees, one behind the other, with a branch behind both
+-- the nodes of two trees, one after the other, with a branch after both
 pub record Joins {S : Type 0} (xs ys : List (Node S)) (t u : Tree S) : Type 0 where
   pub first : Stands xs t 0 (length xs)
   pub second : Stands ys u 0 (length ys)
@@ -337,7 +337,7 @@ module _ {S : Type 0} (xs ys : List (Node S)) (t u : Tree S) (h : Joins xs ys t 
     );
   }
 
--- what `joined` makes of the nodes of two trees, and a branch behind them
+-- what `joined` makes of the nodes of two trees, and a branch after them
 module _ {S A : Type 0} (first second : HuffmanTree S A) (nodes : List (Node S)) (m n : ℕ)
     (h : Joined (nodes_of first) (nodes_of second) nodes m n) where
   trees : Joins (nodes_of first) (nodes_of second) (tree_of first) (tree_of second)
@@ -378,7 +378,7 @@ module _ {S A : Type 0} (first second : HuffmanTree S A) (nodes : List (Node S))
 
 -- ---- the way down
 
--- each branch is behind the nodes of its sides
+-- each branch is after the nodes of its sides
 pub places-below : {S : Type 0} (nodes : List (Node S)) (t : Tree S) (low end k z o : ℕ) → Stands nodes t low end
     → low ≤ k → k < end → slice_get nodes k ≡ Some (Branch z o) → (z < k) × (o < k)
 places-below nodes (leaf x) low end k z o h after below e =
@@ -427,7 +427,7 @@ fits-moved code n k (Branch z o) is below small =
     let o_below = p.1 in
     (omega arith, omega arith)
 
--- what a read of the leaf or branch behind all others tells of its tree
+-- what a read of the leaf or branch after all others tells of its tree
 pub leaf-is : {S : Type 0} (nodes : List (Node S)) (t : Tree S) (low root : ℕ) (x : S) → Stands nodes t low (root + 1)
     → slice_get nodes root ≡ Some (Leaf x) → t ≡ leaf x
 leaf-is nodes (leaf y) low root x h e =
@@ -577,19 +577,19 @@ module _ {S : Type 0} (same : S → S → Bool) (s : S) (nodes : List (Node S)) 
             absurd cc
       ]
 
-  -- the nodes_of of a tree from some place up to `root`, in which the symbol's first leaf stands at `place`
+  -- the nodes of a tree from some place up to `root`, in which the symbol's first leaf is at `place`
   pub record Seeks (t : Tree S) (root place : ℕ) : Type 0 where
     pub low : ℕ
     pub stands : Stands nodes t low (root + 1)
     pub found : IsFirstPlace same s nodes low (root + 1) place
 
-  -- a symbol that no leaf of a nodes_of has, has no path
+  -- a symbol that no leaf among the nodes has, has no path
   pub path-lacks : (t : Tree S) (end : ℕ) → Stands nodes t 0 end → FindsFirst same s nodes 0 end None
       → first_path same t s ≡ None
   unfolding Lacks
   path-lacks t end h none = none-in t 0 end h none
 
-  -- a symbol that no leaf of a nodes_of has, has no word
+  -- a symbol that no leaf among the nodes has, has no code word
   pub word-lacks : (t : Tree S) (end : ℕ) → Stands nodes t 0 end → FindsFirst same s nodes 0 end None
       → symbol_word same t s ≡ []
   unfolding symbol_word Lacks
@@ -739,7 +739,7 @@ module _ {S : Type 0} (same : S → S → Bool) (s : S) (nodes : List (Node S)) 
   down-looked t root place z o None h e more f = down-other t root place z o h e more f
   down-looked t root place z o (Some k) h e more f = down-found t root place z o k h e more f
 
-  -- Where the zero side's nodes_of stands first, the symbol's first leaf is in it or behind it; else it is looked for
+  -- If the zero side's nodes come first, the symbol's first leaf is in it or after it; else it is looked for
   -- there.
   pub down : (t : Tree S) (root place z o : ℕ) (found : Option ℕ) → Seeks t root place → slice_get nodes root
       ≡ Some (Branch z o)

@@ -66,7 +66,7 @@ written_plainly K es r s t h = written_by K es r s t h.plain h.called h.answer
 
 -- ---- reads that have no error but the reader's are such reads
 
--- the answer without the type's own errors, of which there are none
+-- the result without the type's own errors, of which there are none
 abbrev pub flatten : {A : Type 0} → Result (Result A Error) Error → Result A Error
 flatten (Ok answer) = answer
 flatten (Err x) = Err x

@@ -23,7 +23,7 @@ use Rattle.bitstream_value.proofs.WriteSteps.{signed_call, signed_value}
 
 -- ---- reads
 
--- a read whose answer a `?` looked at, and what follows it, or the end
+-- a read whose result a `?` checked, and what follows it, or the end
 module _ {R A B E : Type 0} {K : BitSource R} {becomes : Error → E → Type 0} {e : Decoder A} (f : A
     → Decoder (Result B E)) {r : Result B E} {s t : R} {answer : Result A Error} {flow : ControlFlow _ A} where
   pub then_own_read : {z : R} {a : A} → Reads K e s answer t → answer ≡ result_from_control_flow flow → flow
@@ -45,7 +45,7 @@ module _ {R A B E : Type 0} {K : BitSource R} {becomes : Error → E → Type 0}
     answer = k;
   }
 
--- a number of a signed type, which stands behind the read as what its bits say
+-- a number of a signed type, which after the read is what its bits encode
 module _ {R B E : Type 0} {K : BitSource R} {becomes : Error → E → Type 0} (o : Order) (size n : ℕ) (f : ℤ
     → Decoder (Result B E)) {r : Result B E} {s t z : R} {x : ℤ} where
   pub then_own_signed : {answer : Result ℤ Error} {flow : ControlFlow _ ℤ} → Reads K (signed_decoder o size n) s answer t
@@ -100,7 +100,7 @@ module _ {R A B E : Type 0} {K : BitSource R} {becomes : Error → E → Type 0}
   end_part {x = x} h p q k = let there = subst (λ y. ReadsOwn K becomes e s y t) (p ∙ ap result_from_control_flow q) h
       in part_stops f x.0 there.plain (is_error r x.0 k) there.called there.answer
 
--- the answer behind all reads: a value, or an error of the type's own
+-- the result after all reads: a value, or an error of the type's own
 pub own_end : {R A E : Type 0} {K : BitSource R} {becomes : Error → E → Type 0} (r : Result A E) (s : R)
     → ReadsOwn K becomes (pure r) s r s
 own_end r s = record { plain = Ok r; called = Reads-pure r s; answer = refl }
@@ -189,7 +189,7 @@ module _ {S E : Type 0} (K : Sink S) (becomes : Error → E → Type 0) (o : Ord
   end_own_signed_write e h fits p q k = end_own_write K becomes _ es own r s t answer flow e
       (signed_value K o size n w x s t answer h fits) p q k
 
--- the answer behind all writes
+-- the result after all writes
 pub own_written : {S E : Type 0} (K : Sink S) (becomes : Error → E → Type 0) (own : Result (Unit {0}) E) (s : S)
     → WritesOwn K becomes [] own s own s
 own_written K becomes own s = record { plain = Ok tt; called = all_none K s; answer = refl }

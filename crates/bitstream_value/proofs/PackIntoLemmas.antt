@@ -44,7 +44,7 @@ rejects : (e : Encoder) (es : List Encoder) (len : ℕ) (x : Error) → e len �
 rejects e es len x is = ap (λ (y : Result (List Bool) Error). result_then y
     (λ word. result_then (sequence_length es (len + length word)) (λ more. Ok (length word + more)))) is
 
--- calls that have a length are accepted, and it is that of their words
+-- calls that have a length are accepted, and it is that of their encodings
 abbrev pub IsSequence : List Encoder → ℕ → ℕ → Type 0
 IsSequence es len n = AllAccepted es len × (n ≡ length (write_sequence es len))
 
@@ -79,7 +79,7 @@ accepted-run (e ∷ es) len all =
     ∙ ap (λ (x : Result ℕ Error). result_then x (λ more. Ok (length w + more))) (accepted-run es (len + length w) all.1)
     ∙ ap Ok (sym (length-append w (write_sequence es (len + length w))))
 
--- ---- an alignment behind calls
+-- ---- an alignment after calls
 
 accepted_aligned : (es : List Encoder) (n : ℕ) → AllAccepted es n → AllAccepted (es ++ align ∷ []) n
 accepted_aligned [] n all = (refl, tt)
@@ -154,7 +154,7 @@ module _ {S : Type 0} (K : Sink S) where
 
 -- ---- a sink with room for all calls
 
--- an error of a refused request
+-- an I/O error
 abbrev pub IsFaultOf : {S : Type 0} → Sink S → Error → Type 0
 IsFaultOf K error = (refusal : Refusal) × K.may refusal × (error ≡ refusal_of refusal.kind)
 
@@ -218,7 +218,7 @@ module _ {S : Type 0} (K : Sink S) where
       let ends = one.2 in
       λ n le past. room n (omega (arith, le, all, rest, ends)) past
 
-  -- an error of calls is the first that one of them has, or of a refused request
+  -- an error of calls is the first that one of them has, or of a failed request
   pub error_within : (es : List Encoder) (s : S) (x : Error) (t : S) → K.failed s ≡ false → IsRoomy K (after es s)
       → WritesAll K es s (Err x) t → (sequence_length es (K.len s) ≡ Err x) ⊎ IsFaultOf K x
   unfolding WritesAll
@@ -239,7 +239,7 @@ module _ {S : Type 0} (K : Sink S) (free : K.limit ≡ None) where
   align_error s x t sound h =
       elim (one_error K align [] s x t sound (free-roomy K free _) h) [ inl own ↦ let z = own in cc | inr fault ↦ fault ]
 
--- calls whose sink refuses nothing
+-- calls whose sink never fails
 pub sure_error : {S : Type 0} (K : Sink S) → K.limit ≡ None → ((x : Refusal) → K.may x → ⊥) → (es : List Encoder)
     (s : S) (x : Error) (t : S) → K.failed s ≡ false → WritesAll K es s (Err x) t → sequence_length es (K.len s) ≡ Err x
 sure_error K free never es s x t sound h =
@@ -247,7 +247,7 @@ sure_error K free never es s x t sound h =
 
 -- ---- bytes in memory
 
--- a refusal of theirs is one of no room
+-- a failure of theirs is one of no room
 no_room : (x : Refusal) → MayRefuseWrite slice_mut_stream x → refusal_of x.kind ≡ Stream WriteZero
 no_room x may = ap refusal_of may.refused.0
 

@@ -34,7 +34,7 @@ abbrev pub width_of : ℕ → Width
 width_of size = if size == 8 then w8 else if size == 16 then w16 else if size == 32 then w32 else if size == 64 then w64
     else w128
 
--- a read whose answer a `?` looked at, and what follows it, or the end; a proof's record has these facts
+-- a read whose result a `?` checked, and what follows it, or the end; a proof's record has these facts
 module _ {R A B : Type 0} {K : BitSource R} {e : Decoder A} (f : A → Decoder B) {r : Result B Error}
     {s t : R} {answer : Result A Error} {flow : ControlFlow _ A} where
   pub then_read : {z : R} {a : A} → Reads K e s answer t → answer ≡ result_from_control_flow flow → flow ≡ Continue a
@@ -45,7 +45,7 @@ module _ {R A B : Type 0} {K : BitSource R} {e : Decoder A} (f : A → Decoder B
       → IsErrAnd r (λ y. y ≡ x.0) → Reads K (and_then e f) s r t
   end_read h p q k = exit f r k (subst (λ x. Reads K e s x t) (p ∙ ap result_from_control_flow q) h)
 
--- a number of a signed type, which stands behind the read as what its bits say
+-- a number of a signed type, which after the read is what its bits encode
 module _ {R B : Type 0} {K : BitSource R} (o : Order) (size n : ℕ) (f : ℤ → Decoder B) {r : Result B Error}
     {s t z : R} {x : ℤ} where
   pub next_signed_read : Reads K (signed_decoder o size n) s (Ok x) t → SFits (width_of size) x
@@ -59,7 +59,7 @@ module _ {R B : Type 0} {K : BitSource R} (o : Order) (size n : ℕ) (f : ℤ �
       → Reads K (and_then (signed_decoder o size n) f) s r z
   then_signed_read h p q fits k = then_read f h p q (subst (λ y. Reads K (f y) t r z) (to_z-of_z _ x fits) k)
 
--- each read that answered with a value, up to one whose error a `?` returned, or to the end: by the clauses
+-- each read that returned a value, up to one whose error a `?` returned, or to the end: by the clauses
 -- of the calls, which are listed; and by the fields of a proof's record, where the calls are few
 pub ruleset reads = (next_signed_read, Reads-and_then-ok, exit, Reads-pure, sfits_of)
 
@@ -67,7 +67,7 @@ pub ruleset few_reads = (then_signed_read, then_read, end_read, Reads-pure, sfit
 
 -- ---- what the reads of fields find in bits that are all known
 
--- asked behind k of the bits b, the call takes n more and answers r, or they are too few for it
+-- asked after k of the bits b, the call takes n more and returns r, or they are too few for it
 pub record Finds {A : Type 0} (b : List Bool) (k : ℕ) (e : Decoder A) (n : ℕ) (r : Result A Error) : Type 0 where
   pub there : (p : ℕ) → k + n ≤ length b → e.reads p (drop k b) ≡ Done n r
   pub short : (p : ℕ) → k ≤ length b → length b < k + n → e.reads p (drop k b) ≡ Incomplete
@@ -100,7 +100,7 @@ and_then-finds b k n m e f a r h t = record {
   ];
 }
 
--- one field that is a word, and those behind it, of l bits in all
+-- one field that is an encoding, and those after it, of l bits in all
 pub next-finds : {A B : Type 0} (b : List Bool) (k n l : ℕ) (e : Decoder A) (f : A → Decoder B) (g : List Bool
     → A) (r : Result B Error) → IsWord e n (λ w. Ok (g w)) → nat_le n l ≡ true
     → Finds b (k + n) (f (g (take n (drop k b)))) (l - n) r
@@ -151,7 +151,7 @@ pure-finds b k a = record { there = λ p enough. refl; short = λ p some few. ab
 
 pub ruleset finds = (unsigned-finds, signed-finds, non_zero-finds, option-finds, bit-finds, truth-finds, pure-finds)
 
--- ---- what a new reader answers then, over a stream that refuses at true ends alone
+-- ---- what a new reader returns then, over a stream that fails only at the end of input
 
 module _ {R A : Type 0} {K : BitSource R} {e : Decoder A} {s t : R} {n : ℕ} {xs : List ℕ}
     {x r : Result A Error} {known : Option (List ℕ)} {references : List Reference} where

@@ -60,7 +60,7 @@ three_ones : (path_decoder (limited_tree false 0 3)).reads 0 (bits High (255 ∷
 unfolding path_decoder limited_tree and_then digits
 three_ones = refl
 
--- two, none, and three, which has no word
+-- two, none, and three, which has no encoding
 limited_words : limited_unary true 3 (Some 2) ++ limited_unary true 3 None ++ limited_unary true 3 (Some 3)
     ≡ false ∷ false ∷ true ∷ false ∷ false ∷ false ∷ []
 limited_words = refl

@@ -1,4 +1,4 @@
--- Values that are a word of a known number of bits, and what is answered if all bits left are known.
+-- Values that are an encoding of a known number of bits, and what is returned if all bits left are known.
 use Rattle.std.specs.Prelude.{Bool, map}
 use Rattle.std.proofs.Common.{◌≡◌, ℕ, zero, suc, ◌+◌, ◌*◌, ◌<◌, ◌≤◌, List, [], ◌∷◌, ◌++◌, length, take, drop, Some, Result, Ok, Err, refl, sym, ap, ◌∙◌, arith, length-drop}
 use Rattle.std.proofs.Math.Seq.{take-length}
@@ -21,7 +21,7 @@ use Rattle.bitstream_value.specs.Array.{items_decoder, words}
 use Rattle.bitstream_value.specs.NonZero.{non_zero_decoder, if_any, option_decoder}
 use Rattle.bitstream_value.specs.Boolean.{truth_decoder}
 
--- a call that takes a word of n bits, and answers g of it
+-- a call that takes an encoding of n bits, and returns g of it
 pub record IsWord {A : Type 0} (e : Decoder A) (n : ℕ) (g : List Bool → Result A Error) : Type 0 where
   pub reads : (p : ℕ) (b : List Bool) → e.reads p b ≡ word_prefix n g b
 
@@ -34,7 +34,7 @@ pub truth-word : IsWord (truth_decoder 1) 1 (λ w. Ok (first_bit w))
 unfolding truth_decoder
 truth-word = record { reads = λ p b. refl }
 
--- a word whose number is then changed
+-- an encoding whose number is then changed
 pub mapped-word : {A B : Type 0} (e : Decoder A) (n : ℕ) (g : List Bool → A) (f : A → B) → IsWord e n (λ w. Ok (g w))
     → IsWord (and_then e (λ a. pure (f a))) n (λ w. Ok (f (g w)))
 unfolding and_then
@@ -60,7 +60,7 @@ option-word after o size n le = mapped-word (unsigned_decoder o size n) n (numbe
 whole : {A : Type 0} (n : ℕ) (l : List A) → length l ≡ n → take n l ≡ l
 whole n l len = ap (λ k. take k l) (sym len) ∙ take-length l
 
--- one word more
+-- one encoding more
 words-more : (n k : ℕ) (u v : List Bool) → length u ≡ k * n → length v ≡ n → words n (suc k) (u ++ v) ≡ words n k u
     ++ v ∷ []
 words-more n zero u v lu lv = rw (nil_from_length u (omega arith)) (ap (λ w. w ∷ []) (whole n v lv))
@@ -69,7 +69,7 @@ words-more n (suc k) u v lu lv =
     let len : length (drop n u) ≡ k * n = let l = length-drop n u in omega arith in
     rw (take-append-le n u v le, drop-append-le n u v le) (ap (λ l. take n u ∷ l) (words-more n k (drop n u) v len lv))
 
--- the words of the bits that they are in
+-- the encodings of the bits that they are in
 words-take : (n k : ℕ) (b : List Bool) → words n k (take (k * n) b) ≡ words n k b
 words-take n zero b = refl
 words-take n (suc k) b =
@@ -85,7 +85,7 @@ prefix-same Incomplete f h same = refl
 prefix-same (Done n (Ok a)) f h same = ap (advance n) (same n a)
 prefix-same (Done n (Err d)) f h same = refl
 
--- k items, each of which is a word, are one word
+-- k items, each of which is an encoding, are one encoding
 pub items-word : {A : Type 0} {e : Decoder A} {n : ℕ} {g : List Bool → A} → IsWord e n (λ w. Ok (g w)) → (k : ℕ)
     → IsWord (items_decoder e k) (k * n) (λ w. Ok (map g (words n k w)))
 unfolding items_decoder and_then
@@ -106,7 +106,7 @@ items-word {e = e} {n = n} {g = g} h (suc k) = record {
       (prefix-same (word_prefix (k * n) (λ w. Ok (map g (words n k w))) b) _ _ item ∙ both.reads p b);
 }
 
--- ---- what a new reader answers, over a stream that refuses at true ends alone
+-- ---- what a new reader returns, over a stream that fails only at the end of input
 
 module _ {R A : Type 0} {K : BitSource R} {e : Decoder A} {n : ℕ} {g : List Bool → Result A Error}
     {r : Result A Error} {s t : R} {xs : List ℕ} {references : List Reference} where

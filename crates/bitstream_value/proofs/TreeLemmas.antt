@@ -42,7 +42,7 @@ pub path_decoder-node : {S : Type 0} (a b : Tree S) → path_decoder (node a b)
 unfolding path_decoder
 path_decoder-node a b = refl
 
--- a read of a branch, behind its bit
+-- a read of a branch, after its bit
 path-step : {S : Type 0} (a b : Tree S) (p : ℕ) (c : Bool) (bits : List Bool)
     → (path_decoder (node a b)).reads p (c ∷ bits) ≡ advance 1
     ((if c then path_decoder b else path_decoder a).reads (p + 1) bits)
@@ -59,7 +59,7 @@ path-reads (node a b) (false ∷ w) s p rest h = rw (path-step a b p false (w ++
 path-reads (node a b) (true ∷ w) s p rest h = rw (path-step a b p true (w ++ rest), path-reads b w s (p + 1) rest h)
     (ap (λ n. Done n (Ok s)) (omega arith))
 
--- the bits that a read takes are the path to the leaf whose symbol it answers
+-- the bits that a read takes are the path to the leaf whose symbol it returns
 pub record TakesPath {S : Type 0} (t : Tree S) (bits : List Bool) (n : ℕ) (r : Result S Error) : Type 0 where
   pub symbol : S
   pub answer : r ≡ Ok symbol
@@ -190,7 +190,7 @@ module _ {S : Type 0} (same : S → S → Bool) (s : S) where
   unfolding Comes
   first_path_none t e u x p h = let c = first_path_comes t u x p h in absurd (cc (c.1, e))
 
--- ---- words
+-- ---- code words
 
 module _ {S : Type 0} (same : S → S → Bool) (s : S) where
   pub word-some : (t : Tree S) (w : List Bool) → first_path same t s ≡ Some w → symbol_word same t s ≡ w
@@ -211,12 +211,12 @@ module _ {S : Type 0} (same : S → S → Bool) (s : S) where
   has_word t None w x e p h = absurd (first_path_none same s t e w x p h)
   has_word t (Some v) w x e p h = refl
 
-  -- a symbol has a word exactly where a leaf has it
+  -- a symbol has a code word exactly where a leaf has it
   pub word_known : (t : Tree S) → IsSome (first_path same t s) ↔ ((w : List Bool) × (x : S) × IsPath t w x
       × (same x s ≡ true))
   word_known t = (has_leaf t (first_path same t s) refl, λ k. has_word t (first_path same t s) k.0 k.1 refl k.2 k.3)
 
-  -- and the word is read as that leaf's symbol
+  -- and the code word is read as that leaf's symbol
   pub word_back : (t : Tree S) (w : List Bool) → first_path same t s ≡ Some w → (x : S) × (same x s ≡ true)
       × ((p : ℕ) (more : List Bool) → (path_decoder t).reads p (w ++ more) ≡ Done (length w) (Ok x))
   word_back t w e = let k = (first_path_is_first same s t w e).leads in

@@ -51,7 +51,7 @@ lacks-more same s nodes low k before tells not j after below has = elim (cases_l
 
 -- ---- reading
 
--- the bits so far led down to the part that ends at `root`, and what is read from there on is the answer
+-- the bits so far led down to the part that ends at `root`, and what is read from there on is the result
 pub record Reading {N S : Type 0} (K : BitSource N) (nodes : List (Node S)) (t : Tree S) (from : N) (root : ℕ)
     (to : N) : Type 0 where
   pub below : Tree S
@@ -134,7 +134,7 @@ module _ {N S : Type 0} {K : BitSource N} {nodes : List (Node S)} {t : Tree S} {
       let is = leaf-is nodes h.below h.low root x h.stands e in
       h.on (Ok x) to (rw (is, path_decoder-leaf) (Reads-pure x to))
 
-  -- a bit that is refused
+  -- a bit that fails
   pub Reading-stop : {root : ℕ} {to m : N} (z o : ℕ) {x : Error} (r : Result S Error) → Reading K nodes t from root to
       → slice_get nodes root ≡ Some (Branch z o) → IsErrAnd r (λ y. y ≡ x) → Reads K bit_decoder to (Err x) m
       → Reads K (path_decoder t) from r m
@@ -145,7 +145,7 @@ module _ {N S : Type 0} {K : BitSource N} {nodes : List (Node S)} {t : Tree S} {
 
 -- ---- writing
 
--- the bits so far led down to the part that ends at `root`, in which the symbol's first leaf stands at `place`
+-- the bits so far led down to the part that ends at `root`, in which the symbol's first leaf is at `place`
 pub record Writing {P S : Type 0} (K : Sink P) (same : S → S → Bool) (s : S) (nodes : List (Node S))
     (t : Tree S) (from : P) (root place : ℕ) (to : P) : Type 0 where
   pub below : Tree S
@@ -207,7 +207,7 @@ module _ {P S : Type 0} {K : Sink P} {same : S → S → Bool} {s : S} {nodes : 
         h.on r z (subst (λ (v : List Bool). WritesAll K (bit_by_bit v) to r z) (sym d.word) here);
   }
 
-  -- a bit that is refused
+  -- a bit that fails
   pub Writing-stop : {root place : ℕ} {to m : P} (c : Bool) (root' place' : ℕ) {x : Error}
       (r : Result (Unit {0}) Error) (h : Writing K same s nodes t from root place to)
       → Down same s nodes h.below root' place' c → r ≡ Err x

@@ -1,4 +1,4 @@
--- Words that are put together bit by bit, and found by their symbols.
+-- Code words that are put together bit by bit, and found by their symbols.
 use Rattle.std.proofs.Common.{subst, length-append, ◌≡◌, ℕ, suc, ◌+◌, ◌-◌, ◌*◌, ◌/◌, ◌%◌, ◌^◌, ◌<◌, ◌≤◌, Bool, true, false, List, [], ◌∷◌, ◌++◌, length, drop, get_or, Option, Some, None, Result, Ok, Err, refl, sym, ap, ◌∙◌, arith, append-nil, append_assoc, add-one, pow-suc, inl, inr}
 use Rattle.std.specs.Prelude.{◌==◌, if◌then◌else◌, slice_get}
 use Rattle.std.specs.Cmp.{IsEquivalence}
@@ -34,7 +34,7 @@ bit_below : (k : ℕ) (one : Bool) → k ≡ bool_byte one → k < 2 ^ 1
 bit_below k true is = omega (arith, is)
 bit_below k false is = omega (arith, is)
 
--- a bit behind a word
+-- a bit after a code word
 pub one-behind : (n v k : ℕ) (one : Bool) → k ≡ bool_byte one → word High (n + 1) (v * 2 + k) ≡ word High n v ++ one ∷ []
 one-behind n v k one is =
     word_cat High n 1 v k (bit_below k one is) ∙ ap (λ (w : List Bool). word High n v ++ w) (one_word High one k is)
@@ -50,7 +50,7 @@ put-behind b s t (was_done w done f is within answer h) =
     let word_is : b ∷ [] ≡ w = cc in
     h.grown ∙ ap (λ (u : List Bool). short_bits s ++ u) (sym word_is)
 
--- bits that were put stand behind those before
+-- bits that were put are after those before
 pub all-behind : (w : List Bool) (s t : ShortWord) → WritesAll short_sink (bit_by_bit w) s (Ok tt) t
     → short_bits t ≡ short_bits s ++ w
 unfolding WritesAll
@@ -60,7 +60,7 @@ all-behind (b ∷ w) s t (inr p) =
     all-behind w p.0 t p.2 ∙ ap (λ (u : List Bool). u ++ w) (put-behind b s p.0 p.1)
     ∙ append_assoc (short_bits s) (b ∷ []) w
 
--- the first bits of a word, and one more
+-- the first bits of a code word, and one more
 pub first-bits : (a left v : ℕ) → word High (a + 1) (v / 2 ^ left)
     ≡ word High a (v / 2 ^ (left + 1)) ++ ((v / 2 ^ left) % 2 == 1) ∷ []
 unfolding digits
@@ -74,7 +74,7 @@ first-bits a left v =
 
 -- ---- symbols that are the same
 
--- a word that was made is the tree's
+-- a code word that was made is the tree's
 abbrev pub IsMade : {S : Type 0} → (S → S → Bool) → Tree S → SymbolWord S → Type 0
 IsMade same t it = short_bits it.word ≡ symbol_word same t it.symbol
 
@@ -87,7 +87,7 @@ module _ {S : Type 0} (same : S → S → Bool) (law : IsEquivalence same) where
   same-path (leaf x) a b is = rw (alike x a b is) refl
   same-path (node y z) a b is = rw (same-path y a b is, same-path z a b is) refl
 
-  -- and have the same word
+  -- and have the same code word
   same-word : (t : Tree S) (a b : S) → same a b ≡ true → symbol_word same t a ≡ symbol_word same t b
   unfolding symbol_word
   same-word t a b is = ap (λ (w : Option (List Bool)). or_nothing w) (same-path t a b is)
@@ -109,7 +109,7 @@ module _ {S : Type 0} (same : S → S → Bool) (law : IsEquivalence same) where
       → or_word (found_word same made s) (symbol_word same t s) ≡ symbol_word same t s
   found-right t s made all = found-by t s made (recursion_from_All (IsMade same t) made all)
 
--- ---- words that are too long
+-- ---- code words that are too long
 
 one-too-long : (b : Bool) (s t : ShortWord) (x : Error) → Writes {T = Unit {0}} short_sink (bit b) s (Err x) t
     → 63 < s.bits + 1
@@ -141,13 +141,13 @@ too-long (b ∷ w) s t x (inr p) =
     let more = one-more b s p.0 p.1 in
     omega (arith, rest, more)
 
--- ---- words that are found
+-- ---- code words that are found
 
 -- none of these symbols is the same as s
 abbrev pub LacksWord : {S : Type 0} → (S → S → Bool) → List (SymbolWord S) → S → Type 0
 LacksWord same made s = All (λ it. same it.symbol s ≡ false) made
 
--- the symbols of the first k nodes whose words are short enough have a word that was made
+-- the symbols of the first k nodes whose code words are short enough have a code word that was made
 abbrev pub HasShort : {S : Type 0} → (S → S → Bool) → Tree S → List (Node S) → ℕ → List (SymbolWord S) → Type 0
 HasShort {S} same t nodes k made = (j : ℕ) (x : S) → j < k → slice_get nodes j ≡ Some (Leaf x)
     → length (symbol_word same t x) ≤ 63 → LacksWord same made x → ⊥
@@ -200,7 +200,7 @@ all-back P [] ys all = all
 all-back P (x ∷ xs) ys all = all-back P xs ys (All-tail P x (xs ++ ys) all)
 
 module _ {S : Type 0} (same : S → S → Bool) (t : Tree S) (nodes : List (Node S)) where
-  -- the words in another order, of all nodes
+  -- the code words in another order, of all nodes
   pub short-sorted : (items : List (Node S)) (k : ℕ) (made before sorted : List (SymbolWord S)) → items ≡ nodes
       → length items ≤ k → before ≡ made → IsPermutation before sorted → HasShort same t items k made
       → HasShort same t nodes (length nodes) sorted
@@ -227,7 +227,7 @@ module _ {S : Type 0} (same : S → S → Bool) (t : Tree S) (nodes : List (Node
           here x is few lacks
     ]
 
-    -- a leaf whose word is too long
+    -- a leaf whose code word is too long
     pub short-long : (x : S) → y ≡ Leaf x → 63 < length (symbol_word same t x) → HasShort same t nodes (k + 1) made
     short-long x is long = short-next (λ z at few lacks.
         let one : x ≡ z = cc in
@@ -238,7 +238,7 @@ module _ {S : Type 0} (same : S → S → Bool) (t : Tree S) (nodes : List (Node
     pub short-branch : ((x : S) → y ≡ Leaf x → ⊥) → HasShort same t nodes (k + 1) made
     short-branch none = short-next (λ x is few lacks. none x is)
 
-    -- a leaf whose word is made
+    -- a leaf whose code word is made
     pub short-pushed : (more : List (SymbolWord S)) (it : SymbolWord S) (x : S) → y ≡ Leaf x → it.symbol ≡ x
         → more ≡ made ++ it ∷ [] → HasShort same t nodes (k + 1) more
     short-pushed more it x is symbol grown = λ j z less at few lacks.

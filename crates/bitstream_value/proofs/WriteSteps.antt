@@ -28,7 +28,7 @@ pub use Rattle.bitstream_stream.proofs.Reading.ReadsLemmas.{first_name}
 -- ---- what a function did that wrote
 
 module _ {S : Type 0} (K : Sink S) (e : Encoder) (es : List Encoder) (r : Result (Unit {0}) Error) where
-  -- a call that answered `Ok`, and what follows it
+  -- a call that returned `Ok`, and what follows it
   pub next_call : (s t z : S) → Writes {T = Unit {0}} K e s (Ok tt) t → WritesAll K es t r z
       → WritesAll K (e ∷ es) s r z
   next_call s t z h k = all_more K e es s t r z h k
@@ -50,7 +50,7 @@ module _ {S : Type 0} (K : Sink S) (e : Encoder) (es : List Encoder) (r : Result
       → WritesAll K (e ∷ es) s r t
   stop_write x s t h k = stop_call x s t h (one_of_all K e s (Err x) t k)
 
-  -- a call whose answer a `?` looked at, and what follows it; a proof's record has these facts
+  -- a call whose result a `?` checked, and what follows it; a proof's record has these facts
   pub then_call : (s t z : S) (answer : Result (Unit {0}) Error) (flow : ControlFlow _ (Unit {0}))
       → Writes K e s answer t → answer ≡ result_from_control_flow flow → flow ≡ Continue tt → WritesAll K es t r z
       → WritesAll K (e ∷ es) s r z
@@ -136,7 +136,7 @@ module _ {S : Type 0} (K : Sink S) (o : Order) (size n : ℕ) (x : ℤ) (es : Li
   end_signed answer flow e h fits p q k = end_write K _ es r s t answer flow e
       (signed_value K o size n w x s t answer h fits) p q k
 
--- each call that answered `Ok`, up to one whose error a `?` returned, or to the last: by the clauses of the
+-- each call that returned `Ok`, up to one whose error a `?` returned, or to the last: by the clauses of the
 -- calls, which are listed; and by the fields of a proof's record, where the calls are few
 pub ruleset writes = (
   next_call,
@@ -169,9 +169,9 @@ pub ruleset few_writes = (
   sfits_of,
 )
 
--- ---- the words that were written
+-- ---- the encodings that were written
 
--- a call that answered `Ok` appended its word
+-- a call that returned `Ok` appended its encoding
 wrote : {S : Type 0} (K : Sink S) (e : Encoder) (s t : S) → Writes {T = Unit {0}} K e s (Ok tt) t
     → Appended K s (accepted_bits (e (K.len s))) t
 wrote K e s t (had_failed p q k) = cc
@@ -180,7 +180,7 @@ wrote K e s t (past_limit y p q b v k) = cc
 wrote K e s t (was_refused y error p q b v k) = cc
 wrote K e s t (was_done y v p q b d k) = subst (λ w. Appended K s w t) (sym (ap accepted_bits q)) k
 
--- calls that answered `Ok` appended their write sequence
+-- calls that returned `Ok` appended their write sequence
 pub sequence_appended : {S : Type 0} (K : Sink S) (es : List Encoder) (s t : S) → K.failed s ≡ false
     → WritesAll K es s (Ok tt) t → Appended K s (write_sequence es (K.len s)) t
 unfolding WritesAll
@@ -205,9 +205,9 @@ sequence_appended K (e ∷ es) s t sound (inr p) =
       references = b.references ∙ a.references;
     }
 
--- ---- what a new writer's stream holds then, behind a last alignment
+-- ---- what a new writer's stream holds then, after a last alignment
 
--- a target that tells these bytes and references, and refuses so
+-- a target whose contents are these bytes and references, and whose failures are these
 abbrev pub output_told : {W : Type 0} → (W → Option (List ℕ)) → (W → List Reference)
     → (W → ℕ → ErrorKind → W → Type 0) → OutputStream W
 output_told held references refuses = record {

@@ -7,7 +7,7 @@ unfoldable pub items_decoder : {A : Type 0} → Decoder A → ℕ → Decoder (L
 items_decoder decoder zero = pure []
 items_decoder decoder (suc n) = and_then (items_decoder decoder n) (λ items. and_then decoder (λ item. pure (items ++ item ∷ [])))
 
--- k words of n bits each, one after another
+-- k encodings of n bits each, one after another
 abbrev pub words : ℕ → ℕ → List Bool → List (List Bool)
 words n zero bits = []
 words n (suc k) bits = take n bits ∷ words n k (drop n bits)

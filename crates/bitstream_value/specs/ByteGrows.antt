@@ -1,4 +1,4 @@
--- Reads of bytes in a function that asks for memory of its own, between its reads or in them.
+-- Reads of bytes in a function that allocates, between its reads or in them.
 use Rattle.std.specs.Prelude.{◌≡◌, ℕ, zero, suc, IsTrue, Bool, true, false, List, [], ◌∷◌, ◌++◌, Result, Ok, Err}
 use Rattle.bitstream_count.specs.declared.error.Error.{Error}
 use Rattle.bitstream_count.specs.declared.error.Error.TheVariants.{OutOfMemory}
@@ -7,14 +7,14 @@ use Rattle.bitstream_stream.specs.WholeBytes.ByteReads.{ByteReaderState, ByteSou
 use Rattle.bitstream_value.specs.Own.{OwnErrors}
 use Rattle.bitstream_value.specs.ByteTypes.{byte_and_then, byte_pure, byte_stores, ByteReadsOwn}
 
--- Memory that a read of the call asked for was refused. The call may allocate after the bytes that were taken.
+-- An allocation of a read of the call failed. The call may allocate after the bytes that were taken.
 pub record ByteReadLacksMemory {A : Type 0} (decoder : ByteDecoder A) (old : ByteReaderState)
     (result : Result A Error) (new : ByteReaderState) : Type 0 where
   pub refused : ByteMemoryRefused decoder old result new
   pub asked : IsTrue (decoder.allocates refused.bytes)
 
--- Memory was refused between the reads of a call. The call may allocate after these bytes, which were taken, and no
--- proper beginning of them has a prefix: the call was not decided before.
+-- An allocation failed between the reads of a call. The call may allocate after these bytes, which were taken. On each
+-- proper prefix of them the decoder returns `Incomplete`: the call was not decided before.
 pub record ByteGrowthRefused {A : Type 0} (decoder : ByteDecoder A) (old : ByteReaderState)
     (result : Result A Error) (new : ByteReaderState) : Type 0 where
   pub answer : result ≡ Err OutOfMemory
@@ -23,7 +23,7 @@ pub record ByteGrowthRefused {A : Type 0} (decoder : ByteDecoder A) (old : ByteR
   pub asked : IsTrue (decoder.allocates bytes)
   pub took : BytesTaken old bytes new
 
--- reads of bytes that allocate between them: they have the outcome of a read, or memory was refused in one of
+-- reads of bytes that allocate between them: they have the outcome of a read, or an allocation failed in one of
 -- them or between them
 pub data ByteGrowingOutcome {R A : Type 0} (K : ByteSource R) (decoder : ByteDecoder A) (old : R)
     (result : Result A Error) (new : R) : Type 0 where
@@ -38,7 +38,7 @@ abbrev pub ByteGrowsOwn : {R A E : Type 0} → ByteSource R → (Error → E →
 ByteGrowsOwn K becomes decoder old result new =
     OwnErrors becomes (λ answer. answer) (λ plain. ByteGrowingOutcome K decoder old plain new) result
 
--- a read of a type that states whether it allocates
+-- a read of a type; the `Bool` states whether the read allocates
 abbrev pub ByteOwnReads : {R A E : Type 0} → Bool → ByteSource R → (Error → E → Type 0) → ByteDecoder (Result A E)
     → R → Result A E → R → Type 0
 ByteOwnReads false K becomes decoder old result new = ByteReadsOwn K becomes decoder old result new

@@ -61,8 +61,7 @@ abbrev pub held_by : ℕ → ℕ → Result ℕ Error
 held_by most n = if nat_lt most n then Err CounterOverflow else Ok n
 
 -- a count of the bytes of these calls, for a counter that holds `most` at most: their number, or the error that the
--- calls
--- have on it
+-- calls have on it
 abbrev pub CountsBytes : {C E : Type 0} → (C → ℕ) → ℕ → (Error → E → Type 0) → List (List ℕ) → Result (Unit {0}) E
     → Result C E → Type 0
 CountsBytes value most becomes buffers answer result = OwnAnswer becomes (in_place answer)

@@ -1,4 +1,4 @@
--- Reads in a function that asks for memory of its own, between its reads or in them.
+-- Reads in a function that allocates, between its reads or in them.
 use Rattle.std.specs.Prelude.{◌≡◌, ℕ, zero, suc, IsTrue, Bool, true, false, List, [], ◌∷◌, ◌++◌, Result, Ok, Err}
 use Rattle.bitstream_count.specs.declared.error.Error.{Error}
 use Rattle.bitstream_count.specs.declared.error.Error.TheVariants.{OutOfMemory}
@@ -7,16 +7,16 @@ use Rattle.bitstream_number.specs.Word.{Order}
 use Rattle.bitstream_stream.specs.Reading.Reads.{ReaderState, BitSource, Took, MemoryRefused, Reads}
 use Rattle.bitstream_value.specs.Own.{OwnErrors, ReadsOwn, part_then}
 
--- Memory that a read of the call asked for was refused, and the reader has failed. The call may allocate after
--- the bits that were taken.
+-- An allocation of a read of the call failed, and the reader has failed. The call may allocate after the bits that
+-- were taken.
 pub record ReadLacksMemory {A : Type 0} (o : Order) (decoder : Decoder A) (old : ReaderState) (result : Result A Error)
     (new : ReaderState) : Type 0 where
   pub refused : MemoryRefused o decoder old result new
   pub asked : IsTrue (decoder.allocates old.taken refused.word)
 
--- Memory was refused between the reads of a call, on a reader that had not failed and continues. The call may
--- allocate after the word that was taken, and no proper beginning of the word has a prefix: the call was not
--- decided before.
+-- An allocation failed between the reads of a call, on a reader that had not failed and continues. The call may
+-- allocate after the bits that were taken. On each proper prefix of these bits the decoder returns `Incomplete`:
+-- the call was not decided before.
 pub record GrowthRefused {A : Type 0} (o : Order) (decoder : Decoder A) (old : ReaderState) (result : Result A Error)
     (new : ReaderState) : Type 0 where
   pub answer : result ≡ Err OutOfMemory
@@ -26,7 +26,7 @@ pub record GrowthRefused {A : Type 0} (o : Order) (decoder : Decoder A) (old : R
   pub asked : IsTrue (decoder.allocates old.taken word)
   pub took : Took o old word new
 
--- reads that allocate between them: they have the outcome of a read, or memory was refused in one of them or
+-- reads that allocate between them: they have the outcome of a read, or an allocation failed in one of them or
 -- between them
 pub data GrowingOutcome {R A : Type 0} (K : BitSource R) (decoder : Decoder A) (old : R) (result : Result A Error)
     (new : R) : Type 0 where
@@ -35,7 +35,7 @@ pub data GrowingOutcome {R A : Type 0} (K : BitSource R) (decoder : Decoder A) (
   between_reads : GrowthRefused K.order decoder (K.state old) result (K.state new)
       → GrowingOutcome K decoder old result new
 
--- the call may allocate once it has taken some first ones of these bits
+-- the call may allocate once it has taken some first bits of these
 pub record MayAllocate {A : Type 0} (decoder : Decoder A) (taken : ℕ) (bits : List Bool) : Type 0 where
   pub prefix : List Bool
   pub back : List Bool
@@ -48,7 +48,7 @@ abbrev pub GrowsOwn : {R A E : Type 0} → BitSource R → (Error → E → Type
 GrowsOwn K becomes decoder old result new =
     OwnErrors becomes (λ answer. answer) (λ plain. GrowingOutcome K decoder old plain new) result
 
--- a read of a type that states whether it allocates
+-- a read of a type; the `Bool` states whether the read allocates
 abbrev pub OwnReads : {R A E : Type 0} → Bool → BitSource R → (Error → E → Type 0) → Decoder (Result A E) → R
     → Result A E → R → Type 0
 OwnReads false K becomes decoder old result new = ReadsOwn K becomes decoder old result new

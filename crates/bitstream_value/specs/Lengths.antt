@@ -14,13 +14,13 @@ counted_bits most (encoder ∷ encoders) len =
     result_then (encoder len) (λ word. if nat_lt most (len + length word) then Err CounterOverflow else counted_bits most
     encoders (len + length word))
 
--- the length of the words of these calls after `len` bits, or the first error
+-- the length of the encodings of these calls after `len` bits, or the first error
 abbrev pub sequence_length : List Encoder → ℕ → Result ℕ Error
 sequence_length [] len = Ok 0
 sequence_length (encoder ∷ encoders) len = result_then (encoder len) (λ word. result_then (sequence_length encoders (len + length word))
     (λ more. Ok (length word + more)))
 
--- in both orders of bits, and at all places with the same number of bits after a whole byte, the words have one
+-- in both orders of bits, and at all places with the same number of bits after a whole byte, the encodings have one
 -- length
 abbrev pub HasOneLength : (Order → List Encoder) → Type 0
 HasOneLength encoders = (o p : Order) (m n : ℕ) → m % 8 ≡ n % 8 → sequence_length (encoders o) m ≡ sequence_length (encoders p) n
@@ -36,8 +36,7 @@ number_of value (Ok x) = Ok (value x)
 number_of value (Err error) = Err error
 
 -- a count of the bits of these calls on a new counter that holds `most` at most: their number, or the error that the
--- calls
--- have on it
+-- calls have on it
 abbrev pub CountsBits : {C E : Type 0} → (C → ℕ) → ℕ → (Error → E → Type 0) → List Encoder → Result (Unit {0}) E
     → Result C E → Type 0
 CountsBits value most becomes encoders answer result = OwnAnswer becomes (in_place answer) (counted_bits most encoders 0)

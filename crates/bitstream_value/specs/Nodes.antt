@@ -1,4 +1,4 @@
--- A tree in a list of nodes, whose branches name their sides by place.
+-- A tree as a list of nodes, in which a branch holds the places of its two sides.
 use Rattle.std.specs.Prelude.{◌≡◌, ℕ, zero, suc, ◌+◌, ◌-◌, ◌<◌, ◌≤◌, ◌^◌, ◌==◌, nat_lt, if◌then◌else◌, Bool, true, List, ◌++◌, length, map, Option, Some, None, slice_get, MatchOption, ⊤}
 use Rattle.bitstream_value.specs.Tree.{Tree, leaf, node}
 use Rattle.bitstream_value.specs.declared.huffman.tree.Node.{Node}

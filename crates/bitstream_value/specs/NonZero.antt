@@ -14,7 +14,7 @@ unfoldable pub non_zero_decoder : {A : Type 0} → (ℕ → A) → Order → ℕ
 non_zero_decoder after o size n =
     if nat_lt n size then and_then (unsigned_decoder o size n) (λ v. pure (after v)) else fail NonZeroWidth
 
--- the word of a `NonZero` v: the word of v - 1
+-- the encoding of a `NonZero` v: the encoding of v - 1
 unfoldable pub non_zero : Order → ℕ → ℕ → ℕ → Encoder
 non_zero o size n v = if nat_lt n size then unsigned o size n (v - 1) else λ _. Err NonZeroWidth
 

@@ -35,7 +35,7 @@ WritesOwn K becomes encoders answer old result new = OwnErrors becomes (λ _. an
 abbrev pub same_error : Error → Error → Type 0
 same_error error own = own ≡ error
 
--- a read that has no error but the stream's
+-- a read whose only errors are the errors of the stream
 abbrev pub plain_reads : {A E : Type 0} → Decoder A → Decoder (Result A E)
 plain_reads decoder = and_then decoder (λ value. pure (Ok value))
 

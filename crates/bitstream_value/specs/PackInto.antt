@@ -18,7 +18,7 @@ use Rattle.bitstream_value.specs.declared.pack.Discard.{Discard}
 -- `sequence_length` returns the number of bits that the calls take, or the first error that a call has.
 pub record PacksInto (o : Order) (encoders : List Encoder) (name : GName) (was : List ℕ)
     (result : Result SliceMut Error) : Type 0 where
-  -- the written bytes are the calls' words, and zeros up to a whole byte
+  -- the written bytes are the encodings of the calls, and zeros up to a whole byte
   pub packed : IfOk result (λ target. bits o (written_bytes target) ≡ write_sequence (encoders ++ align ∷ []) 0)
   -- they are the first bytes of the slice, and the others are as they were
   pub first : IfOk result (HoldsFirst name was)
@@ -34,7 +34,7 @@ abbrev pub error_or : Result ℕ Error → Error → Error
 error_or (Ok n) other = other
 error_or (Err error) other = error
 
--- a target that takes all bytes, keeps none, and never refuses
+-- a target that takes all bytes, keeps none, and never fails
 abbrev pub discard_stream : OutputStream Discard
 discard_stream = record {
   contents = λ _. None;

@@ -1,4 +1,4 @@
--- The words of a tree's symbols, made once.
+-- The precomputed code words of a tree's symbols.
 use Rattle.std.specs.Prelude.{◌≡◌, ℕ, ◌+◌, Bool, false, List, [], ◌∷◌, ◌++◌, length, ◌≤◌, Option, None, Some, if◌then◌else◌}
 use Rattle.std.specs.List.Sorted.{IsNonDecreasingBy}
 use Rattle.std.proofs.Common.{sym, ap, ◌∙◌, refl, arith, append-nil, append_assoc, length-append}
@@ -11,11 +11,11 @@ use Rattle.bitstream_value.specs.declared.huffman.tree.words.ShortWord.{ShortWor
 use Rattle.bitstream_value.specs.declared.huffman.tree.words.SymbolWord.{SymbolWord}
 use Rattle.bitstream_value.specs.declared.huffman.tree.words.SymbolWords.{SymbolWords}
 
--- the bits of a word
+-- the bits of a code word
 abbrev pub short_bits : ShortWord → List Bool
 short_bits w = word High w.bits w.number
 
--- a word as a sink, which has room for 63 bits and keeps them
+-- a code word as a sink, which has room for 63 bits and keeps them
 abbrev pub short_sink : Sink ShortWord
 short_sink = record {
   order = High;
@@ -37,29 +37,29 @@ short_sink = record {
   limit_full = (8, refl);
 }
 
--- the words that were made, with their symbols
+-- the precomputed code words, with their symbols
 abbrev pub words_made : {S A : Type 0} → SymbolWords S A → List (SymbolWord S)
 words_made words = words.made.items
 
--- the word of the first of these symbols that is the same as s
+-- the code word of the first of these symbols that is the same as s
 abbrev pub found_word : {S : Type 0} → (S → S → Bool) → List (SymbolWord S) → S → Option (List Bool)
 found_word same [] s = None
 found_word same (it ∷ others) s = if same it.symbol s then Some (short_bits it.word) else found_word same others s
 
--- the word that was found, or another one
+-- the code word that was found, or another one
 abbrev pub or_word : Option (List Bool) → List Bool → List Bool
 or_word None other = other
 or_word (Some w) other = w
 
--- the word that is written for s: the one that was made, or the tree's own
+-- the code word that is written for s: the precomputed one, or the tree's own
 abbrev pub made_word : {S A : Type 0} → (S → S → Bool) → SymbolWords S A → S → List Bool
 made_word same words s = or_word (found_word same (words_made words) s) (symbol_word same (tree_of words.tree.now) s)
 
--- each symbol of the tree whose word has at most 63 bits is found among the words that were made
+-- each symbol of the tree whose code word has at most 63 bits is found among the precomputed code words
 abbrev pub FindsShort : {S A : Type 0} → (S → S → Bool) → Tree S → SymbolWords S A → Type 0
 FindsShort {S} same tree words = (symbol : S) (w : List Bool) → first_path same tree symbol ≡ Some w → length w ≤ 63
     → found_word same (words_made words) symbol ≡ Some w
 
--- the words that were made are searched from the shortest on
+-- the precomputed code words are searched from the shortest on
 abbrev pub ShortestFirst : {S A : Type 0} → SymbolWords S A → Type 0
 ShortestFirst {S} words = IsNonDecreasingBy (λ (it : SymbolWord S). it.word.bits) (words_made words)

@@ -1,4 +1,4 @@
--- Prefix codes: trees of symbols, whose words are the paths to the leaves.
+-- Prefix codes: trees of symbols, whose code words are the paths to the leaves.
 use Rattle.std.specs.Prelude.{◌≡◌, ◌⊎◌, Bool, true, false, List, [], ◌∷◌, map, Option, Some, None, option_map, if◌then◌else◌}
 use Rattle.bitstream_count.specs.Codec.{Decoder, Encoder, and_then, pure}
 use Rattle.bitstream_stream.specs.Reading.ReadTable.{bit_decoder}
@@ -9,7 +9,7 @@ pub data Tree (S : Type 0) : Type 0 where
   leaf : S → Tree S
   node : (zero_side : Tree S) → (one_side : Tree S) → Tree S
 
--- the word leads from the root to a leaf of s
+-- the bits lead from the root to a leaf of s
 abbrev pub IsPath : {S : Type 0} → Tree S → List Bool → S → Type 0
 IsPath (leaf x) [] s = x ≡ s
 IsPath (leaf x) (b ∷ w) s = ⊥
@@ -38,11 +38,11 @@ abbrev pub or_nothing : {A : Type 0} → Option (List A) → List A
 or_nothing None = []
 or_nothing (Some xs) = xs
 
--- the word that is written for s: no bits if no leaf has it
+-- the code word that is written for s: no bits if no leaf has it
 unfoldable pub symbol_word : {S : Type 0} → (S → S → Bool) → Tree S → S → List Bool
 symbol_word same t s = or_nothing (first_path same t s)
 
--- the calls that write a word, a bit each
+-- the calls that write a code word, a bit each
 abbrev pub bit_by_bit : List Bool → List Encoder
 bit_by_bit w = map bit w
 

@@ -18,10 +18,10 @@ pub trait ToBitStream {
     /// The type of the errors of a write.
     type Error;
 
-    // The error map: from an error of the sink to the type's own.
+    // The error map: from an error of the sink to an error of the type.
     ghost becomes: { Error → Self.Error → Type 0 };
 
-    // The calls that write a value, in either order of bits; and the result after them, if all
+    // The calls that write a value, in either order of bits, and the result if all of them
     // succeed.
     ghost writes: { Order → Self → List Encoder };
 
@@ -79,10 +79,10 @@ pub trait ToBitStreamWith {
     /// The type of the errors of a write.
     type Error;
 
-    // The error map: from an error of the sink to the type's own.
+    // The error map: from an error of the sink to an error of the type.
     ghost becomes: { Error → Self.Error → Type 0 };
 
-    // The calls that write a value, in either order of bits; and the result after them, if all
+    // The calls that write a value, in either order of bits, and the result if all of them
     // succeed.
     ghost writes: { Order → Self → Self.Context → List Encoder };
 
@@ -92,7 +92,7 @@ pub trait ToBitStreamWith {
     ///
     /// # Errors
     ///
-    /// Like [`ToBitStream::to_writer`].
+    /// As [`ToBitStream::to_writer`].
     fn to_writer<W: BitWrite>(
         &self,
         writer: &mut W,
@@ -142,10 +142,10 @@ pub trait ToBitStreamUsing {
     /// The type of the errors of a write.
     type Error;
 
-    // The error map: from an error of the sink to the type's own.
+    // The error map: from an error of the sink to an error of the type.
     ghost becomes: { Error → Self.Error → Type 0 };
 
-    // The calls that write a value, in either order of bits; and the result after them, if all
+    // The calls that write a value, in either order of bits, and the result if all of them
     // succeed.
     ghost writes: { Order → Self → Self.Context → List Encoder };
 
@@ -155,7 +155,7 @@ pub trait ToBitStreamUsing {
     ///
     /// # Errors
     ///
-    /// Like [`ToBitStream::to_writer`].
+    /// As [`ToBitStream::to_writer`].
     fn to_writer<W: BitWrite>(
         &self,
         writer: &mut W,

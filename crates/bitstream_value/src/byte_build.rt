@@ -15,11 +15,11 @@ pub trait ToByteStream {
     /// The type of the errors of a write.
     type Error;
 
-    // The error map: from an error of the sink to the type's own.
+    // The error map: from an error of the sink to an error of the type.
     ghost becomes: { Error → Self.Error → Type 0 };
 
-    // The bytes of the calls that write a value, in either order of bytes; and the result after
-    // them, if all succeed.
+    // The bytes of the calls that write a value, in either order of bytes, and the result if all
+    // of the calls succeed.
     ghost writes: { Order → Self → List (List ℕ) };
 
     ghost answers: { Self → Result (Unit {0}) Self.Error } = { λ _. Ok tt };
@@ -61,11 +61,11 @@ pub trait ToByteStreamWith {
     /// The type of the errors of a write.
     type Error;
 
-    // The error map: from an error of the sink to the type's own.
+    // The error map: from an error of the sink to an error of the type.
     ghost becomes: { Error → Self.Error → Type 0 };
 
-    // The bytes of the calls that write a value, in either order of bytes; and the result after
-    // them, if all succeed.
+    // The bytes of the calls that write a value, in either order of bytes, and the result if all
+    // of the calls succeed.
     ghost writes: { Order → Self → Self.Context → List (List ℕ) };
 
     ghost answers: { Self → Self.Context → Result (Unit {0}) Self.Error } = { λ _ _. Ok tt };
@@ -109,11 +109,11 @@ pub trait ToByteStreamUsing {
     /// The type of the errors of a write.
     type Error;
 
-    // The error map: from an error of the sink to the type's own.
+    // The error map: from an error of the sink to an error of the type.
     ghost becomes: { Error → Self.Error → Type 0 };
 
-    // The bytes of the calls that write a value, in either order of bytes; and the result after
-    // them, if all succeed.
+    // The bytes of the calls that write a value, in either order of bytes, and the result if all
+    // of the calls succeed.
     ghost writes: { Order → Self → Self.Context → List (List ℕ) };
 
     ghost answers: { Self → Self.Context → Result (Unit {0}) Self.Error } = { λ _ _. Ok tt };

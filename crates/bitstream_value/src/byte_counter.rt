@@ -8,8 +8,8 @@ use bitstream_order::order::{BigEndian, Endianness};
 use bitstream_sink::counter::{Counter, Overflowed};
 use bitstream_stream::bytes::byte_write::ByteWrite;
 
-/// Counts the bytes that are written to it and keeps none of them. If the sum is above the greatest
-/// number of N, a call returns `CounterOverflow` and adds nothing.
+/// A sink that counts the bytes written to it, and keeps none of them. If the sum is above N's
+/// greatest value, a call returns `CounterOverflow` and adds nothing.
 #[derive(Drop)]
 pub(crate) struct BytesWritten<N: Counter> {
     count: N,

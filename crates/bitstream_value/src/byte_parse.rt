@@ -16,7 +16,7 @@ pub trait FromByteStream: Sized {
     // True if a read allocates.
     ghost grows: { Bool } = { false };
 
-    // The error map: from an error of the reader to the type's own.
+    // The error map: from an error of the reader to an error of the type.
     ghost becomes: { Error → Self.Error → Type 0 };
 
     // The reads of a value, in either order of bytes. They return the errors of the type too.
@@ -45,7 +45,7 @@ pub trait FromByteStreamWith: Sized {
     // True if a read allocates.
     ghost grows: { Bool } = { false };
 
-    // The error map: from an error of the reader to the type's own.
+    // The error map: from an error of the reader to an error of the type.
     ghost becomes: { Error → Self.Error → Type 0 };
 
     // The reads of a value, in either order of bytes. They return the errors of the type too.
@@ -76,7 +76,7 @@ pub trait FromByteStreamUsing: Sized {
     // True if a read allocates.
     ghost grows: { Bool } = { false };
 
-    // The error map: from an error of the reader to the type's own.
+    // The error map: from an error of the reader to an error of the type.
     ghost becomes: { Error → Self.Error → Type 0 };
 
     // The reads of a value, in either order of bytes. They return the errors of the type too.

@@ -1,4 +1,4 @@
-//! Reads and writes checked values.
+//! Reads and writes of checked values.
 ghost use Rattle.std.specs.Prelude.{◌≡◌, ℤ, Bool, List, length, IfOk};
 ghost use Rattle.bitstream_count.specs.Codec.{Decoder};
 ghost use Rattle.bitstream_number.specs.Word.{Order};
@@ -42,7 +42,7 @@ use bitstream_stream::write::BitWrite;
 /// assert_eq!(rt; writer.into_writer().as_slice(), [0xbb].as_slice());
 /// ```
 pub trait Checkable: Sealed + Copy {
-    // The word of a value, in either order.
+    // The encoding of a value, in either order.
     ghost word: { Order → Self → List Bool };
 
     /// Writes the value in the number of bits of its count.

@@ -1,4 +1,4 @@
-//! Prefix codes: each symbol is a word of bits, and no word is the beginning of another.
+//! Prefix codes: each symbol has a code word of bits, and no code word is a prefix of another.
 ghost use Rattle.std.specs.Prelude.{Bool, List};
 ghost use Rattle.bitstream_count.specs.Codec.{Decoder};
 ghost use Rattle.bitstream_stream.specs.Reading.Reads.{BitSource, Reads};
@@ -16,8 +16,8 @@ use bitstream_count::error::Error;
 use bitstream_stream::read::BitRead;
 use bitstream_stream::write::BitWrite;
 
-/// The calls that a prefix code makes on a reader. Every reader of bits has them, with the errors
-/// of [`BitRead`].
+/// The call that a prefix code makes on a reader. Every reader of bits has it, with the errors of
+/// [`BitRead`].
 pub trait NextBit {
     // The meaning of the reader's states.
     ghost source: { BitSource Self };
@@ -36,7 +36,7 @@ impl<R: BitRead> NextBit for R {
     }
 }
 
-/// The calls that a prefix code makes on a sink. Every sink of bits has them, with the errors of
+/// The call that a prefix code makes on a sink. Every sink of bits has it, with the errors of
 /// [`BitWrite`].
 pub trait PutBit {
     // The meaning of the sink's states.
@@ -64,7 +64,7 @@ pub trait FromBits {
     // The decoder of the code.
     ghost decoder: { Self → Decoder Self.Symbol };
 
-    /// Reads one word, and returns its symbol.
+    /// Reads one code word, and returns its symbol.
     fn from_bits<N: NextBit>(&self, next: &mut N) -> Result<Self::Symbol, Error>
         ensures reads { Reads N.source (decoder self.now) next.old result next.new };
 }
@@ -74,14 +74,14 @@ pub trait ToBits {
     /// The symbols of the code.
     type Symbol;
 
-    // The word of a symbol.
+    // The code word of a symbol.
     ghost word: { Self → Self.Symbol → List Bool };
 
-    /// Writes the word of a symbol, or nothing if it has none.
+    /// Writes the code word of a symbol, or nothing if the symbol has none.
     ///
     /// # Errors
     ///
-    /// The errors of the sink. The bits before the error stay written. Writing a word of no bits
+    /// The errors of the sink. The bits before the error stay written. Writing a code word of no bits
     /// always succeeds.
     fn to_bits<P: PutBit>(&self, symbol: Self::Symbol, put: &mut P) -> Result<(), Error>
         ensures writes { WritesAll P.sink (bit_by_bit (word self.now symbol))

@@ -1,4 +1,4 @@
-//! Laws of prefix codes, and of the lengths of users' types, whatever reads or writes them.
+//! Laws of prefix codes, and of the lengths of users' types, for all readers and sinks.
 //!
 //! The contract of each function is a law. Its body is empty.
 
@@ -21,7 +21,7 @@ use bitstream_stream::write::BitWrite;
 /// No path of a tree is a prefix of another path. A path is read back, whatever follows it. A read
 /// takes a path, and returns the symbol at its leaf.
 pub fn paths_are_read<S>()
-    // If the same bits begin with two paths, both are the same path, to the same symbol.
+    // If the same bits begin with two paths, the paths are equal and lead to the same symbol.
     ensures apart { (t : Tree S) (u v x y : List Bool) (a b : S) → IsPath t u a → IsPath t v b
         → u ++ x ≡ v ++ y → (u ≡ v) × (a ≡ b) }
     // A path is read as the symbol at its leaf, whatever follows it.
@@ -33,35 +33,35 @@ pub fn paths_are_read<S>()
         → (n ≤ length bits) × ((s : S) × (answer ≡ Ok s) × IsPath t (take n bits) s) }
 {}
 
-/// A symbol has a word exactly if a leaf has the same symbol. The word is the path of the first
-/// such leaf, and is read as that leaf's symbol.
+/// A symbol has a code word exactly if a leaf has an equal symbol. The code word is the path to the first
+/// leaf with an equal symbol, and is read as that leaf's symbol.
 pub fn symbols_have_words<S>()
-    // A symbol has a word exactly if a leaf has the same symbol.
+    // A symbol has a code word exactly if a leaf has an equal symbol.
     ensures known { (same : S → S → Bool) (t : Tree S) (s : S) → IsSome (first_path same t s)
         ↔ ((w : List Bool) × (x : S) × IsPath t w x × (same x s ≡ true)) }
-    // The word is the path of the first such leaf, and it is the word written.
+    // The code word is the path to the first leaf with the symbol, and a write appends it.
     ensures first { (same : S → S → Bool) (t : Tree S) (s : S) (w : List Bool)
         → first_path same t s ≡ Some w → IsFirstPath same t s w × (symbol_word same t s ≡ w) }
-    // The word is read as a symbol that is the same, whatever follows it.
+    // The code word is read as an equal symbol, whatever follows it.
     ensures back { (same : S → S → Bool) (t : Tree S) (s : S) (w : List Bool)
         → first_path same t s ≡ Some w → (x : S) × (same x s ≡ true)
         × ((p : ℕ) (more : List Bool) → (path_decoder t).reads p (w ++ more) ≡ Done (length w) (Ok x)) }
 {}
 
-/// The words of limited unary are the paths of a tree, whose leaves are `None` and the numbers below
-/// the maximum.
+/// The code words of limited unary numbers are the paths of a tree. The leaves of the tree are `None` and
+/// the numbers below the maximum.
 pub fn limited_runs_are_paths()
-    // The word of `None`, or of a number below the maximum, is a path to that value.
+    // The code word of `None`, or of a number below the maximum, is a path to that value.
     ensures word { (stop : Bool) (most : ℕ) (v : Option ℕ) → IfSome v (λ k. k < most)
         → IsPath (limited_tree stop 0 most) (limited_unary stop most v) v }
-    // A path leads to `None` or to a number below the maximum, and is the word of that value.
+    // A path leads to `None` or to a number below the maximum, and is the code word of that value.
     ensures path { (stop : Bool) (most : ℕ) (w : List Bool) (v : Option ℕ)
         → IsPath (limited_tree stop 0 most) w v
         → IfSome v (λ k. k < most) × (w ≡ limited_unary stop most v) }
 {}
 
-/// If a value's words have the same length in both orders of bits, `bits` returns the number of bits that `to_writer`
-/// appends at a byte boundary, or `CounterOverflow` if C cannot hold it.
+/// If the encoding of a value has the same length in both orders of bits, `bits` returns the number of bits that
+/// `to_writer` appends at a byte boundary, or `CounterOverflow` if C cannot hold it.
 pub fn bits_are_those_appended<T: ToBitStream, C: Counter, W: BitWrite>()
     ensures { (value : T) (old new : W) (bits : Result C T.Error) (n : ℕ)
         → HasOneLength (λ o. T.writes o value) → W.sink.len old % 8 ≡ 0
@@ -73,7 +73,7 @@ pub fn bits_are_those_appended<T: ToBitStream, C: Counter, W: BitWrite>()
         → IsNumberWithin C.value C.greatest T.becomes n bits }
 {}
 
-/// States the same for a type whose context is borrowed.
+/// States the law of [`bits_are_those_appended`] for a type whose context is borrowed.
 pub fn bits_with_a_context_are_those_appended<T: ToBitStreamWith, C: Counter, W: BitWrite>()
     ensures { (value : T) (context : T.Context) (old new : W) (bits : Result C T.Error) (n : ℕ)
         → HasOneLength (λ o. T.writes o value context) → W.sink.len old % 8 ≡ 0
@@ -85,7 +85,7 @@ pub fn bits_with_a_context_are_those_appended<T: ToBitStreamWith, C: Counter, W:
         → IsNumberWithin C.value C.greatest T.becomes n bits }
 {}
 
-/// States the same for a type whose context is taken by value.
+/// States the law of [`bits_are_those_appended`] for a type whose context is taken by value.
 pub fn bits_using_a_context_are_those_appended<T: ToBitStreamUsing, C: Counter, W: BitWrite>()
     ensures { (value : T) (context : T.Context) (old new : W) (bits : Result C T.Error) (n : ℕ)
         → HasOneLength (λ o. T.writes o value context) → W.sink.len old % 8 ≡ 0
@@ -110,7 +110,7 @@ pub fn bytes_are_those_appended<T: ToByteStream, C: Counter, W: ByteWrite>()
         → IsNumberWithin C.value C.greatest T.becomes n bytes }
 {}
 
-/// States the same for a type whose context is borrowed.
+/// States the law of [`bytes_are_those_appended`] for a type whose context is borrowed.
 pub fn bytes_with_a_context_are_those_appended<T: ToByteStreamWith, C: Counter, W: ByteWrite>()
     ensures { (value : T) (context : T.Context) (old new : W) (bytes : Result C T.Error) (n : ℕ)
         → HasOneTotal (λ o. T.writes o value context)
@@ -122,7 +122,7 @@ pub fn bytes_with_a_context_are_those_appended<T: ToByteStreamWith, C: Counter, 
         → IsNumberWithin C.value C.greatest T.becomes n bytes }
 {}
 
-/// States the same for a type whose context is taken by value.
+/// States the law of [`bytes_are_those_appended`] for a type whose context is taken by value.
 pub fn bytes_using_a_context_are_those_appended<T: ToByteStreamUsing, C: Counter, W: ByteWrite>()
     ensures { (value : T) (context : T.Context) (old new : W) (bytes : Result C T.Error) (n : ℕ)
         → HasOneTotal (λ o. T.writes o value context)

@@ -1,5 +1,5 @@
-//! Values of any type that is read and written as bits or bytes: integers, checked values, symbols
-//! of prefix codes, and user-defined types. `bitstream_io` exports what callers need.
+//! Values of all types that are read and written as bits or bytes: integers, checked values, symbols
+//! of prefix codes, and user-defined types. `bitstream_io` exports the items that callers need.
 //!
 //! - [`build`]: types whose values are written as bits
 //! - [`byte_build`]: types whose values are written as bytes
@@ -7,7 +7,7 @@
 //! - [`byte_read`]: calls that read values of users' types from bytes
 //! - [`byte_write`]: calls that write values of users' types as bytes
 //! - [`checked`]: checked values, read and written
-//! - [`huffman`]: prefix codes: each symbol is a word of bits, and no word is the beginning of another
+//! - [`huffman`]: prefix codes: each symbol has a code word, and no code word is a prefix of another
 //! - [`integer`]: integers, `bool`, `NonZero` types and arrays as bits
 //! - [`laws`]: laws of prefix codes, and of the lengths of users' types
 //! - [`pack`]: values that are packed into a buffer

@@ -86,7 +86,7 @@ pub trait BitReadExt: BitRead {
         ensures reads { Reads Self.source (C.reads Self.source.order count)
             self.old (result_map C.counted result) self.new };
 
-    /// Reads the word of a symbol of a prefix code, and returns the symbol.
+    /// Reads the code word of a symbol of a prefix code, and returns the symbol.
     ///
     /// # Errors
     ///

@@ -74,7 +74,7 @@ pub trait BitWriteExt: BitWrite {
         ensures writes { Writes Self.sink (plain (C.word Self.sink.order value))
             self.old result self.new };
 
-    /// Writes the word of a symbol of a prefix code, or nothing if it has none.
+    /// Writes the code word of a symbol of a prefix code, or nothing if the symbol has none.
     ///
     /// # Errors
     ///
@@ -87,7 +87,7 @@ pub trait BitWriteExt: BitWrite {
     ///
     /// # Errors
     ///
-    /// Like [`ToBitStream::to_writer`].
+    /// As [`ToBitStream::to_writer`].
     fn build<T: ToBitStream>(&mut self, value: &T) -> Result<(), T::Error>
         ensures writes { WritesOwn Self.sink T.becomes (T.writes Self.sink.order value.now)
             (T.answers value.now) self.old result self.new };

@@ -131,14 +131,14 @@ byte_waits o x w b old mid new h k = subst (λ y. TakesBetween o x old w y new) 
 pub lead_of_byte : (o : Order) (stop : Bool) (b r : ℕ) → r ≡ lead stop (word o 8 b) → r ≤ 8
 lead_of_byte o stop b r is = omega (arith, is, lead_le stop (word o 8 b), length-word o 8 b)
 
--- those behind the first n
+-- the bits after the first n bits
 rest_bits : (o : Order) (byte n r : ℕ) → ((k : ℕ) → n + k ≤ 8 → first_part o r 8 k ≡ piece o 8 byte n k) → (k : ℕ)
     → n + k ≤ 8 → take (n + k) (word o 8 byte) ≡ take n (word o 8 byte) ++ take k (word o 8 r)
 rest_bits o byte n r rest k le =
     piece_more o 8 byte n k le ∙ ap (λ w. take n (word o 8 byte) ++ w) (ap (word o k) (sym (rest k le))
     ∙ sym (first_bits o r 8 k (omega arith)))
 
--- those behind a run and the bit that ends it
+-- the bits after a run and the bit that ends it
 rest_twice : (o : Order) (byte n q r : ℕ) → ((k : ℕ) → n + k ≤ 8 → first_part o q 8 k ≡ piece o 8 byte n k)
     → ((k : ℕ) → 1 + k ≤ 8 → first_part o r 8 k ≡ piece o 8 q 1 k)
     → (k : ℕ) → n + (1 + k) ≤ 8 → take (n + (1 + k)) (word o 8 byte) ≡ take (n + 1) (word o 8 byte)

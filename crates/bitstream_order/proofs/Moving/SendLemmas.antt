@@ -16,7 +16,7 @@ pub piece_below : (o : Order) (n v at k : ℕ) → piece o n v at k < 2 ^ k
 piece_below High n v at k = mod-lt (v / 2 ^ (n - (at + k))) (pow_pos k)
 piece_below Low n v at k = mod-lt (v / 2 ^ at) (pow_pos k)
 
--- the first bits of a word, and the rest of them
+-- the first bits of an encoding, and its other bits
 pub piece_last : (o : Order) (n v at : ℕ) → at ≤ n → word o n v ≡ take at (word o n v)
     ++ word o (n - at) (piece o n v at (n - at))
 piece_last o n v at le =
@@ -37,8 +37,8 @@ sends_bytes o x y bs old new h is = record {
   word = is;
 }
 
--- the bytes of a queue and of as many bits of a word behind it as fill bytes, by a value whose bits are those of the
--- queue and, behind them, the first bits of another
+-- the full bytes of a queue and the encoding after it, from a value whose bits are the bits of the queue and then the
+-- first bits of another value
 pub prefix_bytes : (o : Order) (queued queue n v size m t : ℕ) (bytes : List ℕ) → queued < 8 → 8 ≤ queued + n → n ≤ size
     → size ≡ 8 * length bytes
     → take n (word o size t) ≡ word o n v → word o size m ≡ word o queued queue ++ take (size - queued) (word o size t)
@@ -66,15 +66,15 @@ prefix_bytes o queued queue n v size m t bytes few full room long prefix both is
     take_less k (size - queued) b (omega arith) ∙ sym (take_less k n b (omega arith)) ∙ ap (take k) prefix in
     sym (bits_are ∙ whole ∙ ap (λ x. q ++ x) word_is)
 
--- a refused request for the bytes that a queue and a word fill
+-- a failed request to send the bytes that a queue and an encoding fill
 pub sends_refused : (may : Refusal → Type 0) (o : Order) (queued queue n v : ℕ) (error : Error) (k : ℕ)
     (old new : PortState) → k ≡ (queued + n) / 8 → SendRefused may error old k new
     → SendRefused may error old ((length (word o queued queue) + length (word o n v)) / 8) new
 sends_refused may o queued queue n v error k old new is h =
     rw (length-word o queued queue, length-word o n v) (subst (λ m. SendRefused may error old m new) is h)
 
--- the numbers of bits that were sent and queued, when the whole bytes of a queue and a word were sent and the rest is
--- queued
+-- the numbers of bits that were sent and queued, when the full bytes of a queue and an encoding were sent and the rest
+-- is queued
 pub sent_bits : (o : Order) (queued queue kept rest : ℕ) (x : List Bool) (bytes : List ℕ) (old new : ℕ) → new
     ≡ old + length bytes → word o queued queue ++ x ≡ bits o bytes ++ word o kept rest
     → 8 * new + kept ≡ 8 * old + queued + length x

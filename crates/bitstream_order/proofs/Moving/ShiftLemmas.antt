@@ -1,4 +1,4 @@
--- Bits that are moved behind a queue.
+-- Bits that are shifted to follow a queue.
 use Rattle.std.proofs.Common.{◌≡◌, ℕ, ◌+◌, ◌-◌, ◌<◌, ◌≤◌, List, [], ◌++◌, Bool, length, take, drop, sym, ap, ap₂, ◌∙◌, subst, arith, append_assoc, append-nil, length-drop}
 use Rattle.std.proofs.Math.ListN.{drop_of_length-le}
 use Rattle.std.proofs.Math.Seq.{take-length}
@@ -13,7 +13,7 @@ use Rattle.bitstream_order.specs.Moving.Shift.{Shifts}
 use Rattle.bitstream_order.proofs.Moving.SendLemmas.{piece_last}
 use Rattle.bitstream_order.proofs.Moving.TakeLemmas.{word-none}
 
--- a queue before the word of a value, whose last bits are left
+-- a queue before the encoding of a value, whose last bits are left
 pub shifts_word : (o : Order) (size queued queue value made : ℕ) → queued ≤ size → word o size made
     ≡ word o queued queue ++ take (size - queued) (word o size value)
     → Shifts o queued queue (word o size value) (word o size made) (piece o size value (size - queued) queued)
@@ -53,7 +53,7 @@ shifts_as o queued queue left x y u v e f h = subst (λ a. Shifts o queued queue
 
 -- ---- parts of a slice
 
--- a part in the middle, behind those before it
+-- a part in the middle, after the parts before it
 pub shifts_part : (o : Order) (queued queue mid left at size k : ℕ) (init xs part made : List ℕ) → k ≡ size
     → at ≤ length xs → length made ≡ size → drop at xs ≡ drop at init → part ≡ take k (drop at xs)
     → Shifts o queued queue (bits o (take at init)) (bits o (take at xs)) mid

@@ -14,7 +14,7 @@ unfolding digits
 word-none High v = refl
 word-none Low v = refl
 
--- no bits behind a word
+-- no bits after an encoding
 whole : (o : Order) (n v : ℕ) → word o n v ++ word o 0 0 ≡ word o n v
 whole o n v = ap (λ w. word o n v ++ w) (word-none o 0) ∙ append-nil (word o n v)
 
@@ -48,7 +48,7 @@ takes_queue o left byte n k v q p below le sum first rest = record {
   below = subst (λ x. x < 2 ^ n) (sym first) (first_below o byte 8 n below (omega arith));
 }
 
--- some of the bits of some bytes behind a word; w is the number of these bytes with others behind them
+-- some of the bits of some bytes after an encoding; w is the number of these bytes and of the bytes after them
 pub takes_bits : (o : Order) (done acc n size w f v q : ℕ) (bs z : List ℕ) (old new : PortState) → acc < 2 ^ done
     → w < 2 ^ size → length bs ≡ (n + 7) / 8 → 8 * ((n + 7) / 8) ≤ size → Fetched old bs new
     → word o size w ≡ bits o (bs ++ z) → f ≡ first_part o w size n → v ≡ put_number o acc done f n → q
@@ -83,7 +83,7 @@ takes_lengths o left queue n v l q bytes e =
     ∙ sym (length-append (word o left queue) (bits o bytes)) ∙ ap (λ w. length w) e
     ∙ length-append (word o n v) (word o l q) ∙ ap₂ (λ x y. x + y) (length-word o n v) (length-word o l q)
 
--- the same word, by equal numbers
+-- the same encoding, by equal numbers
 pub takes_as : (o : Order) (left z queue m n v l k byte : ℕ) (old new : PortState) → z ≡ queue → m ≡ n → l ≡ k
     → TakesWord o left z old m v l (first_part o byte 8 l) new
     → TakesWord o left queue old n v k (first_part o byte 8 k) new

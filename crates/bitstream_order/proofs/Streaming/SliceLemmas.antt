@@ -1,4 +1,4 @@
--- Bytes in memory refuse a read at their end alone, and tell their rest; a seek within range they never refuse.
+-- Reads of bytes in memory fail only at the end, and the bytes left are known. A seek within range never fails.
 use Rattle.std.proofs.Common.{◌≡◌, ℕ, ℤ, pos, ◌+ℤ◌, ◌^◌, ◌<◌, length, drop, Some, refl, sym, ap, subst, arith, w64}
 use Rattle.std.proofs.lemmas.Int.{ints}
 use Rattle.std.specs.Int.{FitsUnsigned}
@@ -13,7 +13,7 @@ use Rattle.bitstream_order.proofs.Streaming.TailLemmas.{behind_place}
 pub slice_ends : TrueEnds (MayRefuseRead slice_stream)
 slice_ends = ends_true (λ before after wanted kind refused. (before.bytes.now, refl, refused.0, refused.1))
 
--- the bytes left are those behind the place
+-- the bytes left are the bytes after the position
 pub slice_rest : (s : Slice) → slice_remaining s ≡ Some (drop (slice_place s) (slice_bytes s))
 slice_rest s = ap Some (sym (behind_place s.past s.bytes.now s.all.now s.tail s.ended))
 
@@ -33,7 +33,7 @@ IsNear (Start n) = n < 2 ^ 64
 IsNear (End d) = d ≡ pos 0
 IsNear (Current d) = d ≡ pos 0
 
--- a seek to one of these places is in range, wherever the bytes stand
+-- a seek to one of these positions is in range, whatever the current position is
 pub slice_in_range : (s : Slice) (to : SeekFrom) → IsNear to
     → FitsUnsigned w64 (byte_meant (slice_place s) (length (slice_bytes s)) to)
 slice_in_range s (Start n) near = in_range n (omega (arith, near))

@@ -1,4 +1,4 @@
--- Bytes in memory refuse a write for want of room alone, and keep what is not written.
+-- Writes to bytes in memory fail only for lack of room, and the bytes that are not written are unchanged.
 use Rattle.std.proofs.Common.{◌≡◌, ◌+◌, ◌++◌, ℕ, List, drop, Some, ap, sym, ◌∙◌, refl, length-take-le}
 use Rattle.std.proofs.lemmas.List.{drop-drop, take-append-drop}
 use Rattle.bitstream_order.specs.Refusal.{MayRefuseWrite, AllLackRoom}

@@ -4,7 +4,7 @@ use Rattle.std.proofs.Math.Seq.{take-append_seam, drop-append-add, drop-nil}
 use Rattle.std.proofs.lemmas.List.{length-drop, length-take-le}
 use Rattle.bitstream_order.specs.Streaming.Tail.{IsTail}
 
--- bytes behind some others are the last of both
+-- bytes after a prefix are the last bytes of the two together
 behind : (prefix bytes : List ℕ) → IsTail bytes (prefix ++ bytes)
 behind prefix bytes =
     let size : length (prefix ++ bytes) - length bytes ≡ length prefix = omega (arith, length-append prefix bytes) in
@@ -37,7 +37,7 @@ behind_place past bytes all tail ended =
     length-take-le (length all - length bytes) all (omega arith) in
     ap₂ (λ n xs. drop (n + past) xs) (sym size) tail ∙ drop-append-add prefix bytes past ∙ none_past past bytes ended
 
--- behind the first of the last bytes the place is as many further on
+-- after the first n of the last bytes, the position is n further on
 pub place_behind : (n past : ℕ) (bytes all back : List ℕ) → IsTail bytes all → back ≡ drop n bytes → n ≤ length bytes
     → (length all - length back) + past ≡ ((length all - length bytes) + past) + n
 place_behind n past bytes all back tail cut enough =

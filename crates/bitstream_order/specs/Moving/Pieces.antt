@@ -1,4 +1,4 @@
--- The number of pieces in which bytes go.
+-- The number of pieces in which bytes are sent.
 use Rattle.std.specs.Prelude.{ℕ, zero, suc, ◌+◌, ◌/◌, ◌-◌, ◌==◌, if◌then◌else◌}
 
 -- the number of pieces of n bytes after a number of queued bits: none for no bytes, one if no bit is queued,

@@ -9,12 +9,13 @@ use Rattle.bitstream_order.specs.Port.{PortState, Fetched, FetchRefused}
 use Rattle.bitstream_order.specs.Refusal.{Refusal}
 use Rattle.bitstream_order.specs.declared.kernels.unary.TakenUnary.{TakenUnary}
 
--- one byte was fetched, or its request was refused
+-- one byte was fetched, or the request for it failed
 abbrev pub FetchesByte : (Refusal → Type 0) → PortState → Result ℕ Error → PortState → Type 0
 FetchesByte may old (Ok byte) new = Fetched old (byte ∷ []) new
 FetchesByte may old (Err error) new = FetchRefused may error old 1 new
 
--- From a port with the bits x before it to one with the bits y: the bits w between them were taken.
+-- Before: the bits x, and then the bits of the port. After: the bits w were taken, and the bits y are left before the
+-- bits of the port.
 pub record TakesBetween (o : Order) (x : List Bool) (old : PortState) (w y : List Bool) (new : PortState) : Type 0 where
   pub bytes : List ℕ
   pub loses : Consumes old.bytes new.bytes bytes
@@ -31,7 +32,7 @@ pub record TakesLongUnary (o : Order) (stop : Bool) (x : List Bool) (old new : P
   pub few : length left < 8
   pub takes : TakesBetween o x old (replicate count (not stop)) left new
 
--- a byte was refused after bits that are not the stop bit
+-- the request for a byte failed after bits that are not the stop bit
 pub record RefusesUnary (may : Refusal → Type 0) (o : Order) (stop : Bool) (x : List Bool) (old : PortState)
     (error : Error) (new : PortState) : Type 0 where
   pub count : ℕ
@@ -40,8 +41,8 @@ pub record RefusesUnary (may : Refusal → Type 0) (o : Order) (stop : Bool) (x 
   pub takes : TakesBetween o x old (replicate count (not stop)) [] mid
   pub refused : FetchRefused may error mid 1 new
 
--- A unary read, with the bits x before the port. Its word was taken, and the bits after it are left; or the run
--- was too long; or a byte was refused.
+-- A unary read, with the bits x before the bits of the port. The encoding of the number was taken, and the bits after
+-- it are left; or the run was too long; or the request for a byte failed.
 abbrev pub TakesUnary : (Refusal → Type 0) → Order → Bool → List Bool → PortState → Result (Option TakenUnary) Error
     → PortState → Type 0
 TakesUnary may o stop x old (Ok (Some r)) new =

@@ -19,8 +19,8 @@ growing_contents g = Some (growing_bytes g)
 abbrev pub growing_capacity : {A : Type 0} → Growing A → ℕ
 growing_capacity g = vec_capacity g.bytes
 
--- A request to write some bytes is refused only if the vector has no memory left for them, as `OutOfMemory`, and writes
--- nothing.
+-- A request to write some bytes fails only if the vector has no memory left for them. The kind is then `OutOfMemory`,
+-- and no byte is written.
 pub record GrowthRefused {A : Type 0} (before : Growing A) (wanted : ℕ) (kind : ErrorKind) (after : Growing A) :
     Type 0 where
   pub memory : kind ≡ OutOfMemory

@@ -12,7 +12,7 @@ use Rattle.bitstream_order.specs.declared.streams.slice.Slice.{Slice}
 abbrev pub slice_remaining : Slice → Option (List ℕ)
 slice_remaining s = Some s.bytes.now
 
--- all bytes, from place 0 on
+-- all bytes, from position 0 on
 abbrev pub slice_bytes : Slice → List ℕ
 slice_bytes s = s.all.now
 
@@ -20,16 +20,17 @@ slice_bytes s = s.all.now
 abbrev pub slice_left : Slice → List ℕ
 slice_left s = s.bytes.now
 
--- the place in bytes, which may lie past the end
+-- the position in bytes, which may be past the end
 abbrev pub slice_place : Slice → ℕ
 slice_place s = (length s.all.now - length s.bytes.now) + s.past
 
--- a request is refused exactly if fewer bytes are left than it asks for, as an end, and changes nothing
+-- A request fails if, and only if, it asks for more bytes than are left. The kind is then `UnexpectedEof`, and nothing
+-- changes.
 abbrev pub slice_refuses : Slice → ℕ → ErrorKind → Slice → Type 0
 slice_refuses before wanted kind after = (kind ≡ UnexpectedEof) × (length before.bytes.now < wanted)
     × (after ≡ before)
 
--- a request moved the place by the number of bytes that it took, among the same bytes
+-- a request moved the position by the number of bytes that it took; the bytes are unchanged
 abbrev pub slice_takes : Slice → ℕ → Slice → Type 0
 slice_takes before count after = (slice_bytes after ≡ slice_bytes before)
     × (slice_place after ≡ slice_place before + count)
@@ -43,13 +44,14 @@ slice_stream = record {
   takes = slice_takes;
 }
 
--- the position that a seek means, for bytes of this length at this place
+-- the position that a seek means, from the current position and the number of bytes
 abbrev pub byte_meant : ℕ → ℕ → SeekFrom → ℤ
 byte_meant place len (Start n) = pos n
 byte_meant place len (End offset) = pos len +ℤ offset
 byte_meant place len (Current offset) = pos place +ℤ offset
 
--- a seek is refused exactly if its place is below 0 or above 2^64 - 1, as an invalid input, and changes nothing
+-- A seek fails if, and only if, its position is below 0 or above 2^64 - 1. The kind is then `InvalidInput`, and nothing
+-- changes.
 abbrev pub slice_refuses_seek : Slice → SeekFrom → ErrorKind → Slice → Type 0
 slice_refuses_seek before to kind after =
     (kind ≡ InvalidInput) × (FitsUnsigned w64 (byte_meant (slice_place before) (length (slice_bytes before)) to) → ⊥)

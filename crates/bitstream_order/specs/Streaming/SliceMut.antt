@@ -41,7 +41,7 @@ pub record HoldsFirst (name : GName) (was : List ℕ) (s : SliceMut) : Type 0 wh
   pub reached : slice_name s ≡ name
   pub bytes : slice_bytes s ≡ written_bytes s ++ drop (length (written_bytes s)) was
 
--- a request is refused exactly if fewer bytes are free than it has, as no room, and changes nothing
+-- A request fails if, and only if, it has more bytes than are free. The kind is then `WriteZero`, and nothing changes.
 abbrev pub slice_refuses_write : SliceMut → ℕ → ErrorKind → SliceMut → Type 0
 slice_refuses_write before wanted kind after = (kind ≡ WriteZero)
     × (slice_capacity before < length (written_bytes before) + wanted) × (after ≡ before)

@@ -11,8 +11,8 @@ fn copy_all<const N: usize>(to: &mut [u8], from: &[u8])
     to[..N].copy_from_slice(&from[..N]);
 }
 
-/// Copies bytes. Up to 16 bytes, the size of the largest word, are copied with a constant length,
-/// and so without a function call.
+/// Copies bytes. Up to 16 bytes, the size of a `u128`, are copied with a constant length, and so
+/// without a function call.
 #[inline(always)]
 pub(crate) fn copy(to: &mut [u8], from: &[u8])
     requires { length to.old ≡ length from.now }

@@ -1,4 +1,4 @@
-//! Takes words from the bytes of a stream.
+//! Takes the bits of values from the bytes of a stream.
 ghost use Rattle.std.specs.Prelude.{◌≡◌, ℕ, ◌+◌, ◌^◌, ◌<◌, ◌≤◌};
 ghost use Rattle.bitstream_order.specs.Refusal.{MayRefuseRead};
 ghost use Rattle.bitstream_order.specs.Port.{source_state, requests_count};
@@ -38,7 +38,7 @@ pub fn take_bits<S: Source, E: Endianness, U: UnsignedInteger>(
     requires some { 1 ≤ n }
     requires room { done + n ≤ U.BITS_SIZE }
     // The next n bits of the stream follow the `done` bits, and the rest of the last byte is
-    // returned too. Or the request is refused.
+    // returned too. Or the request fails.
     ensures takes { TakesBits (MayRefuseRead S.stream) E.order done (U.value acc) n
         (source_state S.stream port.old) (result_map (λ p. (U.value p.0, p.1)) result)
         (source_state S.stream port.new) }
@@ -49,8 +49,7 @@ pub fn take_bits<S: Source, E: Endianness, U: UnsignedInteger>(
     let count = (n + 7) / 8;
     match port.fetch_prefix(U::as_bytes_mut(&mut bytes), count as usize, constant) {
         Ok(()) => {
-            // The bytes as one value: its first n bits are the word, and the bits after them are
-            // left.
+            // The bytes as one value: its first n bits are taken, and the bits after them are left.
             let value = E::of_bytes::<U>(bytes);
             let left = E::byte_behind(value, n);
             Ok((E::put(acc, done, E::prefix(value, n), n), left))

@@ -1,4 +1,4 @@
-//! Sends words to a stream.
+//! Sends the bits of values to a stream.
 ghost use Rattle.std.specs.Prelude.{◌≡◌, ℕ, ◌+◌, ◌^◌, ◌<◌, ◌≤◌, IfOk};
 ghost use Rattle.bitstream_order.specs.Refusal.{MayRefuseWrite};
 ghost use Rattle.bitstream_number.specs.Word.{word};
@@ -12,7 +12,7 @@ use bitstream_count::error::Error;
 use bitstream_number::number::{Numeric, Primitive, UnsignedInteger};
 
 /// Appends the n bits of a value to a queue of bits, and sends the whole bytes of the result by one
-/// request. Returns how many of the n bits were sent: fewer than 8 are left.
+/// request. Returns the number of the n bits that were sent: fewer than 8 are left.
 ///
 /// # Errors
 ///
@@ -29,8 +29,8 @@ pub fn send_prefix<T: Target, E: Endianness, U: UnsignedInteger>(
     requires small { queue < 2 ^ queued }
     requires full { 8 ≤ queued + n }
     requires room { n ≤ U.BITS_SIZE }
-    // The queue is sent, and then as many bits of the word as the result states. Or the request is
-    // refused.
+    // The queue is sent, and then the first bits of the value: the result is their number. Or the
+    // request fails.
     ensures sends { SendsPrefix (MayRefuseWrite T.stream) E.order
         (word E.order queued queue) (word E.order n (U.value value))
         (target_state T.stream port.old) result (target_state T.stream port.new) }
@@ -39,7 +39,7 @@ pub fn send_prefix<T: Target, E: Endianness, U: UnsignedInteger>(
     ensures rest { IfOk result (λ done. n < done + 8) }
     ensures requests { requests_count port.new ≡ requests_count port.old + 1 }
 {
-    // The queue and then the word, as the first bits of one value. Its first bytes are the full ones.
+    // The first bits of this value are the queue and then the n bits. Its first bytes are full.
     let bytes = E::to_bytes(E::behind(queue, queued, E::to_front(value, n)));
     let count = (queued + n) / 8;
     match port.send(&U::as_bytes(&bytes)[..count as usize]) {

@@ -1,4 +1,4 @@
-//! Takes unary words from the bytes of a stream.
+//! Takes unary numbers from the bytes of a stream.
 ghost use Rattle.std.specs.Prelude.{◌≡◌, ◌+◌, ◌-◌, ◌<◌, ◌≤◌, IfOk, IfSome, OnOk};
 ghost use Rattle.bitstream_number.specs.Word.{word};
 ghost use Rattle.bitstream_order.specs.Parts.{first_part};
@@ -55,14 +55,14 @@ pub fn take_unary<S: Source, E: Endianness>(
     stop: bool,
 ) -> Result<Option<TakenUnary>, Error>
     requires { queued < 8 }
-    // The queued bits and then the fetched bits are the unary word and then the bits left. Or the
-    // run is too long, or a request is refused.
+    // The queued bits and then the fetched bits are the unary encoding and then the bits left. Or
+    // the run is too long, or a request fails.
     ensures takes { TakesUnary (MayRefuseRead S.stream) E.order stop
         (word E.order queued (first_part E.order queue 8 queued))
         (source_state S.stream port.old) result (source_state S.stream port.new) }
-    // If a word was taken, fewer than 8 bits are left after it.
+    // If a number was taken, fewer than 8 bits are left after it.
     ensures few { IfOk result (λ answer. IfSome answer (λ run. run.queued < 8)) }
-    // Unless a request is refused, the number of iterations is one more than the number of bytes
+    // Unless a request fails, the number of iterations is one more than the number of bytes
     // fetched.
     ensures turns { OnOk result (turns.new.count
         ≡ turns.old.count + (fetched_count port.new - fetched_count port.old) + 1) }

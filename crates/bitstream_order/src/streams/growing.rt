@@ -1,4 +1,4 @@
-//! A vector of bytes, as a target that refuses a write only if the vector cannot grow.
+//! A vector of bytes, as a target whose writes fail only if the vector cannot grow.
 ghost use Rattle.std.specs.Prelude.{◌≡◌, [], length};
 ghost use Rattle.bitstream_order.specs.Streaming.Growing.{IsExtended};
 
@@ -7,10 +7,10 @@ use std::alloc::{AllocError, Allocator};
 use std::io;
 use std::io::ErrorKind;
 
-/// A vector of bytes, with writes appended to it. A request is refused if and only if the vector
-/// needs memory and the allocation fails. The kind of the error is then `OutOfMemory`, and the
-/// bytes are unchanged. So a writer over it knows the state after a refusal. (std's contract does
-/// not state this for a `Vec` as a stream.)
+/// A target that appends to a vector of bytes. A request fails if, and only if, the vector needs
+/// memory and the allocation fails. The kind of the error is then `OutOfMemory`, and the bytes are
+/// unchanged. The contents are therefore known after an error too. (std's contract does not state
+/// this for a `Vec` as a stream.)
 ///
 /// # Examples
 ///
@@ -71,7 +71,7 @@ fn extend_by<const N: usize, A: Allocator>(
     vec.extend_from_slice(&bytes[..N])
 }
 
-/// Appends bytes to a vector. Up to 8 bytes, which is enough for most words, are copied with a
+/// Appends bytes to a vector. Up to 8 bytes, which is enough for most values, are copied with a
 /// constant length, and so without a function call.
 #[inline(always)]
 fn extend<A: Allocator>(vec: &mut Vec<u8, A>, bytes: &[u8]) -> Result<(), AllocError>

@@ -11,7 +11,7 @@ use crate::streams::source::Source;
 use std::io;
 use std::io::{Read, Seek, SeekFrom};
 
-/// A source that can seek: any `Read + Seek`, or such a source that is [`Lent`].
+/// A source that can seek: any `Read + Seek`, or a [`Lent`] source that can seek.
 pub trait SeekSource: Source {
     // The position in bytes, if it is known.
     ghost position: { Self → Option ℕ };
@@ -19,25 +19,26 @@ pub trait SeekSource: Source {
     // All bytes from position 0 on, if they are known.
     ghost bytes: { Self → Option (List ℕ) };
 
-    // The ways in which a seek may be refused, and the kinds. std's contract does not state this
-    // for a `Read + Seek`.
+    // The ways in which a seek may fail, with the kinds of the errors. std's contract does not
+    // state this for a `Read + Seek`.
     ghost refuses_seek: { Self → SeekFrom → ErrorKind → Self → Type 0 };
 
-    /// Seeks by one request, and returns the new position in bytes.
+    /// Moves to another position by one request. Returns the new position in bytes from the start.
     ///
     /// # Errors
     ///
     /// The errors of [`Seek::seek`] of the source. After an error, the position is unchanged.
     fn seek(&mut self, to: SeekFrom) -> io::Result<u64>
-        // If the source's position is known, the new position is the result, or the old one if the
-        // seek is refused. If its bytes are known too, the result is the position that `to` means.
+        // If the source's position is known, the new position is the result, or is the old position
+        // if the seek fails. If its bytes are known too, the result is the position that `to`
+        // means.
         ensures moves { SeekMoves (position self.old) (position self.new)
             (bytes self.old) to result }
-        // All bytes of the source stay the same, if they are known.
+        // If the source's bytes are known, they are unchanged.
         ensures bytes { Keeps (bytes self.old) (bytes self.new) }
         // The source is reached by the same references as before.
         ensures references { Self.stream.references self.new ≡ Self.stream.references self.old }
-        // The source may refuse this seek by this error.
+        // The source's properties allow this seek to fail with this error.
         ensures refused { IfErr result (λ e. refuses_seek self.old to (error_kind e) self.new) };
 }
 

@@ -1,4 +1,4 @@
-//! Bytes in memory, as a source that refuses a read only at their end.
+//! Bytes in memory, as a source whose reads fail only if too few bytes are left.
 ghost use Rattle.std.specs.Prelude.{◌≡◌, ◌+◌, ◌^◌, ◌<◌, [], length, unsigned_abs, Some};
 ghost use Rattle.std.specs.Int.{FitsUnsigned, w64};
 ghost use Rattle.std.specs.Option.{SomeIff};
@@ -10,14 +10,14 @@ use crate::streams::source::Source;
 use std::io;
 use std::io::{ErrorKind, SeekFrom};
 
-/// Bytes in memory, read from their start. A read is refused exactly if fewer bytes are left than
-/// it asks for. The error is then `UnexpectedEof`, and no byte is taken. So the results of a reader
-/// over it depend only on the bytes. (std's contract does not state this for a `&[u8]` as a
-/// stream.)
+/// A source that reads a slice of bytes, starting at its first byte. A read fails if, and only if,
+/// it asks for more bytes than are left. The kind of the error is then `UnexpectedEof`, and no byte
+/// is taken. The results of a reader over a `Slice` therefore depend only on the bytes. (std's
+/// contract does not state this for a `&[u8]` as a stream.)
 ///
-/// It seeks as std's `Cursor` does. A place past the end is allowed, and no byte is left there. A
-/// seek is refused exactly if its place in bytes is below 0 or above 2^64 - 1. The error is then
-/// `InvalidInput`, and the place is unchanged.
+/// A `Slice` seeks as std's `Cursor` does. A position past the end is allowed, and no bytes are
+/// left there. A seek fails if, and only if, the new position in bytes would be below 0 or above
+/// 2^64 - 1. The kind of the error is then `InvalidInput`, and the position is unchanged.
 ///
 /// # Examples
 ///
@@ -33,7 +33,7 @@ pub struct Slice<'a> {
     // The bytes left.
     bytes: &'a [u8],
     all: &'a [u8],
-    // The number of bytes between the end and a place past it.
+    // The number of bytes from the end to the position, if the position is past the end, or else 0.
     past: u64,
     ghost tail: { IsTail bytes.now all.now },
     ghost ended: { 0 < past → bytes.now ≡ [] },
@@ -43,11 +43,11 @@ pub struct Slice<'a> {
 impl<'a> Slice<'a> {
     ghost use Rattle.bitstream_order.specs.Streaming.Slice.{byte_meant, slice_bytes, slice_left, slice_place, slice_remaining};
 
-    /// Returns a source of these bytes, at their start.
+    /// Returns a source that reads these bytes, starting at the first byte.
     pub fn new(bytes: &'a [u8]) -> Slice<'a>
         // All these bytes are left.
         ensures bytes { slice_left result ≡ bytes.now }
-        // They are all bytes of the source, from place 0 on.
+        // They are all bytes of the source, from position 0 on.
         ensures all { slice_bytes result ≡ bytes.now }
         ensures place { slice_place result ≡ 0 }
     {
@@ -65,14 +65,15 @@ impl<'a> Slice<'a> {
         self.bytes
     }
 
-    /// Returns the place in bytes.
+    /// Returns the position in bytes from the start.
     fn place(&self) -> u64
         ensures { result ≡ slice_place self.now }
     {
         (self.all.len() - self.bytes.len()) as u64 + self.past
     }
 
-    /// Returns the place in bytes that `to` means, or `None` if there is no such place.
+    /// Returns the position in bytes that `to` means, or `None` if that is below 0 or above
+    /// 2^64 - 1.
     fn place_meant(&self, to: SeekFrom) -> Option<u64>
         ensures { SomeIff result
             (FitsUnsigned w64 (byte_meant (slice_place self.now) (length (slice_bytes self.now)) to))
@@ -85,9 +86,9 @@ impl<'a> Slice<'a> {
         }
     }
 
-    /// Goes to a place in bytes.
+    /// Moves to a position in bytes from the start.
     fn go_to(&mut self, place: u64)
-        // The place may be past the end.
+        // The position may be past the end.
         ensures place { slice_place self.new ≡ place }
         ensures all { slice_bytes self.new ≡ slice_bytes self.old }
     {
@@ -115,8 +116,8 @@ impl<'a> Source for Slice<'a> {
         Ok(())
     }
 
-    /// Takes the first `count` bytes. Copies as many bytes as the buffer has, if there are enough.
-    /// If `constant` is true, copies only the first `count` bytes.
+    /// Takes the next `count` bytes. If `constant` is true, copies only these bytes. Otherwise,
+    /// fills the whole buffer if enough bytes are left.
     #[inline(always)]
     fn read_prefix(&mut self, buf: &mut [u8], count: usize, constant: bool) -> io::Result<()> {
         if constant {

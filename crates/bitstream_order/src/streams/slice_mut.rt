@@ -1,4 +1,4 @@
-//! Bytes in memory, as a target that refuses a write only if it has no room for it.
+//! Bytes in memory, as a target whose writes fail only if too few bytes are free.
 ghost use Rattle.std.specs.Prelude.{◌≡◌, ◌-◌, ◌≤◌, [], drop, length};
 
 use crate::ghosts::GhostBytes;
@@ -7,11 +7,11 @@ use crate::streams::target::Target;
 use std::io;
 use std::io::ErrorKind;
 
-/// Bytes in memory, written from their start. Bytes not yet written keep their values. A request is
-/// refused exactly if it has more bytes than are free. The error is then `WriteZero`, and no byte
-/// is written. So a program can pack into its own buffer without an allocator, and its writer fails
-/// only if the buffer has too little room. (std's contract does not state this for a `&mut [u8]` as
-/// a stream.)
+/// A target that writes to a slice of bytes, starting at its first byte. Bytes that are not yet
+/// written keep their values. A request fails if, and only if, it has more bytes than are free. The
+/// kind of the error is then `WriteZero`, and no byte is written. A program can therefore write to
+/// its own buffer without an allocator, and its writer fails only if the buffer is too small.
+/// (std's contract does not state this for a `&mut [u8]` as a stream.)
 ///
 /// # Examples
 ///
@@ -50,7 +50,7 @@ impl<'a> SliceMut<'a> {
         ensures bytes { slice_bytes result ≡ bytes.old }
         // The target records them as its initial bytes.
         ensures was { slice_was result ≡ bytes.old }
-        // It reaches the bytes through this very reference.
+        // It reaches the bytes through this same reference.
         ensures name { slice_name result ≡ bytes.entry.ghost_name }
     {
         let was = GhostBytes::of(bytes);

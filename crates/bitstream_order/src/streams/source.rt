@@ -11,35 +11,34 @@ use std::io::Read;
 
 /// A source of bytes: any `Read`, or a source that is [`Lent`].
 pub trait Source {
-    // The properties of the source: the bytes left, if they are known; the references through which
-    // it is reached, which a request keeps; the ways in which it may refuse a request, and the
-    // kinds; and the other effects of a request that took bytes. std's contract states neither of
-    // the last two for a `Read`.
+    // The properties of the source are the bytes left, if they are known; the references through
+    // which it is reached, which a request does not change; the ways in which a request may fail,
+    // with the kinds of the errors; and the other effects of a request that took bytes. std's
+    // contract states neither of the last two for a `Read`.
     ghost stream: { InputStream Self };
 
     /// Fills the whole buffer by one request.
     ///
     /// # Errors
     ///
-    /// The errors of [`Read::read_exact`] of the source. After an error, the bytes that it took may
-    /// be unknown.
+    /// The errors of [`Read::read_exact`] of the source. After an error, the number of bytes that
+    /// were taken may be unknown.
     fn read_exact(&mut self, buf: &mut [u8]) -> io::Result<()>
-        // If it succeeds, the buffer holds the next bytes and they are taken, if the bytes left are
-        // known.
+        // If it succeeds and the bytes left are known, the buffer holds the next bytes, and they
+        // are taken.
         ensures bytes { OnOk result (Consumes (stream.remaining self.old) (stream.remaining self.new) buf.new) }
-        // If it succeeds, its effect is the one that the source states for a request of this
-        // length.
+        // If it succeeds, the source changes as its properties state for a request of this length.
         ensures takes { OnOk result (stream.takes self.old (length buf.old) self.new) }
         // The source is reached by the same references as before.
         ensures references { stream.references self.new ≡ stream.references self.old }
-        // The source may refuse a request of this length by this error.
+        // The source's properties allow a request of this length to fail with this error.
         ensures refused { IfErr result
             (λ e. stream.refuses self.old (length buf.old) (error_kind e) self.new) };
 
-    /// Fills the first `count` bytes of the buffer, which has at least `count`, by one request for
-    /// only these bytes. The rest of the buffer is unspecified: a source in memory may fill it too,
-    /// since a copy of constant length is cheaper. `constant` is true if `count` is a compile-time
-    /// constant, and changes speed only.
+    /// Fills the first `count` bytes of the buffer, by one request for only these bytes. The buffer
+    /// must have at least `count` bytes. Its other bytes are unspecified after the call: a source
+    /// in memory may fill them too, since a copy of constant length is cheaper. `constant` is true
+    /// if `count` is a compile-time constant, and changes speed only.
     ///
     /// # Errors
     ///
@@ -47,17 +46,16 @@ pub trait Source {
     #[inline(always)]
     fn read_prefix(&mut self, buf: &mut [u8], count: usize, _constant: bool) -> io::Result<()>
         requires { count ≤ length buf.old }
-        // If it succeeds, the first `count` bytes of the buffer are the next bytes, if the bytes
-        // left are known.
+        // If it succeeds and the bytes left are known, the first `count` bytes of the buffer are
+        // the next bytes, and they are taken.
         ensures bytes { OnOk result
             (Consumes (stream.remaining self.old) (stream.remaining self.new) (take count buf.new)) }
         ensures len { length buf.new ≡ length buf.old }
-        // If it succeeds, its effect is the one that the source states for a request of this
-        // length.
+        // If it succeeds, the source changes as its properties state for a request of this length.
         ensures takes { OnOk result (stream.takes self.old count self.new) }
         // The source is reached by the same references as before.
         ensures references { stream.references self.new ≡ stream.references self.old }
-        // The source may refuse a request of this length by this error.
+        // The source's properties allow a request of this length to fail with this error.
         ensures refused { IfErr result (λ e. stream.refuses self.old count (error_kind e) self.new) }
     {
         self.read_exact(&mut buf[..count])

@@ -11,10 +11,10 @@ use std::io::Write;
 
 /// A target of bytes: any `Write`, or a target that is [`Lent`].
 pub trait Target {
-    // The properties of the target: the bytes that it holds, if they are known; the references
-    // through which it is reached, which a request keeps; the ways in which it may refuse a
-    // request, and the kinds; and the effect of a flush that succeeded. std's contract states
-    // neither of the last two for a `Write`.
+    // The properties of the target are the bytes that it holds, if they are known; the references
+    // through which it is reached, which a request does not change; the ways in which a request may
+    // fail, with the kinds of the errors; and the effect of a flush that succeeded. std's contract
+    // states neither of the last two for a `Write`.
     ghost stream: { OutputStream Self };
 
     /// Writes all bytes by one request.
@@ -24,28 +24,28 @@ pub trait Target {
     /// The errors of [`Write::write_all`] of the target. After an error, the bytes written may be
     /// unknown.
     fn write_all(&mut self, bytes: &[u8]) -> io::Result<()>
-        // If it succeeds, the bytes are appended to the contents, if they are known.
+        // If it succeeds and the contents are known, the bytes are appended to them.
         ensures bytes { OnOk result (Appends (stream.contents self.old) (stream.contents self.new) bytes.now) }
         // The target is reached by the same references as before.
         ensures references { stream.references self.new ≡ stream.references self.old }
-        // The target may refuse a request of this length by this error.
+        // The target's properties allow a request of this length to fail with this error.
         ensures refused { IfErr result
             (λ e. stream.refuses self.old (length bytes.now) (error_kind e) self.new) };
 
-    /// Flushes the target by one request, which sends no bytes. The target passes on the bytes that
-    /// it has buffered itself.
+    /// Flushes the target by one request, which sends no bytes: the target passes on the bytes that
+    /// it has buffered.
     ///
     /// # Errors
     ///
     /// The errors of [`Write::flush`] of the target.
     fn flush(&mut self) -> io::Result<()>
-        // The target holds the same bytes as before, if they are known.
+        // If the target's contents are known, they are unchanged.
         ensures bytes { Keeps (stream.contents self.old) (stream.contents self.new) }
-        // If it succeeds, its effect is the one that the target states for a flush.
+        // If it succeeds, the target changes as its properties state for a flush.
         ensures flushed { OnOk result (stream.flushes self.old self.new) }
         // The target is reached by the same references as before.
         ensures references { stream.references self.new ≡ stream.references self.old }
-        // The target may refuse a request of no bytes by this error.
+        // The target's properties allow a request of 0 bytes to fail with this error.
         ensures refused { IfErr result (λ e. stream.refuses self.old 0 (error_kind e) self.new) };
 }
 

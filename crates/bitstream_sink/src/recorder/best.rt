@@ -31,7 +31,7 @@ pub trait Recorder: BitWrite + Sized {
     ///
     /// # Errors
     ///
-    /// The errors of `f`. If so, the candidate stays as `f` left it, and this recorder is lost.
+    /// The errors of `f`. After an error the candidate stays as `f` left it, and this recorder is lost.
     final fn best<F, X>(self, candidate: &mut Self, f: X) -> Result<Self, F>
     where
         Self: Drop,
@@ -75,7 +75,7 @@ impl<N, E: Endianness> BitRecorder<N, E, Global> {
     ///
     /// # Errors
     ///
-    /// As [`Recorder::best`].
+    /// The errors of `f`, as for [`Recorder::best`].
     pub fn best<F, X>(self, candidate: &mut Self, f: X) -> Result<Self, F>
     where
         X: FnOnce(&mut Self) -> Result<(), F>,

@@ -172,7 +172,7 @@ module _ {R : Type 0} {K : BitSource R} {grows : Bool} where
       subst (λ m. ReadOutcome K grows (bytes_decoder o m) s (Ok zs) z) sum
       (subst (λ us. ReadOutcome K grows (bytes_decoder o (a + b)) s (Ok us) z) (sym is) both)
 
-  -- a prefix of some bytes that was refused
+  -- a prefix of some bytes that failed
   pub stops-prefix : (o : Order) (a n : ℕ) (x : Error) (s t : R) → a ≤ n
       → ReadOutcome K grows (bytes_decoder o a) s (Err x) t → ReadOutcome K grows (bytes_decoder o n) s (Err x) t
   stops-prefix o a n x s t le h =
@@ -181,7 +181,7 @@ module _ {R : Type 0} {K : BitSource R} {grows : Bool} where
       (Reads-same (bytes-split o a (n - a)) (Reads-and_then-err _
       (λ us. and_then (bytes_decoder o (n - a)) (λ vs. pure (us ++ vs))) h))
 
-  -- and behind bytes that were read
+  -- and after bytes that were read
   pub stops-more : (o : Order) (a b n : ℕ) (xs : List ℕ) (x : Error) (s t z : R) → a + b ≤ n
       → ReadOutcome K grows (bytes_decoder o a) s (Ok xs) t → ReadOutcome K grows (bytes_decoder o b) t (Err x) z
       → ReadOutcome K grows (bytes_decoder o n) s (Err x) z
@@ -222,7 +222,7 @@ module _ {R : Type 0} {K : BitSource R} {grows : Bool} where
       subst (λ m. ReadOutcome K grows (skip_decoder m) s (Err x) t) sum
       (Reads-same (skip-split a (n - a)) (Reads-and_then-err _ (λ _. skip_decoder (n - a)) h))
 
-  -- bytes behind bytes that were skipped
+  -- bytes after bytes that were skipped
   pub skips-bytes : (o : Order) (a b n : ℕ) (bs : List ℕ) (s t z : R) → a + b ≡ n
       → ReadOutcome K grows (skip_decoder (8 * a)) s (Ok tt) t → ReadOutcome K grows (bytes_decoder o b) t (Ok bs) z
       → ReadOutcome K grows (skip_decoder (8 * n)) s (Ok tt) z
@@ -236,7 +236,7 @@ module _ {R : Type 0} {K : BitSource R} {grows : Bool} where
       (skips-more (8 * a) (8 * b) (8 * (a + b)) (Err x) s t z (twice a b) h
       (Reads-same (bytes-skip o b) (Reads-and_then-err _ (λ _. pure tt) k)))
 
--- memory was refused behind bytes that were read and before others, and the reader was made to fail
+-- an allocation failed after bytes that were read and before others, and the reader was made to fail
 pub lacks-more : {R : Type 0} {K : BitSource R} (o : Order) (a n : ℕ) (xs : List ℕ) (s t z : R) → a < n
     → ReadOutcome K true (bytes_decoder o a) s (Ok xs) t → K.state z ≡ failed_reader (K.state t)
     → ReadOutcome K true (bytes_decoder o n) s (Err OutOfMemory) z
@@ -248,7 +248,7 @@ lacks-more {K = K} o a n xs s t z less h broken =
 
 -- ---- what a reader took from its port
 
--- the bytes that were fetched, behind a queue, as one word
+-- the bytes that were fetched, after a queue, as one encoding
 pub word_of_bytes : (o : Order) (queued queue left n : ℕ) (bs made : List ℕ) (old new : PortState) → length made ≡ n
     → Fetched old bs new → Shifts o queued queue (bits o bs) (bits o made) left
     → TakesWord o queued queue old (8 * n) (number o (bits o made)) queued left new
@@ -265,7 +265,7 @@ word_of_bytes o queued queue left n bs made old new len h shifted =
       below = subst (λ k. number o (bits o made) < 2 ^ k) size (number-lt o (bits o made));
     }
 
--- the bits that are left, by another number of the same word
+-- the bits that are left, by another number of the same encoding
 pub takes_left : (o : Order) (queued queue n v l q r : ℕ) (old new : PortState) → word o l q ≡ word o l r
     → TakesWord o queued queue old n v l q new → TakesWord o queued queue old n v l r new
 takes_left o queued queue n v l q r old new same h =
@@ -281,9 +281,9 @@ takes_left o queued queue n v l q r old new same h =
       below = h.below;
     }
 
--- ---- refusals by `?`
+-- ---- errors returned by `?`
 
--- a refusal that a clause sees by a view
+-- an error that a clause sees by a view
 pub map_stops : {R A B : Type 0} {K : BitSource R} {grows : Bool} {e : Decoder A} {x : Error} {s t : R} (view : B
     → A) (r : Result B Error) → IsErrAnd r (λ y. y ≡ x) → ReadOutcome K grows e s (Err x) t
     → ReadOutcome K grows e s (result_map view r) t

@@ -70,7 +70,7 @@ pub word_prefix-none : {X A : Type 0} (n : ℕ) (g : List X → Result A Error) 
     ≡ Incomplete
 word_prefix-none n g b h = rw (lt-leb n (length b) h) refl
 
--- a shorter beginning of a word is too short for it
+-- a proper beginning of an encoding is too short for it
 pub word_needs : {X A : Type 0} (n : ℕ) (g : List X → Result A Error) (w : List X) → length w ≡ n
     → (prefix : List X) (b : X) (back : List X) → w ≡ prefix ++ b ∷ back → prefix_of n g prefix ≡ Incomplete
 word_needs n g w len prefix b back is =
@@ -78,7 +78,7 @@ word_needs n g w len prefix b back is =
     ∙ ap (λ k. length prefix + k) (omega arith) in
     word_prefix-none n g prefix (omega arith)
 
--- one word and then another are the two as one
+-- one encoding and then another are the two as one
 pub and_then_takes : {A B : Type 0} (m n : ℕ) (g : List Bool → A) (k : A → List Bool → Result B Error) (h : List Bool
     → Result B Error)
     → ((u v : List Bool) → length u ≡ m → length v ≡ n → h (u ++ v) ≡ k (g u) v)
@@ -118,7 +118,7 @@ and_then_takes m n g k h e = record {
   on_failed = and_then-failed (consume m (λ w. Ok (g w))) (λ a. consume n (k a));
 }
 
--- a word whose answer is then changed
+-- an encoding whose result is then changed
 pub map_takes : {A B : Type 0} (n : ℕ) (g : List Bool → A) (f : A → B) (h : List Bool → Result B Error)
     → ((w : List Bool) → length w ≡ n → h w ≡ Ok (f (g w)))
     → Same (and_then (consume n (λ w. Ok (g w))) (λ a. pure (f a))) (consume n h)

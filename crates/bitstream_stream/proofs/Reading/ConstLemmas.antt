@@ -1,4 +1,4 @@
--- A word that must be a constant.
+-- A number that must be a constant.
 use Rattle.std.proofs.Common.{◌≡◌, ◌≢◌, ℕ, ◌≤◌, false, Result, Ok, Err, refl, sym, ◌∙◌, nat_eq, eq-eqb, inl, inr}
 use Rattle.std.proofs.lemmas.Bool.Decides.{eqb_tells}
 use Rattle.std.specs.Result.{IsErrAnd}

@@ -1,4 +1,4 @@
--- Calls that need no more than a known number of bits, and what is left behind them.
+-- Calls that need at most a known number of bits, and the bits left after them.
 use Rattle.std.specs.Prelude.{◌==◌, option_map, IfSome, IsOk}
 use Rattle.std.proofs.Common.{◌≡◌, ℕ, ◌+◌, ◌*◌, ◌<◌, ◌≤◌, Bool, false, List, ◌++◌, length, take, drop, replicate, Option, None, Some, Result, Ok, Err, refl, sym, ap, ◌∙◌, arith, length-append, length-drop}
 use Rattle.std.proofs.lemmas.List.{length-replicate}
@@ -62,7 +62,7 @@ told : (queue : List Bool) (o : Order) (bytes : Option (List ℕ)) (left : List 
 told queue o None left h = cc
 told queue o (Some xs) left h = (xs, refl, cc)
 
--- a call that answered a value took its word, and what was behind it is left
+-- a call that returned a value took its bits, and the bits after them are left
 left_behind : {A : Type 0} (o : Order) (e : Decoder A) (a : A) (s t : ReaderState) (left : List Bool)
     (r : Result A Error) → r ≡ Ok a → (h : ReadDone o e s r t) → bits_left o s ≡ Some left
     → (t.failed ≡ false) × (bits_left o t ≡ Some (drop (length h.word) left))

@@ -1,4 +1,4 @@
--- The numbers of a group: digits, of which each stands above those of the groups before.
+-- The numbers of a group: its digits are above the digits of the groups before.
 use Rattle.std.specs.Prelude.{bit_or}
 use Rattle.std.proofs.Common.{◌≡◌, ◌≢◌, true, false, ℕ, ◌+◌, ◌-◌, ◌*◌, ◌/◌, ◌%◌, ◌^◌, ◌<◌, ◌≤◌, inl, inr, sym, ap, ◌∙◌, arith}
 use Rattle.std.proofs.Math.Nat.{mod-eq_of_lt, mod-lt, add-mod_right, mul-le-mul_left, mul-div_left}
@@ -54,7 +54,7 @@ stays_below shift m value digits small le =
     let some : digits + 1 ≤ 2 ^ m = omega arith in
     omega (arith, pow-add 2 shift m, mul-le-mul_left (2 ^ shift) some)
 
--- behind digits that go past the end no group begins
+-- after digits that go past the end no group begins
 pub none_behind : (size shift m digits : ℕ) → digits < 2 ^ m → 2 ^ size ≤ 2 ^ shift * digits → size ≤ shift + m
 none_behind size shift m digits small past =
     elim (cases_lt (shift + m) size) [

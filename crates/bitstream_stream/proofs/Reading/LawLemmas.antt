@@ -1,4 +1,4 @@
--- Two words, one behind the other.
+-- Two encodings, one after the other.
 use Rattle.std.proofs.Common.{◌≡◌, ℕ, ◌+◌, ◌*◌, ◌^◌, ◌≤◌, Bool, List, ◌++◌, length, drop, Result, Ok, Err, refl, ap, ◌∙◌, arith, add_comm}
 use Rattle.bitstream_count.specs.declared.error.Error.{Error}
 use Rattle.bitstream_count.specs.Codec.{Decoder, Prefix, Incomplete, Done, advance, and_then, pure, consume, prefix_then, result_then}
@@ -8,7 +8,7 @@ use Rattle.bitstream_stream.specs.Reading.ReadTable.{unsigned_decoder}
 use Rattle.bitstream_stream.proofs.Reading.CodecLemmas.{Same, Same-trans, and_then_takes, map_takes}
 use Rattle.bitstream_stream.proofs.Reading.TableLemmas.{unsigned-takes}
 
--- calls that read the same, behind the same call
+-- calls that read the same, after the same call
 same_then : {A B : Type 0} (p : ℕ) (bits : List Bool) (f g : A → Decoder B) → ((a : A) → Same (f a) (g a))
     → (x : Prefix A)
     → prefix_then x (λ n a. (f a).reads (p + n) (drop n bits)) ≡ prefix_then x (λ n a. (g a).reads (p + n) (drop n bits))

@@ -44,7 +44,7 @@ pub aligned_bits : (o : Order) (bytes made : List ℕ) (bit n : ℕ) → bit ≡
 aligned_bits o bytes made bit n none there is =
     ap (bits o) is ∙ bits-take o n bytes there ∙ ap (λ k. take (8 * n) (drop k (bits o bytes))) (sym none)
 
--- bytes behind the bits that are left of one
+-- bytes after the bits that are left of one
 pub shifted_bits : (o : Order) (bytes part made : List ℕ) (bit n r q left : ℕ) → 1 ≤ bit → bit < 8 → n < length bytes
     → ((k : ℕ) → bit + k ≤ 8 → first_part o r 8 k ≡ piece o 8 (get_or bytes 0 0) bit k)
     → q ≡ first_part o r 8 (8 - bit) → part ≡ take n (drop 1 bytes) → length made ≡ n

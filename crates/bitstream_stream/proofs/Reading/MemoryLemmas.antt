@@ -104,7 +104,7 @@ went_on o n old new fine h =
     (moved o old.all.now old.bytes.now new.bytes.now old.bit n old.failed old.refusals.list fine old.few old.some
     h.enough (tail_le old.bytes.now old.all.now old.tail) h.bytes)
 
--- a word that was taken is a number that was read
+-- an encoding that was taken is a number that was read
 pub number_done : (o : Order) (size n v : ℕ) (s t : ReaderState) → n ≤ size → v < 2 ^ n → Took o s (word o n v) t
     → ReadDone o (unsigned_decoder o size n) s (Ok v) t
 number_done o size n v s t le below h =
@@ -155,11 +155,11 @@ pub rest_size : {E : Type 0} (o : Order) (r : SliceReader E)
     → length (rest_bits o r.bytes.now r.bit) ≡ 8 * length r.bytes.now - r.bit
 rest_size o r = length-drop r.bit (bits o r.bytes.now) ∙ ap (λ k. k - r.bit) (length-bits o r.bytes.now)
 
--- it is refused only at a true end
+-- it fails only at the end of input
 pub memory_ends : TrueEnds EndsInMemory
 memory_ends refusal h = record { left = h.left; kind = h.kind; told = h.before; few = h.few }
 
--- a call that has no prefix of the bits left is refused
+-- a call that has no prefix of the bits left fails
 pub refused : {E A : Type 0} (o : Order) (decoder : Decoder A) (old new : SliceReader E) → old.failed ≡ false
     → ((prefix back : List Bool) → prefix ++ back ≡ rest_bits o old.bytes.now old.bit
     → decoder.reads (taken_bits old.all.now old.bytes.now old.bit) prefix ≡ Incomplete)
@@ -190,7 +190,7 @@ refused {E = E} o decoder old new fine none h =
       failed = h.failed;
     })
 
--- a reader that has too few bits for a word
+-- a reader that has too few bits for an encoding
 pub takes_refused : {E A : Type 0} (o : Order) (n : ℕ) (g : List Bool → Result A Error) (old new : SliceReader E)
     → old.failed ≡ false → 8 * length old.bytes.now < old.bit + n → FailsAtEnd old new
     → Reads (memory_source o) (consume n g) old (Err EndOfInput) new
@@ -211,7 +211,7 @@ word_refused o size n old new fine le short h =
 
 -- ---- bits, whatever they are
 
--- a word that was taken is the prefix of a call
+-- an encoding that was taken is the prefix of a call
 pub prefix_done : {A : Type 0} (o : Order) (decoder : Decoder A) (n : ℕ) (g : List Bool → Result A Error) (a : A)
     (w : List Bool) (s t : ReaderState) → ((bits : List Bool) → decoder.reads s.taken bits ≡ word_prefix n g bits)
     → length w ≡ n → g w ≡ Ok a → Took o s w t → ReadDone o decoder s (Ok a) t
@@ -365,7 +365,7 @@ run_read {E = E} o stop k old new fine is small h =
       failed = t.failed;
     })
 
--- a run that does not end is refused
+-- a read of a run that does not end fails
 pub run_refused : {E : Type 0} (o : Order) (stop : Bool) (k : ℕ) (old new : SliceReader E) → old.failed ≡ false
     → k ≡ lead stop (rest_bits o old.bytes.now old.bit) → k < 2 ^ 32 → 8 * length old.bytes.now ≤ old.bit + k
     → FailsAtEnd old new → Reads (memory_source o) (unary_decoder stop) old (Err EndOfInput) new
@@ -402,7 +402,7 @@ run_long {E = E} o stop old mid new fine long h broken =
     broken (λ more. others_long stop n more refl)
     (λ prefix c back parts. begins_others stop n prefix c back (omega arith) parts))
 
--- whole bytes that are taken behind the end of a byte
+-- whole bytes that are taken after the end of a byte
 pub whole_failed : {E : Type 0} (o : Order) (n : ℕ) (r : SliceReader E) → r.failed ≡ true
     → Reads (memory_source o) (whole_bytes_decoder n) r (Err Failed) r
 whole_failed o n r failed =
@@ -423,7 +423,7 @@ whole_refused o n old mid new fine h short k =
     Reads-and_then-ok align_decoder (λ _. skip_decoder (8 * n)) (aligned o ((8 - old.bit) % 8) old mid fine refl h)
     (skip_refused o (8 * n) mid new (h.failed ∙ fine) (omega (arith, whole, short)) k)
 
--- the bytes behind the end of a byte are those of which no bit is taken
+-- the bytes after the end of a byte are the bytes of which no bit is taken
 pub behind_byte : {E : Type 0} (bytes : List ℕ) (old mid : SliceReader E) → GoesOn ((8 - old.bit) % 8) old mid
     → Some (drop (held old.bit) old.bytes.now) ≡ Some bytes → mid.bytes.now ≡ bytes
 behind_byte bytes old mid h told =

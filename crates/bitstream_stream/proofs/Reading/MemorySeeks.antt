@@ -22,7 +22,7 @@ pub left_is : {E : Type 0} (o : Order) (r : SliceReader E) → r.failed ≡ fals
     → bits_left o ((memory_source o).state r) ≡ Some (rest_bits o r.bytes.now r.bit)
 left_is o r fine = ap Some (rw fine (bits_ahead o r.bytes.now r.bit r.few r.some))
 
--- ---- the bytes and the bits behind a place
+-- ---- the bytes and the bits after a place
 
 tail_is : (bytes all : List ℕ) → IsTail bytes all → drop (length all - length bytes) all ≡ bytes
 tail_is bytes all tail =

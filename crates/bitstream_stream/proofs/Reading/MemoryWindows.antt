@@ -1,4 +1,4 @@
--- Numbers of bytes, and words in their midst.
+-- Numbers of bytes, and encodings within them.
 use Rattle.std.proofs.Common.{◌≡◌, ℕ, ◌+◌, ◌*◌, ◌≤◌, List, ◌++◌, length, take, drop, sym, ap, ap₂, ◌∙◌, arith, take-append-drop, inl, inr}
 use Rattle.std.proofs.lemmas.Bool.{cases_lt}
 use Rattle.std.proofs.lemmas.List.{length-take-le, take_all}
@@ -8,7 +8,7 @@ use Rattle.bitstream_number.proofs.WordLemmas.{length-word, length-bits, bits-ap
 use Rattle.bitstream_order.specs.Parts.{piece}
 use Rattle.bitstream_order.proofs.Moving.PieceLemmas.{prefix_bits, piece_more, take_less}
 
--- the bits of the first bytes, and of those behind them
+-- the bits of the first bytes, and of the bytes after them
 pub bits-take : (o : Order) (k : ℕ) (xs : List ℕ) → k ≤ length xs → bits o (take k xs) ≡ take (8 * k) (bits o xs)
 bits-take o k xs le =
     sym (prefix_bits o (take k xs) (drop k xs))
@@ -35,13 +35,13 @@ middle_word o size w at k le =
     let long : length prefix ≡ at = length-take-le at (word o size w) (omega (arith, length-word o size w)) in
     ap₂ drop (sym long) (piece_more o size w at k le) ∙ drop-append_seam prefix (word o k (piece o size w at k))
 
--- fewer than eight bytes, with others behind them
+-- fewer than eight bytes, with others after them
 pub padded_window : (o : Order) (bytes prefix z : List ℕ) (w : ℕ) → length bytes ≤ 8 → word o 64 w ≡ bits o (prefix ++ z)
     → prefix ≡ bytes → take (8 * length (take 8 bytes)) (word o 64 w) ≡ bits o (take 8 bytes)
 padded_window o bytes prefix z w few e is =
     rw (take_all 8 bytes few) (prefix_window o bytes (prefix ++ z) z w e (ap (λ x. x ++ z) is))
 
--- the first bytes, with others behind them
+-- the first bytes, with others after them
 pub first_window : (o : Order) (bytes prefix z : List ℕ) (n w : ℕ) → n ≤ length bytes → word o 64 w ≡ bits o (prefix ++ z)
     → prefix ≡ take n bytes → take (8 * n) (word o 64 w) ≡ bits o (take n bytes)
 first_window o bytes prefix z n w there e is =

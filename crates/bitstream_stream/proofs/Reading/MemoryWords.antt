@@ -50,7 +50,7 @@ few_taken o n w v old new few window is goes =
 
 -- ---- one number and then another
 
--- the bits left behind n bits
+-- the bits left after n bits
 pub rest_on : {E : Type 0} (o : Order) (n : ℕ) (old new : SliceReader E) → GoesOn n old new
     → drop n (rest_bits o old.bytes.now old.bit) ≡ rest_bits o new.bytes.now new.bit
 rest_on o n old new h =

@@ -104,7 +104,7 @@ stopped o may size queued queue n m v k q l before_taken after_taken failed x ol
       failed = refl;
     })
 
--- how many bytes were fetched for a word
+-- the number of bytes that were fetched for an encoding
 pub takes_fetched : (o : Order) (queued queue n v l q : ℕ) (old new : PortState)
     → TakesWord o queued queue old n v l q new → queued + 8 * new.fetched ≡ n + l + 8 * old.fetched
 takes_fetched o queued queue n v l q old new h = omega (

@@ -42,7 +42,7 @@ Consumes-known None c gone xs h e = cc
 Consumes-known (Some x) None gone xs h e = absurd h
 Consumes-known (Some x) (Some y) gone xs h e = let same : xs ≡ x = cc in (y, refl, same ∙ h)
 
--- ---- a word that was taken, by calls that all answered with values
+-- ---- bits that were taken by calls that all returned values
 
 pub Took-nil : (o : Order) (s : ReaderState) → s.failed ≡ false → Took o s [] s
 Took-nil o s fine = record {
@@ -58,13 +58,13 @@ Took-nil o s fine = record {
   failed = fine;
 }
 
--- the bits held before and those of more bytes are a word, the bits held then and those of the bytes left
+-- the bits held before and the bits of more bytes are the bits taken, the bits held then and the bits of the bytes left
 pub parts_left : (o : Order) (a b u : List Bool) (g h : List ℕ) → a ++ bits o g ≡ u ++ b → a ++ bits o (g ++ h) ≡ u
     ++ (b ++ bits o h)
 parts_left o a b u g h p = ap (λ w. a ++ w) (bits-append o g h) ∙ sym (append_assoc a (bits o g) (bits o h))
     ∙ ap (λ w. w ++ bits o h) p ∙ append_assoc u b (bits o h)
 
--- behind a word that was taken, what a call took until it was answered or lacked memory
+-- after bits that were taken, the bits that a call took until it returned a value or lacked memory
 Took-behind : (o : Order) (u v rest : List Bool) (s t z : ReaderState) → Took o s u t → (gone : List ℕ)
     → Consumes t.bytes z.bytes gone → t.queue ++ bits o gone ≡ v ++ rest → z.fetched ≡ t.fetched + length gone
     → z.taken ≡ t.taken + length v → z.refusals ≡ t.refusals → z.references ≡ t.references
@@ -86,7 +86,7 @@ Took-trans o u v s t z h k =
     subst (Took o s (u ++ v)) (ap (λ f. record z { failed = f }) (sym k.failed))
     (Took-behind o u v z.queue s t z h k.gone k.loses k.parts k.fetched k.taken k.refusals k.references)
 
--- a call that answered with a value took its word
+-- a call that returned a value took its bits
 pub took : {A : Type 0} (o : Order) (e : Decoder A) (a : A) (s t : ReaderState) (h : ReadDone o e s (Ok a) t)
     → Took o s h.word t
 took o e a s t h = record {
@@ -101,7 +101,7 @@ took o e a s t h = record {
   failed = h.failed;
 }
 
--- a prefix that is a word which was taken: behind an answer that is a run too long, the reader has failed
+-- a prefix that is the bits taken: after the result `RunTooLong`, the reader has failed
 Took-prefix : {A : Type 0} (o : Order) (e : Decoder A) (r : Result A Error) (w : List Bool) (s t : ReaderState)
     → Took o s w t
     → ((more : List Bool) → e.reads s.taken (w ++ more) ≡ Done (length w) r)
@@ -124,7 +124,7 @@ Took-prefix o e r w s t h decides needs = record {
   failed = refl;
 }
 
--- memory that the call asked for was refused behind a word that was taken and is too short for it
+-- an allocation of the call failed after bits that were taken and are too few for it
 Took-memory_refused : {A : Type 0} (o : Order) (e : Decoder A) (w held : List Bool) (s t : ReaderState) → Took o s w t
     → e.reads s.taken w ≡ Incomplete → MemoryRefused o e s (Err OutOfMemory) (record t { queue = held; failed = true })
 Took-memory_refused o e w held s t h few = record {
@@ -143,8 +143,8 @@ Took-memory_refused o e w held s t h few = record {
   failed = refl;
 }
 
--- What the bits held before were, where the rest of them was too few for what came behind a word: they were
--- too few for the word itself, or they are the word and the bits held now.
+-- The bits held before, where the rest of them was too few for the call after the bits taken: they were too few for
+-- the bits taken, or they are the bits taken and the bits held now.
 pub Took-held : (o : Order) (w : List Bool) (s t : ReaderState) → Demands s → QueuesRest s → Demands t → Took o s w t
     → ((b : Bool) × (r : List Bool) × (w ≡ s.queue ++ b ∷ r)) ⊎ (s.queue ≡ w ++ t.queue)
 Took-held o w s t demands holds later h = elim (cut s.queue (bits o h.gone) w t.queue h.parts) [
@@ -157,16 +157,16 @@ Took-held o w s t demands holds later h = elim (cut s.queue (bits o h.gone) w t.
       inr (all.1 ∙ ap (λ l. w ++ l) (sym same ∙ all.2))
 ]
 
--- all bits that are left, behind a word
+-- all bits that are left, after the bits taken
 pub Took-left : (o : Order) (w : List Bool) (s t : ReaderState) → Took o s w t → (xs : List ℕ) → s.bytes ≡ Some xs
     → (ys : List ℕ) × (t.bytes ≡ Some ys) × (s.queue ++ bits o xs ≡ w ++ (t.queue ++ bits o ys))
 Took-left o w s t h xs known =
     let lost = Consumes-known s.bytes t.bytes h.gone xs h.loses known in
     (lost.0, lost.1, ap (λ l. s.queue ++ bits o l) lost.2 ∙ parts_left o s.queue t.queue w h.gone lost.0 h.parts)
 
--- ---- a call behind a word that was taken: of a chain, or of a loop's next turn
+-- ---- a call after bits that were taken: of a sequence, or of a loop's next iteration
 
--- no beginning of the word has a prefix, and behind the word a call is too short where the next one is
+-- no beginning of these bits has a prefix, and after them a call is too short where the next one is
 pub record Behind {A B : Type 0} (e : Decoder A) (p : ℕ) (w : List Bool) (d : Decoder B) (q : ℕ) : Type 0 where
   pub needs : (prefix : List Bool) (b : Bool) (back : List Bool) → w ≡ prefix ++ b ∷ back → e.reads p prefix ≡ Incomplete
   pub short : (more : List Bool) → d.reads q more ≡ Incomplete → e.reads p (w ++ more) ≡ Incomplete
@@ -184,14 +184,14 @@ pub none_needed : (prefix : List Bool) (b : Bool) (back : List Bool) → [] ≡ 
 none_needed [] b back e = cc
 none_needed (c ∷ prefix) b back e = cc
 
--- behind no bits
+-- after no bits
 Behind-none : {A B : Type 0} (e : Decoder A) (d : Decoder B) (p : ℕ)
     → ((more : List Bool) → d.reads p more ≡ Incomplete → e.reads p more ≡ Incomplete) → Behind e p [] d p
 Behind-none e d p short = record { needs = λ prefix b back is. absurd (none_needed prefix b back is); short = short }
 
--- ---- a call behind others, as in a chain or a loop
+-- ---- a call after others, as in a sequence or a loop
 
--- so far a loop took a word, or it did nothing yet
+-- so far a loop took some bits, or it did nothing yet
 pub Begun : {R : Type 0} → BitSource R → R → List Bool → R → Type 0
 Begun K s w t = ((w ≡ []) × (t ≡ s)) ⊎ Took K.order (K.state s) w (K.state t)
 
@@ -220,7 +220,7 @@ unfolding Begun
 begun_failed K s w t (inl h) failed = h.1
 begun_failed K s w t (inr h) failed = let p = h.failed in cc
 
--- A call that is left behind a word, with the answer of the last call or with one that its value decides.
+-- The call left after bits taken, with the result of the last call or with a result that its value decides.
 pub Reads-behind : {R A B : Type 0} {K : BitSource R} {grows : Bool} (e : Decoder A) (d : Decoder B)
     (w : List Bool) (r : Result A Error) (x : Result B Error) (s t z : R)
     → Begun K s w t → Behind e (K.state s).taken w d (K.state t).taken
@@ -288,7 +288,7 @@ still_failed failed (was_done h) = let p = h.fine in cc
 still_failed failed (was_refused h) = let p = h.fine in cc
 still_failed failed (memory_refused g h) = let p = h.fine in cc
 
--- a call that answered with a value
+-- a call that returned a value
 pub ok_prefix : {R A : Type 0} {K : BitSource R} {grows : Bool} {e : Decoder A} {a : A} {s t : R} → e.on_failed
     ≡ Err Failed → ReadOutcome K grows e s (Ok a) t → ReadDone K.order e (K.state s) (Ok a) (K.state t)
 ok_prefix failed (had_failed h) = let p = h.answer in cc
@@ -296,7 +296,7 @@ ok_prefix failed (was_done h) = h
 ok_prefix failed (was_refused h) = let p = h.answer in cc
 ok_prefix failed (memory_refused g h) = let p = h.answer in cc
 
--- the next turn's call answered with a value
+-- the call of the next iteration returned a value
 pub Begun-more : {R A : Type 0} {K : BitSource R} {grows : Bool} (d : Decoder A) (a : A) (s : R)
     (w : List Bool) (t z : R) → Begun K s w t → d.on_failed ≡ Err Failed → ReadOutcome K grows d t (Ok a) z
     → (v : List Bool) × ((more : List Bool) → d.reads (K.state t).taken (v ++ more) ≡ Done (length v) (Ok a))
@@ -320,7 +320,7 @@ Took-too_long o e w s t z h broken decides needs = rw broken (Took-prefix o e (E
 
 -- ---- chains
 
--- two calls, one behind the other
+-- two calls, one after the other
 and_then_prefix : {A B : Type 0} (e : Decoder A) (f : A → Decoder B) (p q : ℕ) (u v : List Bool) (a : A) (x : Prefix B)
     → e.reads p (u ++ v) ≡ Done (length u) (Ok a) → q ≡ p + length u → (f a).reads q v ≡ x
     → (and_then e f).reads p (u ++ v) ≡ advance (length u) x
@@ -412,7 +412,7 @@ pub exit : {R A B : Type 0} {K : BitSource R} {grows : Bool} {e : Decoder A} (f 
 exit {K = K} {grows = grows} {e = e} f {s = s} {t = t} r h k =
     subst (λ z. ReadOutcome K grows (and_then e f) s z t) (sym (exit_is r h)) (Reads-and_then-err e f k)
 
--- what the exit of a `?` returns, where a clause sees the answer by a view
+-- the value that the exit of a `?` returns, where a clause sees the result by a view
 pub map_err : {B C : Type 0} {x : Error} (view : B → C) (r : Result B Error) → IsErrAnd r (λ y. y ≡ x) → result_map view r
     ≡ Err x
 map_err view r h = ap (result_map view) (exit_is r h)
@@ -429,7 +429,7 @@ Reads-growing (memory_refused g h) = memory_refused refl h
 
 -- ---- memory of the call's own
 
--- memory was refused before a call that needs bits, and the reader was made to fail
+-- an allocation failed before a call that needs bits, and the reader was made to fail
 pub Reads-memory_refused : {R A : Type 0} {K : BitSource R} (e : Decoder A) (s z : R) → (K.state s).failed ≡ false
     → e.reads (K.state s).taken [] ≡ Incomplete → K.state z ≡ failed_reader (K.state s)
     → ReadsGrowing K e s (Err OutOfMemory) z

@@ -29,7 +29,7 @@ use Rattle.bitstream_stream.proofs.Shared.{exit_is}
 use Rattle.bitstream_stream.proofs.Reading.ReadsLemmas.{Consumes-known, parts_left, ok_prefix}
 use Rattle.bitstream_stream.proofs.Reading.TableLemmas.{unsigned-takes}
 
--- ---- the bits behind a place
+-- ---- the bits after a place
 
 pub bits_behind : (o : Order) (k j : ℕ) (xs : List ℕ) → drop j (bits o (drop k xs)) ≡ drop (8 * k + j) (bits o xs)
 bits_behind o zero j xs = ap (λ n. drop n (bits o xs)) (omega arith)
@@ -199,7 +199,7 @@ pub asked : (o : Order) (p q : PortState) (queue queued taken : ℕ) (failed : B
     ≡ reader_state o p queue queued taken failed
 asked o p q queue queued taken failed h = rw (h.fetched, h.refusals, h.references) refl
 
--- a position that was answered
+-- a position that was returned
 abbrev pub ok_at : ℕ → Result ℕ Error
 ok_at at = Ok at
 
@@ -302,7 +302,7 @@ asks_in_vain {K = K} same (AsksPlace.was_refused fine h) =
 asks_in_vain same (AsksPlace.was_rejected fine means answer asked) =
     SeeksBits.was_rejected (λ _. fine) means (same ∙ answer) asked
 
--- the position that a stream answers to a seek to its end
+-- the position that a stream returns for a seek to its end
 end_told : (n : ℤ) (old new : Option ℕ) (bytes : Option (List ℕ)) (at : ℕ)
     → SeekMoves {E = Error} old new bytes (End (pos 0)) (Ok at) → CountsFrom old bytes (End n) at
 end_told n None new bytes at moves = tt
@@ -325,7 +325,7 @@ round_trip {K = K} {n = n} {old = old} {new = new} {place = place} {r = r} begin
     (subst (λ m. GoesTo K place m old r new) begins.fetched
     (goes_from begins.refusals begins.references (told_anew begins) goes))
 
--- nothing is left behind the end
+-- nothing is left after the end
 left_at_end : {R : Type 0} (K : SeekerOf R) (old mid : R) (at : ℕ) (xs : List ℕ) → Begins K (End (pos 0)) old at mid
     → Tells K old xs → (K.source.state mid).bytes ≡ Some []
 left_at_end K old mid at xs begins told =

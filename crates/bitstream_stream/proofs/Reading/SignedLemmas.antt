@@ -17,9 +17,9 @@ use Rattle.bitstream_stream.proofs.Reading.CodecLemmas.{split, word_prefix-some,
 use Rattle.bitstream_stream.proofs.Reading.ReadsLemmas.{Reads-same, Reads-and_then-ok, Reads-pure, Reads-nothing, exit}
 use Rattle.bitstream_stream.proofs.Reading.TableLemmas.{unsigned-takes, unsigned-count, count_width_is, full_count, unsigned-on_failed, unsigned-wide, signed-none, none-signed, unsigned-signed}
 
--- ---- a word that was read
+-- ---- an encoding that was read
 
--- a reader that answered with a value took a prefix
+-- a reader that returned a value took a prefix
 took : {R A : Type 0} {K : BitSource R} {e : Decoder A} {a : A} {s t : R} → e.on_failed ≡ Err Failed
     → Reads K e s (Ok a) t → ReadDone K.order e (K.state s) (Ok a) (K.state t)
 took failed (had_failed h) = let p = h.answer in cc
@@ -32,7 +32,7 @@ pub Reads-fine : {R A : Type 0} {K : BitSource R} {e : Decoder A} {a : A} {s t :
     → Reads K e s (Ok a) t → (K.state t).failed ≡ false
 Reads-fine failed r = (took failed r).failed
 
--- a call that is refused, on a reader that has not failed
+-- a call that fails, on a reader that has not failed before
 pub Reads-fail : {R A : Type 0} {K : BitSource R} (x : Error) (s : R) → (K.state s).failed ≡ false
     → is_run_too_long {A = A} (Err x) ≡ false → Reads K (fail {A = A} x) s (Err x) s
 Reads-fail {A = A} x s fine short = Reads-nothing (fail {A = A} x) (Err x) s fine short (λ more. refl)
@@ -82,7 +82,7 @@ pub signed-stops : (o : Order) (size n : ℕ) {x : Error} {r : Result ℤ Error}
 signed-stops o size n {r = r} some h k = Reads-same (unsigned-signed o size n some)
     (exit (λ v. pure (signed_from n v)) r h k)
 
--- a reader that has failed answers that, and one that has not refuses a number without a sign
+-- a failed reader returns `Failed`, and any other reader rejects a number without a sign
 pub signed-failed : (o : Order) (size n : ℕ) {R : Type 0} {K : BitSource R} (s : R) → (K.state s).failed ≡ true
     → Reads K (signed_decoder o size n) s (Err Failed) s
 unfolding signed_decoder
@@ -94,7 +94,7 @@ signed-bare o size n {K = K} s none fine =
     subst (λ m. Reads K (signed_decoder o size m) s (Err NoSignBit) s) (sym none)
     (Reads-same (signed-none o size) (Reads-fail NoSignBit s fine refl))
 
--- a word of no bits in front of the refusal: on a reader that has failed it answers that
+-- an encoding of no bits before the failure: on a failed reader it returns `Failed`
 pub signed-none_stops : (o : Order) (k size n : ℕ) {x : Error} {r : Result ℤ Error} {R : Type 0}
     {K : BitSource R} {s t : R} → n ≡ 0 → IsErrAnd r (λ y. y ≡ x) → Reads K (unsigned_decoder o k 0) s (Err x) t
     → Reads K (signed_decoder o size n) s r t

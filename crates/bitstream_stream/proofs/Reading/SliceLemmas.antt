@@ -1,4 +1,4 @@
--- Reads over a stream that refuses at true ends alone.
+-- Reads over a stream whose requests fail only at the end of input.
 use Rattle.std.proofs.Common.{◌≡◌, ℕ, List, ◌++◌, Some, Result, Ok, Err, refl, sym, ap, ◌∙◌, false}
 use Rattle.bitstream_order.specs.Reference.{Reference}
 use Rattle.bitstream_count.specs.declared.error.Error.{Error}

@@ -14,7 +14,7 @@ pub unsigned-takes : (o : Order) (size n : ℕ) → n ≤ size → unsigned_deco
 unfolding unsigned_decoder
 unsigned-takes o size n h = rw (le-leb n size h) refl
 
--- a word of one bit
+-- an encoding of one bit
 bit_number : (o : Order) (b : Bool) → nat_eq (number o (b ∷ [])) 1 ≡ b
 unfolding digits_number
 bit_number High true = refl
@@ -36,13 +36,13 @@ pub unsigned-on_failed : (o : Order) (size n : ℕ) → (unsigned_decoder o size
 unfolding unsigned_decoder
 unsigned-on_failed o size n = refl
 
--- ---- a word of no bits
+-- ---- an encoding of no bits
 
 longer-none : {A : Type 0} (f : Prefix A) → advance 0 f ≡ f
 longer-none Incomplete = refl
 longer-none (Done n a) = ap (λ k. Done k a) (zero-add n)
 
--- a word of no bits, and then a call
+-- an encoding of no bits, and then a call
 pub none-then : {A : Type 0} (o : Order) (size : ℕ) (e : Decoder A) → e.on_failed ≡ Err Failed
     → Same (and_then (unsigned_decoder o size 0) (λ _. e)) e
 none-then o size e failed = rw (unsigned-takes o size 0 (omega arith)) (record {

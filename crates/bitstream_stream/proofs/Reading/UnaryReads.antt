@@ -78,7 +78,7 @@ module _ {R : Type 0} {K : BitSource R} where
       → Reads K (unary_decoder e) s r t
   unary-as {r = r} {s = s} {t = t} stop e same h = subst (λ b. Reads K (unary_decoder b) s r t) same h
 
-  -- a bit was refused
+  -- the read of a bit failed
   pub unary-stops : (stop : Bool) (n : ℕ) (x : Error) (s t z : R) → n < 2 ^ 32 → Begun K s (replicate n (not stop)) t
       → Reads K bit_decoder t (Err x) z → Reads K (unary_decoder stop) s (Err x) z
   unfolding unary_decoder
@@ -128,7 +128,7 @@ module _ {R : Type 0} {K : BitSource R} where
 
 module _ (o : Order) (stop : Bool) (old new : PortState) (queue queued before_taken after_taken : ℕ)
     (before : Bool) where
-  -- its number was answered
+  -- its number was returned
   pub lead_answered : (count q l : ℕ) (after : Bool) → before ≡ false → after ≡ false → count < 2 ^ 32 → after_taken
       ≡ before_taken + (count + 1)
       → TakesBetween o (word o queued queue) old (unary stop count) (word o l q) new
@@ -175,7 +175,7 @@ module _ (o : Order) (stop : Bool) (old new : PortState) (queue queued before_ta
     failed = refl;
   }
 
-  -- a byte was refused
+  -- the read of a byte failed
   pub lead_stopped : (may : Refusal → Type 0) (q : ℕ) (error : Error) → before ≡ false → before_taken ≤ after_taken
       → RefusesUnary may o stop (word o queued queue) old error new
       → ReadRefused o may (unary_decoder stop) (reader_state o old queue queued before_taken before) (Err error)

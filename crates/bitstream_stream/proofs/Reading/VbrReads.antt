@@ -21,7 +21,7 @@ use Rattle.bitstream_stream.proofs.Reading.SignedLemmas.{unsigned-below}
 use Rattle.bitstream_stream.proofs.Reading.TableLemmas.{unsigned-takes}
 use Rattle.bitstream_stream.proofs.Reading.GroupLemmas.{placed_fits, placed_past, placed_sum, sum_fits, last_group, group_more, none_behind, stays_below}
 
--- ---- an answer without a call
+-- ---- a result without a call
 
 abbrev answers : {A : Type 0} → Result A Error → Decoder A
 answers r = record { reads = λ _ _. Done 0 r; on_failed = r; allocates = λ _ _. false }
@@ -35,7 +35,7 @@ Reads-answers : {R A : Type 0} {K : BitSource R} (r : Result A Error) (s : R) �
     → Reads K (answers r) s r s
 Reads-answers {K = K} r s short = answers-by r s (K.state s).failed short refl
 
--- ---- what stands behind some groups
+-- ---- the bits after some groups
 
 -- a number, or why it is none of the type
 abbrev pub number_below : ℕ → ℕ → Result ℕ Error
@@ -64,7 +64,7 @@ first_stays : (strict : Bool) (high : ℕ) → rejects strict 0 high ≡ false
 first_stays false high = refl
 first_stays true high = and_none (ltb high 1)
 
--- a front behind groups that gave the lowest `shift` digits
+-- a prefix after groups that gave the lowest `shift` digits
 abbrev ahead : Bool → ℕ → ℕ → ℕ → Prefix ℕ → Prefix ℕ
 ahead strict limit value shift Incomplete = Incomplete
 ahead strict limit value shift (Done n (Ok high)) = Done n (number_of strict limit value shift high)

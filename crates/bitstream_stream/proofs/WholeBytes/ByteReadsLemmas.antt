@@ -27,7 +27,7 @@ byte_prefix-all : {A : Type 0} (n : ℕ) (g : List ℕ → Result A Error) (w : 
     ≡ Done n (g (take n w))
 byte_prefix-all n g w h = rw (le-leb n (length w) h) refl
 
--- bytes that decide a prefix of n are n, and have its answer
+-- bytes that decide a prefix of n bytes are n, and have its result
 decided : {A : Type 0} (n : ℕ) (g : List ℕ → Result A Error) (w : List ℕ) (r : Result A Error) → byte_prefix n g w
     ≡ Done (length w) r → (length w ≡ n) × (r ≡ g w)
 decided n g w r h = elim (cases_lt (length w) n) [
@@ -71,14 +71,14 @@ took_prefix n g w s t len h =
       took = h;
     }
 
--- a prefix of n took n bytes and has their answer
+-- a prefix of n bytes took n bytes and has their result
 prefix_took : {A : Type 0} (n : ℕ) (g : List ℕ → Result A Error) (r : Result A Error) (s t : ByteReaderState)
     (h : ByteReadDone (byte_call (byte_prefix n g)) s r t) → (length h.bytes ≡ n) × (r ≡ g h.bytes)
 prefix_took n g r s t h = decided n g h.bytes r (ap (byte_prefix n g) (sym (append-nil h.bytes)) ∙ h.decides [])
 
 -- ---- calls one after another
 
--- what a call that answered took
+-- the bytes that a call that returned a value took
 pub bytes_took : {R : Type 0} {K : ByteSource R} {grows : Bool} (n : ℕ) (x : List ℕ) (s t : R)
     → ByteReadOutcome K grows (given_bytes n) s (Ok x) t → BytesTaken (K.state s) x (K.state t) × (length x ≡ n)
 unfolding given_bytes
@@ -121,7 +121,7 @@ pub bytes_then : {R : Type 0} {K : ByteSource R} {grows : Bool} (a b n : ℕ) (x
     → ByteReadOutcome K grows (given_bytes n) s (Ok z) u
 bytes_then {K = K} {grows = grows} a b n x y z s t u sum is h k = rw (is, ← sum) (bytes_more a b x y s t u h k)
 
--- some bytes of n, and then a call that was refused, of a call that makes an answer of the n bytes
+-- some bytes of n, and then a call that failed, of a call that makes a result of the n bytes
 stop_prefix : {R A : Type 0} {K : ByteSource R} {grows : Bool} (g : List ℕ → Result A Error) (a b n : ℕ)
     (x : List ℕ) (e : Error) (s t u : R) → a + b ≤ n → ByteReadOutcome K grows (given_bytes a) s (Ok x) t
     → ByteReads K (given_bytes b) t (Err e) u → ByteReadOutcome K grows (byte_call (byte_prefix n g)) s (Err e) u
@@ -158,7 +158,7 @@ pub bytes_stop : {R : Type 0} {K : ByteSource R} {grows : Bool} (a b n : ℕ) (x
 unfolding given_bytes
 bytes_stop a b n x e s t u le h k = stop_prefix (λ w. Ok w) a b n x e s t u le h k
 
--- fewer than n bytes, and then memory was refused
+-- fewer than n bytes, and then an allocation failed
 pub bytes_starved : {R : Type 0} {K : ByteSource R} (a n : ℕ) (x : List ℕ) (s t : R) → a < n
     → ByteReadsGrowing K (given_bytes a) s (Ok x) t → ByteReadsGrowing K (given_bytes n) s (Err OutOfMemory) t
 unfolding given_bytes

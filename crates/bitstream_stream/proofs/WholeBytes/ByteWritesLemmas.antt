@@ -41,7 +41,7 @@ module _ {S : Type 0} (K : ByteSink S) where
       subst (λ y. ByteWriteRefused K s x y t) same h
   was_stopped x s e t none (was_done d w r h) = cc
 
-  -- bytes that went before, with others behind them
+  -- bytes that went before, with others after them
   pub stopped_behind : (x y z : List ℕ) (e : Error) (s t u : S) → BytesAppended K s x t → ByteWriteRefused K t y e u
       → ByteWriteRefused K s (x ++ (y ++ z)) e u
   stopped_behind x y z e s t u h k =

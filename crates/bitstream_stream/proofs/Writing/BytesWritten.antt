@@ -1,4 +1,4 @@
--- Bytes behind the queue of a writer, and zeros.
+-- Bytes after the queue of a writer, and zeros.
 use Rattle.std.proofs.Common.{◌≡◌, ℕ, zero, suc, ◌+◌, ◌-◌, ◌*◌, ◌%◌, ◌^◌, ◌<◌, ◌≤◌, Bool, true, false, List, [], ◌∷◌, ◌++◌, length, take, drop, replicate, reverse, Result, Ok, Err, refl, sym, ap, ◌∙◌, subst, arith, add-one}
 use mathlib.Core.List.{reverse-cons}
 use Rattle.bitstream_number.specs.Word.{Order, High, Low, word, number, bits, bytes}
@@ -24,7 +24,7 @@ use Rattle.bitstream_stream.proofs.Writing.WriterLemmas.{pushed_fault, pushes_wr
 
 -- ---- one request
 
--- bytes that went, which the bits written made behind the queue
+-- bytes that went, which the bits written after the queue filled
 pub sent_bytes : (may : Refusal → Type 0) (o : Order) (queued queue left : ℕ) (xs ys : List ℕ)
     (p r : PortState) (old new : Bool) → Shifts o queued queue (bits o xs) (bits o ys) left → Sent p ys r → new ≡ false
     → Appended (queue_sink may o) (record { port = p; queued = queued; queue = queue; failed = old }) (bits o xs)
@@ -52,7 +52,7 @@ bytes_fault may o queued queue xs error k p r old new q h few some asked broken 
 
 -- ---- several
 
--- a part of some bytes behind those before it
+-- a part of some bytes after the parts before it
 pub appended_part : (may : Refusal → Type 0) (o : Order) (s t z : WriterState) (at n k : ℕ) (xs part : List ℕ) → k ≡ n
     → part ≡ take k (drop at xs) → Appended (queue_sink may o) s (bits o (take at xs)) t
     → Appended (queue_sink may o) t (bits o part) z
@@ -63,7 +63,7 @@ appended_part may o s t z at n k xs part same is h more =
     subst (λ x. Appended (queue_sink may o) s x z) (sym (bits-append o (take at xs) part)
     ∙ ap (bits o) all) (appended_more (queue_sink may o) s t z (bits o (take at xs)) (bits o part) h more)
 
--- a part of some bytes was refused, behind those before it
+-- the write of a part of some bytes failed, after the parts before it
 pub pushes_stop : (may : Refusal → Type 0) (o : Order) (s t z : WriterState) (at k : ℕ) (xs part : List ℕ)
     (error : Error) (r : Result (Unit {0}) Error) → IsErrAnd r (λ e. e ≡ error) → part ≡ take k (drop at xs)
     → Appended (queue_sink may o) s (bits o (take at xs)) t → WriteRefused (queue_sink may o) t (bits o part) error z
@@ -103,7 +103,7 @@ module _ (may : Refusal → Type 0) (o : Order) where
       → Pushes may o (word o n 0) s r t → Pushes may o (replicate n false) s r t
   pushes_zeros n s r t h = subst (λ (w : List Bool). Pushes may o w s r t) (word-zeros o n) h
 
-  -- zeros behind zeros
+  -- zeros after zeros
   pub zeros-behind : (a b n : ℕ) (s t z : WriterState) (r : Result (Unit {0}) Error) → a + b ≡ n
       → Appended (queue_sink may o) s (replicate a false) t → Pushes may o (replicate b false) t r z
       → Pushes may o (replicate n false) s r z
@@ -112,7 +112,7 @@ module _ (may : Refusal → Type 0) (o : Order) where
   zeros-behind a b n s t z (Err x) sum h k = rw (zeros-split a b n sum)
       (WriteRefused-behind (queue_sink may o) s t z x (replicate a false) (replicate b false) h k)
 
-  -- a piece of bytes of zeros behind others
+  -- a piece of bytes of zeros after others
   pub zeros-piece : (a n size b : ℕ) (s t z : WriterState) (r : Result (Unit {0}) Error) → n ≤ size → a + n ≡ b
       → Appended (queue_sink may o) s (replicate (8 * a) false) t
       → Pushes may o (bits o (take n (replicate size 0))) t r z
@@ -126,7 +126,7 @@ module _ (may : Refusal → Type 0) (o : Order) where
       → Appended (queue_sink may o) s (replicate (8 * b) false) t
   zeros-all a b s t same h = subst (λ (n : ℕ). Appended (queue_sink may o) s (replicate (8 * n) false) t) same h
 
-  -- a refusal before all zeros went
+  -- a failed request before all zeros went
   pub zeros-stop : (a n : ℕ) (x : Error) (s t : WriterState) (r : Result (Unit {0}) Error) → IsErrAnd r (λ e. e ≡ x)
       → a ≤ n → WriteRefused (queue_sink may o) s (replicate a false) x t → Pushes may o (replicate n false) s r t
   zeros-stop a n x s t (Ok done) e le h = absurd e
@@ -145,7 +145,7 @@ module _ (may : Refusal → Type 0) (o : Order) where
 
 -- ---- numbers
 
--- the bytes of a number are written as its word
+-- the bytes of a number are written as its encoding
 pub buffer-number : (o : Order) (n v len : ℕ) → v < 2 ^ (8 * n) → buffer o (bytes o n v) len
     ≡ unsigned o (8 * n) (8 * n) v len
 buffer-number o n v len small = ap Ok (bits-bytes o n v)

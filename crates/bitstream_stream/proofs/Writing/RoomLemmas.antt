@@ -1,4 +1,4 @@
--- Writers with room for what is written are refused nothing.
+-- No request of a writer with room for all bits written fails.
 use Rattle.std.proofs.Common.{◌≡◌, ℕ, ◌+◌, ◌*◌, ◌/◌, ◌%◌, ◌<◌, ◌≤◌, Bool, false, List, [], ◌∷◌, ◌++◌, length, Option, None, Some, Result, Ok, inl, inr, refl, sym, ap, ◌∙◌, subst, arith, length-append}
 use Rattle.std.specs.Io.KnownBytes.{Appends}
 use Rattle.bitstream_number.specs.Word.{Order, word, bits}
@@ -35,7 +35,7 @@ grown_bytes {new = Some ys} {xs = xs} bs known grows =
     let whole : ys ≡ xs ++ bs = subst (λ o. Appends o (Some ys) bs) known grows in
     (ys, refl, ap length whole ∙ length-append xs bs)
 
--- what is asked for behind the bytes that were filled is no more than what all bits fill
+-- the bytes requested after the bytes that were filled are at most the bytes that all bits fill
 asked_fits : (queued prefix n filled rest before after wanted : ℕ) → queued + prefix ≡ 8 * filled + rest → rest < 8
     → after % 8 ≡ 0 → 8 * before + queued + prefix < after + 8 → after + 8 * wanted ≤ 8 * before + queued + n
     → filled + wanted ≤ (queued + n) / 8
@@ -55,7 +55,7 @@ module _ {R : Type 0} (f : R → WriterState) (may : Refusal → Type 0) (o : Or
   abbrev K : Sink R
   K = inner_sink f (queue_sink may o)
 
-  -- a writer with room for a word is refused nothing
+  -- no request of a writer with room for an encoding fails
   pub room-enough : (s t : R) (x : List Bool) (error : Error) → AllLackRoom may → HasRoom (f s) (length x)
       → WriteRefused K s x error t → ⊥
   room-enough s t x error lacks room h =
@@ -71,7 +71,7 @@ module _ {R : Type 0} (f : R → WriterState) (may : Refusal → Type 0) (o : Or
       h.least h.asked in
       omega (arith, lack.few, room.room, most, held, grown.2, fits)
 
-  -- behind a word there is room for what is left
+  -- after an encoding there is room for the rest
   pub room-left : (s t : R) (x : List Bool) (n : ℕ) → HasRoom (f s) (length x + n) → Appended K s x t → HasRoom (f t) n
   room-left s t x n room h =
       let grown = grown_bytes _ room.told h.grown.grows in
@@ -127,7 +127,7 @@ module _ {R : Type 0} (f : R → WriterState) (may : Refusal → Type 0) (o : Or
       room-all es h.0 t r lacks one.2 (subst (AllAccepted es) (sym one.4) all.1)
       (subst (λ n. HasRoom (f h.0) (length (write_sequence es n))) (sym one.4) one.3) h.2
 
--- a writer of bytes with room for some is refused nothing
+-- no request of a writer of bytes with room for some bytes fails
 pub room-bytes : {S T : Type 0} (K : ByteSink S) (xs held : List ℕ) (most : ℕ) (s t : S) (r : Result T Error)
     → AllLackRoom K.may → K.limit ≡ None → K.contents s ≡ Some held → capacity_of (K.references s) ≡ Some most
     → length held + length xs ≤ most → ByteWrites K xs s r t → (done : T) × (r ≡ Ok done)
@@ -191,12 +191,12 @@ module _ {E : Type 0} (o : Order) (es : List Encoder) (a : BitWriter SliceMut E)
       (subst (λ n. HasRoom (writer_state slice_mut_stream a)
       (length (write_sequence fs n))) (sym started) (new_room _ name was (length (write_sequence fs 0)) fresh few)) h
 
-  -- accepted calls on a new writer, over bytes with room for them and for an alignment behind them, are done
+  -- accepted calls on a new writer, over bytes with room for them and for an alignment after them, complete
   pub calls_with_room : (b : BitWriter SliceMut E) (r : Result (Unit {0}) Error) → WritesAll slice_sink es a r b
       → r ≡ Ok tt
   calls_with_room b r h = calls_done es b r all (let less = run_before es 0 in omega arith) h
 
-  -- and so is the alignment behind these calls
+  -- and so does the alignment after these calls
   pub align_with_room : (m b : BitWriter SliceMut E) (r : Result (Unit {0}) Error)
       → WritesAll slice_sink es a (Ok tt) m → Writes slice_sink align m r b → r ≡ Ok tt
   align_with_room m b r h k =

@@ -115,7 +115,7 @@ module _ {S : Type 0} (K : Sink S) where
   restate e f old r new same (was_refused y d p en wi re k) = was_refused y d p (sym same ∙ en) wi re k
   restate e f old r new same (was_done y w p en wi re a) = was_done y w p (sym same ∙ en) wi re a
 
-  -- a word of no bits is refused only by a sink that has failed
+  -- an encoding of no bits fails only on a sink that has failed
   pub empty : {T : Type 0} (e : Encoder) (old : S) (r : Result T Error) (new : S) (d : Error) → Writes K e old r new
       → r ≡ Err d → e (K.len old) ≡ Ok [] → (K.failed old ≡ true) × (r ≡ Err Failed) × Kept K old new
   empty e old r new d (had_failed p re k) q h = (p, re, k)
@@ -131,7 +131,7 @@ module _ {S : Type 0} (K : Sink S) where
   pub kept : (s : S) → Kept K s s
   kept s = record { grown = K.appends_nil s; failed = refl; refusals = refl; references = refl }
 
-  -- a call on a sink that has failed, and one that is refused at once
+  -- a call on a sink that has failed, and one that fails at once
   pub fails : {T : Type 0} (e : Encoder) (s : S) (r : Result T Error) → K.failed s ≡ true → r ≡ Err Failed
       → Writes K e s r s
   fails e s r broken q = had_failed broken q (kept s)

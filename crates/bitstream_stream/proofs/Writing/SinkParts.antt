@@ -1,4 +1,4 @@
--- A word written in parts.
+-- An encoding written in parts.
 use Rattle.std.proofs.Common.{◌≡◌, ℕ, ◌+◌, ◌^◌, ◌<◌, ◌≤◌, IsTrue, Bool, false, List, [], ◌∷◌, ◌++◌, length, replicate, Result, Ok, Err, refl, sym, ◌∙◌, ap, subst, append-nil, append_assoc, length-append, arith}
 use Rattle.std.specs.Result.{IsErrAnd}
 use Rattle.std.proofs.lemmas.List.{replicate-append-replicate}
@@ -32,7 +32,7 @@ module _ {S : Type 0} (K : Sink S) where
         references = k.references ∙ h.references;
       }
 
-  -- a fault of a part of a word, behind bits that were appended and before others, is a fault of the word
+  -- a failure of a part of an encoding, after appended bits and before others, is a failure of the encoding
   pub WriteRefused-within : (old mid new : S) (d : Error) (x y z word : List Bool) → word ≡ x ++ (y ++ z)
       → K.appends old x mid → K.refusals mid ≡ K.refusals old → K.references mid ≡ K.references old
       → WriteRefused K mid y d new → WriteRefused K old word d new
@@ -85,7 +85,7 @@ module _ {S : Type 0} (K : Sink S) where
   WriteRefused-longer old new d y z k = WriteRefused-within old old new d [] y z (y ++ z) refl (K.appends_nil old) refl
       refl k
 
-  -- a call that answers `Ok` appended its word
+  -- a call that returns `Ok` appended its encoding
   pub from_ok : {T : Type 0} (e : Encoder) (old : S) (r : Result T Error) (new : S) (t : T) (x : List Bool)
       → Writes K e old r new → r ≡ Ok t → e (K.len old) ≡ Ok x → Begun K old x new
   from_ok e old r new t x (had_failed f re k) q h = cc
@@ -113,7 +113,7 @@ module _ {S : Type 0} (K : Sink S) where
             appended_more old mid new x y b.done c.done;
       }
 
-  -- a later part of a word that has room answers an error
+  -- a later part of an encoding that has room returns an error
   pub stop_later : {T V : Type 0} (e f : Encoder) (old mid : S) (r : Result T Error) (r' : Result V Error)
       (new : S) (d : Error) (x y z : List Bool)
       → Begun K old x mid → Writes K e mid r new → r ≡ Err d → r' ≡ Err d → e (K.len mid) ≡ Ok y → f (K.len old)
@@ -136,7 +136,7 @@ module _ {S : Type 0} (K : Sink S) where
       (WriteRefused-longer mid new d' y z (subst (λ (l : List Bool). WriteRefused K mid l d' new) same k)))
   stop_later e f old mid r r' new d x y z b (was_done y' w p en wi re a) q q' h h' room = cc
 
-  -- the last part of a word that has room, whatever it answers
+  -- the last part of an encoding that has room, whatever its call returns
   pub last : {T : Type 0} (e f : Encoder) (old mid : S) (r : Result T Error) (new : S) (x y : List Bool)
       → Begun K old x mid → Writes K e mid r new → e (K.len mid) ≡ Ok y → f (K.len old) ≡ Ok (x ++ y)
       → IsWithin K.limit (K.len old + length (x ++ y)) → Writes K f old r new
@@ -164,20 +164,20 @@ module _ {S : Type 0} (K : Sink S) where
     references = b.done.references;
   }
 
-  -- a call of no bits that found it sound, before a refusal
+  -- a call of no bits on a sink that has not failed, before a failed request
   pub probe_refused : {V : Type 0} (f : Encoder) (old : S) (r' : Result V Error) (new : S) (d : Error)
       → Begun K old [] new → f (K.len old) ≡ Err d → r' ≡ Err d → Writes K f old r' new
   probe_refused f old r' new d b h q = was_rejected d b.was_sound h q (Begun-kept old new b)
 
-  -- and before a word that has no room
+  -- and before an encoding that has no room
   pub probe_passed : {V : Type 0} (f : Encoder) (old : S) (r' : Result V Error) (new : S) (x : List Bool)
       → Begun K old [] new → f (K.len old) ≡ Ok x → IsPastLimit K.limit (K.len old + length x) → r'
       ≡ Err CounterOverflow → Writes K f old r' new
   probe_passed f old r' new x b h past q = past_limit x b.was_sound h past q (Begun-kept old new b)
 
-  -- ---- a word in several parts, as a body of calls writes it
+  -- ---- an encoding in several parts, as a body of calls writes it
 
-  -- it begins with a word of no bits, which was refused
+  -- it begins with an encoding of no bits, which failed
   pub probe_stops : {T V : Type 0} (o : Order) (size v : ℕ) (f : Encoder) {old new : S} {d : Error}
       {r : Result V Error} → Writes {T = T} K (unsigned o size 0 v) old (Err d) new → IsErrAnd r (λ y. y ≡ d)
       → Writes K f old r new
@@ -204,7 +204,7 @@ module _ {S : Type 0} (K : Sink S) where
         probe_passed f old (Err CounterOverflow) mid x probed is
         (rw all (past_if_not_within K.limit (K.len mid + n) (λ h. untold _ room lacks asked h))) refl
 
-  -- a part was refused, where there is room for n bits, which are all
+  -- the write of a part failed, where there is room for n bits, which are all
   pub part_stops : {T V : Type 0} {old mid new : S} {d : Error} {r : Result V Error} (e f : Encoder)
       (x y z : List Bool) (n : ℕ) → Begun K old x mid → Writes {T = T} K e mid (Err d) new → IsErrAnd r (λ q. q ≡ d)
       → e (K.len mid) ≡ Ok y → (word : List Bool) → f (K.len old) ≡ Ok word → word ≡ x ++ (y ++ z) → length word ≡ n
@@ -217,7 +217,7 @@ module _ {S : Type 0} (K : Sink S) where
 
   module _ (bit : Bool) (o : Order) (size a k v : ℕ) (le : k ≤ size) (small : v < 2 ^ k) (same : (o : Order)
       → word o k v ≡ replicate k bit) {old mid new : S} (b : Begun K old (replicate a bit) mid) where
-    -- it was accepted behind others
+    -- it was accepted after others
     pub lead_more : {T : Type 0} {t : T} (n : ℕ) → a + k ≡ n → Writes K (unsigned o size k v) mid (Ok t) new
         → Begun K old (replicate n bit) new
     lead_more {t = t} n sum w =
@@ -226,7 +226,7 @@ module _ {S : Type 0} (K : Sink S) where
         (from_ok (unsigned o size k v) mid (Ok t) new t (replicate k bit) w refl
         (unsigned-fits o size k v (K.len mid) le small ∙ ap Ok (same o))))
 
-    -- it was refused
+    -- it failed
     pub lead_stops : {T V : Type 0} {d : Error} {r : Result V Error} (f : Encoder) (word rest : List Bool) (n : ℕ)
         → Writes {T = T} K (unsigned o size k v) mid (Err d) new → IsErrAnd r (λ q. q ≡ d) → f (K.len old) ≡ Ok word
         → word ≡ replicate a bit ++ (replicate k bit ++ rest) → length word ≡ n → IsWithin K.limit (K.len old + n)

@@ -1,4 +1,4 @@
--- A run that is written in words.
+-- A run that is written as several numbers.
 use Rattle.std.proofs.Common.{Result, Err, subst, ◌≡◌, ℕ, zero, suc, ◌+◌, ◌-◌, ◌*◌, ◌/◌, ◌^◌, ◌<◌, ◌≤◌, Bool, true, false, not, List, ◌∷◌, ◌++◌, replicate, reverse, Ok, ap, ◌∙◌, arith}
 use Rattle.std.specs.Result.{IsErrAnd}
 use mir.Val.{bool_byte}
@@ -50,7 +50,7 @@ bit_small : (b : Bool) (n : ℕ) → n ≡ bool_byte b → n < 2 ^ 1
 bit_small true n e = omega arith
 bit_small false n e = omega arith
 
--- the word of a run: its bits, and the stop bit as a number behind them
+-- the encoding of a run: its bits, and the stop bit as a number after them
 pub lead_word : (stop : Bool) (o : Order) (n v b z : ℕ) → v < 2 ^ n
     → ((o : Order) → word o n v ≡ replicate n (not stop)) → b ≡ bool_byte stop → z ≡ put_number o v n b 1
     → word o (n + 1) z ≡ unary stop n
@@ -58,10 +58,10 @@ lead_word stop o n v b z small is bit put =
     ap (word o (n + 1)) put ∙ put_word o v n b 1 small (bit_small stop b bit) ∙ ap (λ w. w ++ word o 1 b) (is o)
     ∙ ap (λ w. replicate n (not stop) ++ w) (one_word o stop b bit)
 
--- ---- behind the queue of a writer
+-- ---- after the queue of a writer
 
 module _ (may : Refusal → Type 0) (o : Order) (stop : Bool) where
-  -- bits that are no stop bit behind others
+  -- bits that are no stop bit after others
   pub others-behind : (a b n v : ℕ) (s t z : WriterState) → a + b ≡ n
       → ((o : Order) → word o b v ≡ replicate b (not stop)) → Appended (queue_sink may o) s (replicate a (not stop)) t
       → Appended (queue_sink may o) t (word o b v) z
@@ -70,7 +70,7 @@ module _ (may : Refusal → Type 0) (o : Order) (stop : Bool) where
       rw (others-split stop a b n sum) (appended_more (queue_sink may o) s t z (replicate a (not stop))
       (replicate b (not stop)) h (subst (λ w. Appended (queue_sink may o) t w z) (is o) k))
 
-  -- some of them were refused
+  -- the write of some of them failed
   pub others-stop : (a b n v : ℕ) (x : Error) (s t z : WriterState) (r : Result (Unit {0}) Error) → a + b ≤ n
       → ((o : Order) → word o b v ≡ replicate b (not stop)) → IsErrAnd r (λ e. e ≡ x)
       → Appended (queue_sink may o) s (replicate a (not stop)) t → WriteRefused (queue_sink may o) t (word o b v) x z

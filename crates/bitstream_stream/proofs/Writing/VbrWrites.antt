@@ -41,7 +41,7 @@ small_of m rest none = elim (cases_lt rest (2 ^ m)) [
       absurd (omega (arith, none, le-div 1 rest (2 ^ m) (pow_pos m) (omega (arith, large))))
 ]
 
--- a number is less behind a group
+-- a number is less after a group
 rest_less : (m rest : ℕ) → 0 < m → 2 ^ m ≤ rest → rest / 2 ^ m < rest
 rest_less m rest some large = div-lt_self (omega (arith, large, pow_pos m)) (pow_below 0 m some)
 
@@ -204,7 +204,7 @@ module _ {S : Type 0} (K : Sink S) (field size v : ℕ) (within : field ≤ size
                 ∙ ap (λ l. b.word ++ l) (sym (first.parts K.order)) ∙ b.parts;
           }
 
-      -- a group was refused, before the others
+      -- the write of a group failed, before the others
       pub groups-stop : {V : Type 0} (r' : Result V Error) (d : Error) (group next : ℕ)
           → IsFirstGroup field rest group next → Writes K (unsigned K.order size field group) mid r new → r ≡ Err d → r'
           ≡ Err d
@@ -220,7 +220,7 @@ module _ {S : Type 0} (K : Sink S) (field size v : ℕ) (within : field ≤ size
           (unsigned-fits K.order size field group (K.len mid) within first.fits) (ap Ok all)
           (subst (λ l. IsWithin K.limit (K.len old + length l)) all room)
 
-      -- the last group, whatever it answers
+      -- the last group, whatever its call returns
       pub groups-last : IsLastGroup field rest → Writes K (unsigned K.order size field rest) mid r new
           → IsWithin K.limit (K.len old + length (vbr_word K.order field v)) → Writes K (vbr K.order field v) old r new
       groups-last final w room =
@@ -289,7 +289,7 @@ module _ {S : Type 0} (K : Sink S) (field size v : ℕ) (within : field ≤ size
           below = omega (arith, is);
         }
 
-    -- it was refused
+    -- it failed
     pub gathered-stop : {T V : Type 0} (r : Result T Error) (new : S) (r' : Result V Error) (d : Error) → bits ≤ size
         → Writes K (unsigned K.order size bits gathered) mid r new → r ≡ Err d → r' ≡ Err d
         → IsWithin K.limit (K.len old + length (vbr_word K.order field v)) → Writes K (vbr K.order field v) old r' new
@@ -301,7 +301,7 @@ module _ {S : Type 0} (K : Sink S) (field size v : ℕ) (within : field ≤ size
         (unsigned-fits o size bits gathered (K.len mid) room b.below) (ap Ok (sym b.parts))
         (subst (λ l. IsWithin K.limit (K.len old + length l)) (sym b.parts) limit)
 
-    -- the last group where nothing is gathered, whatever the call answers
+    -- the last group where nothing is gathered, whatever the call returns
     pub gathered-none : {T : Type 0} (r : Result T Error) (new : S) → bits ≡ 0 → IsLastGroup field rest
         → Writes K (unsigned K.order size field rest) mid r new
         → IsWithin K.limit (K.len old + length (vbr_word K.order field v)) → Writes K (vbr K.order field v) old r new
@@ -315,13 +315,13 @@ module _ {S : Type 0} (K : Sink S) (field size v : ℕ) (within : field ≤ size
         (unsigned-fits o size field rest (K.len mid) within final.fits) (ap Ok all)
         (subst (λ l. IsWithin K.limit (K.len old + length l)) all limit)
 
-    -- the number of the last group behind what was gathered
+    -- the number of the last group after the gathered groups
     pub gathered-below : (n made : ℕ) → n ≡ field → IsLastGroup field rest → made
         ≡ put_number K.order gathered bits rest n → made < 2 ^ (bits + n)
     gathered-below n made one final put = subst (λ k. k < 2 ^ (bits + n)) (sym put)
         (put_below K.order gathered bits rest n b.below (subst (λ k. rest < 2 ^ k) (sym one) final.fits))
 
-    -- that number is written, whatever the call answers
+    -- that number is written, whatever the call returns
     pub gathered-last : {T : Type 0} (r : Result T Error) (new : S) (n made : ℕ) → n ≡ field → IsLastGroup field rest
         → made ≡ put_number K.order gathered bits rest n → bits + n ≤ size
         → Writes K (unsigned K.order size (bits + n) made) mid r new
@@ -338,7 +338,7 @@ module _ {S : Type 0} (K : Sink S) (field size v : ℕ) (within : field ≤ size
         (unsigned-fits o size (bits + n) made (K.len mid) room (gathered-below n made one final put)) (ap Ok all)
         (subst (λ l. IsWithin K.limit (K.len old + length l)) all limit)
 
--- ---- a group that was pushed behind a writer's queue
+-- ---- a group that was pushed after a writer's queue
 
 pub group-pushed : (may : Refusal → Type 0) (o : Order) (field size n group : ℕ) (mid : WriterState) (r :
     Result (Unit {0}) Error) (new : WriterState) → n ≡ field → field ≤ size → group < 2 ^ field → mid.failed ≡ false

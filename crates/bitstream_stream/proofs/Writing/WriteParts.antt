@@ -12,13 +12,13 @@ module _ {S : Type 0} (K : Sink S) where
   unfolding WritesAll
   all_none s = (refl, refl)
 
-  -- a first call that answers an error
+  -- a first call that returns an error
   pub all_err : (e : Encoder) (es : List Encoder) (old : S) (r : Result (Unit {0}) Error) (d : Error) (new : S)
       → r ≡ Err d → Writes {T = Unit {0}} K e old (Err d) new → WritesAll K (e ∷ es) old r new
   unfolding WritesAll
   all_err e es old r d new h w = inl (rw h refl, rw h w)
 
-  -- a first call that answers `Ok`, and more
+  -- a first call that returns `Ok`, and more
   pub all_more : (e : Encoder) (es : List Encoder) (old mid : S) (r : Result (Unit {0}) Error) (new : S)
       → Writes {T = Unit {0}} K e old (Ok tt) mid → WritesAll K es mid r new → WritesAll K (e ∷ es) old r new
   unfolding WritesAll
@@ -43,7 +43,7 @@ module _ {S : Type 0} (K : Sink S) where
   all_append (e ∷ es) fs old mid r new (inl p) q = let z = p.0 in cc
   all_append (e ∷ es) fs old mid r new (inr p) q = inr (p.0, p.1, all_append es fs p.0 mid r new p.2 q)
 
-  -- calls of which one answers an error, before others that are not made
+  -- calls of which one returns an error, before others that are not made
   pub all_stop : (es fs : List Encoder) (old : S) (d : Error) (r : Result (Unit {0}) Error) (new : S) → r ≡ Err d
       → WritesAll K es old (Err d) new → WritesAll K (es ++ fs) old r new
   unfolding WritesAll

@@ -1,4 +1,4 @@
--- A word behind the queue of a writer.
+-- An encoding after the queue of a writer.
 use Rattle.std.specs.Io.KnownBytes.{Appends}
 use Rattle.std.proofs.KnownBytes.{Appends-nil}
 use Rattle.std.proofs.Common.{◌≡◌, ℕ, ◌+◌, ◌-◌, ◌*◌, ◌%◌, ◌^◌, ◌<◌, ◌≤◌, Bool, true, false, List, [], ◌∷◌, ◌++◌, take, Option, Result, Ok, Err, refl, sym, ap, ◌∙◌, subst, arith, append_assoc, append-nil}
@@ -24,7 +24,7 @@ use Rattle.bitstream_stream.specs.Ways.{Flushes}
 use Rattle.bitstream_stream.specs.declared.write.writer.BitWriter.{BitWriter}
 use Rattle.bitstream_order.specs.Streams.{OutputStream}
 
--- a queue with a word behind it
+-- a queue with an encoding after it
 pub queue_small : (o : Order) (queued queue n v part q : ℕ) → queue < 2 ^ queued → part ≡ piece o n v 0 n → q
     ≡ put_number o queue queued part n → q < 2 ^ (queued + n)
 queue_small o queued queue n v part q below cut put =
@@ -61,7 +61,7 @@ pushed_queue may o queued queue n v part q p old new below cut put sound =
       references = refl;
     }
 
--- bytes that went, and the bits behind them
+-- bytes that went, and the bits after them
 pub pushed_bytes : (may : Refusal → Type 0) (o : Order) (queued queue n v gone q : ℕ) (p r : PortState) (old new : Bool)
     → SendsBits o [] p (word o queued queue ++ take gone (word o n v)) r → gone ≤ n → q ≡ piece o n v gone (n - gone)
     → new ≡ false
@@ -83,7 +83,7 @@ pushed_bytes may o queued queue n v gone q p r old new h le cut sound = record {
   references = h.references;
 }
 
--- a request was refused, and the queue was emptied
+-- a request failed, and the queue was emptied
 fault_lengths : (a b queued n k wanted : ℕ) → b ≡ a → wanted ≡ k → queued < 8 → 8 ≤ queued + n → 8 * k ≤ queued + n
     → (8 ≤ (8 * a + queued) % 8 + n)
     × ((8 * b + 0) % 8 ≡ 0) × (8 * a + queued + 0 < 8 * b + 0 + 8) × (8 * b + 0 ≤ 8 * a + queued + 0)
@@ -125,7 +125,7 @@ pushed_fault may o queued queue n v k error p r old new q h few full room broken
       references = h.references;
     }
 
--- a push whose request was refused, and the writer was made to fail
+-- a push whose request failed, and the writer was made to fail
 pub pushes_lost : (may : Refusal → Type 0) (o : Order) (x : List Bool) (error : Error)
     (result : Result (Unit {0}) Error) (p : PortState) (old new : WriterState) → result ≡ Err error → new
     ≡ record { port = p; queued = 0; queue = 0; failed = true }
@@ -134,7 +134,7 @@ pub pushes_lost : (may : Refusal → Type 0) (o : Order) (x : List Bool) (error 
 pushes_lost may o x error result p old new answer is h =
     rw answer (subst (λ s. WriteRefused (queue_sink may o) old x error s) (sym is) h)
 
--- a flush that was refused, and the writer was made to fail
+-- a flush that failed, and the writer was made to fail
 pub flushes_lost : (may : Refusal → Type 0) (error : Error) (result : Result (Unit {0}) Error)
     (p : PortState) (old new : WriterState) → old.failed ≡ false → result ≡ Err error → new
     ≡ record { port = p; queued = 0; queue = 0; failed = true }

@@ -10,7 +10,7 @@ use Rattle.bitstream_stream.specs.Reading.Reads.{ReaderState}
 abbrev pub held : ℕ → ℕ
 held bit = (bit + 7) / 8
 
--- the bits left to read, of bytes of whose first some bits are taken
+-- the bits left to read of bytes, if some bits of the first byte are taken
 abbrev pub rest_bits : Order → List ℕ → ℕ → List Bool
 rest_bits o bytes bit = drop bit (bits o bytes)
 
@@ -18,8 +18,8 @@ rest_bits o bytes bit = drop bit (bits o bytes)
 abbrev pub taken_bits : List ℕ → List ℕ → ℕ → ℕ
 taken_bits all bytes bit = 8 * (length all - length bytes) + bit
 
--- The state of a reader of all these bytes. The bytes left are the ones from the one that has the next bit, and
--- `bit` bits of it are taken. A byte with some bits taken is fetched, and its other bits are queued.
+-- The state of a reader of all these bytes. The bytes left start at the byte that holds the next bit, and `bit` bits
+-- of that byte are taken. A byte with some bits taken is fetched, and its other bits are queued.
 abbrev pub memory_state : Order → List ℕ → List ℕ → ℕ → Bool → List Refusal → ReaderState
 memory_state o all bytes bit failed refusals = record {
   queue = if failed then [] else rest_bits o (take (held bit) bytes) bit;
@@ -31,7 +31,7 @@ memory_state o all bytes bit failed refusals = record {
   references = [];
 }
 
--- a refusal at the end of the bytes, which loses none of them
+-- a failed request at the end of the bytes, which loses none of them
 pub record EndsInMemory (refusal : Refusal) : Type 0 where
   pub left : List ℕ
   pub kind : refusal.kind ≡ UnexpectedEof
@@ -39,7 +39,7 @@ pub record EndsInMemory (refusal : Refusal) : Type 0 where
   pub after : refusal.after ≡ Some left
   pub few : length left < refusal.wanted
 
--- The refusal of one byte more than are left.
+-- The failed request for one byte more than are left.
 abbrev pub end_of : List ℕ → Refusal
 end_of left = record {
   kind = UnexpectedEof;

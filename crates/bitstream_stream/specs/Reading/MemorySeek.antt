@@ -14,7 +14,7 @@ abbrev pub memory_bytes : {E : Type 0} → SliceReader E → List ℕ
 memory_bytes r = r.all.now
 
 -- The meaning of the states of a reader of bytes in memory, as a reader that seeks. It makes no request, so
--- none is refused.
+-- none fails.
 abbrev pub memory_seeker : {E : Type 0} → Order → SeekerOf (SliceReader E)
 memory_seeker o = record {
   source = memory_source o;
@@ -31,7 +31,8 @@ pub record StandsAt {E : Type 0} (o : Order) (place : ℕ) (old new : SliceReade
   pub bytes : memory_bytes new ≡ memory_bytes old
   pub refusals : ((memory_source o).state new).refusals ≡ ((memory_source o).state old).refusals
 
--- Going to a place, if there is one. It may be the end, but not beyond it: then the reader is unchanged.
+-- Going to a place, if there is one. The place may be the end of the bytes. A place past the end is rejected, and the
+-- reader is unchanged.
 pub data GoesWithin {E : Type 0} (o : Order) (place : Option ℕ) (old : SliceReader E) (result : Result ℕ Error)
     (new : SliceReader E) : Type 0 where
   was_done : (at : ℕ) → place ≡ Some at → at ≤ 8 * length (memory_bytes old) → result ≡ Ok at → StandsAt o at old new

@@ -5,7 +5,7 @@ use Rattle.bitstream_stream.specs.Reading.Memory.{memory_state, EndsInMemory}
 use Rattle.bitstream_stream.specs.declared.read.slice_reader.SliceReader.{SliceReader}
 use Rattle.bitstream_stream.specs.Reading.MemoryState.{state_demands, state_holds, state_empties}
 
--- the meaning of the states of a reader of bytes in memory
+-- a reader of bytes in memory as a source of bits
 abbrev pub memory_source : {E : Type 0} → Order → BitSource (SliceReader E)
 memory_source o = record {
   order = o;

@@ -8,7 +8,7 @@ use Rattle.bitstream_stream.specs.Reading.Memory.{held, rest_bits, EndsInMemory}
 use Rattle.bitstream_stream.specs.Reading.MemorySource.{memory_source}
 use Rattle.bitstream_stream.specs.declared.read.slice_reader.SliceReader.{SliceReader}
 
--- a reader moves on by n bits, which are there
+-- a reader advances by n bits, which are left
 pub record GoesOn {E : Type 0} (n : ℕ) (old new : SliceReader E) : Type 0 where
   pub enough : old.bit + n ≤ 8 * length old.bytes.now
   pub all : new.all.now ≡ old.all.now
@@ -25,7 +25,7 @@ pub record IsAt {E : Type 0} (place : ℕ) (old new : SliceReader E) : Type 0 wh
   pub failed : new.failed ≡ false
   pub refusals : new.refusals.list ≡ old.refusals.list
 
--- the next n bits are the word of v, and are taken
+-- the next n bits are the encoding of v, and are taken
 pub record TakesNumber {E : Type 0} (o : Order) (n v : ℕ) (old new : SliceReader E) : Type 0 where
   pub goes : GoesOn n old new
   pub word : take n (rest_bits o old.bytes.now old.bit) ≡ word o n v

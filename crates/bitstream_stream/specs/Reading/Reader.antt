@@ -14,7 +14,7 @@ use Rattle.bitstream_count.specs.declared.error.Error.{Error}
 use Rattle.bitstream_stream.specs.declared.read.reader.BitReader.{BitReader}
 use Rattle.bitstream_stream.specs.Reading.Reads.{ReaderState, BitSource}
 
--- the queued bits are the word of `queue`
+-- the queued bits are the encoding of `queue`
 abbrev pub reader_state : Order → PortState → ℕ → ℕ → ℕ → Bool → ReaderState
 reader_state o port queue queued taken failed = record {
   queue = word o queued queue;
@@ -26,11 +26,11 @@ reader_state o port queue queued taken failed = record {
   references = port.references;
 }
 
--- the number of the queued bits: the first bits of the queue
+-- the queued bits as a number; they are the first bits of the queue
 abbrev pub queued_number : {R E : Type 0} → Order → BitReader R E → ℕ
 queued_number o r = first_part o r.queue 8 r.queued
 
--- the meaning of the states of a reader
+-- a reader as a source of bits
 abbrev pub reader_source : {R E : Type 0} → InputStream R → Order → BitSource (BitReader R E)
 reader_source I o = record {
   order = o;
@@ -74,7 +74,7 @@ abbrev pub TurnsByBytes : {R E A : Type 0} → BitReader R E → Result A Error 
 TurnsByBytes old result new = OnOk result (turns_made new
     ≡ turns_made old + (bytes_fetched new - bytes_fetched old) + 1)
 
--- a call for a word of n bits made at most one request, and none if the queue was enough
+-- a call for an encoding of n bits made at most one request, and none if the queue was enough
 abbrev pub AsksForWord : {R E : Type 0} → ℕ → BitReader R E → BitReader R E → Type 0
 AsksForWord n old new = (requests_made new ≤ requests_made old + 1)
     × (n ≤ queued_bits old → requests_made new ≡ requests_made old)

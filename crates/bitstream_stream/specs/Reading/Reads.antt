@@ -20,7 +20,7 @@ pub record ReaderState : Type 0 where
   pub taken : ℕ
   pub fetched : ℕ
   pub failed : Bool
-  -- the requests of the stream that were refused, the last one first
+  -- the failed requests to the stream, the last one first
   pub refusals : List Refusal
   -- the references through which the stream is reached
   pub references : List Reference
@@ -37,11 +37,11 @@ QueuesRest s = s.failed ≡ false → s.taken + length s.queue ≡ 8 * s.fetched
 abbrev pub Empties : ReaderState → Type 0
 Empties s = s.failed ≡ true → s.queue ≡ []
 
--- the meaning of the states of a reader, with the laws
+-- a reader as a source of bits, with the laws of its states
 pub record BitSource (R : Type 0) : Type 1 where
   pub order : Order
   pub state : R → ReaderState
-  -- the refusals that its stream may make
+  -- the failed requests that its stream allows
   pub may : Refusal → Type 0
   pub demands : (r : R) → Demands (state r)
   pub holds : (r : R) → QueuesRest (state r)
@@ -56,16 +56,16 @@ abbrev pub is_run_too_long : {A : Type 0} → Result A Error → Bool
 is_run_too_long (Err RunTooLong) = true
 is_run_too_long answer = false
 
--- the reader had failed: the result says so, and nothing changes
+-- the reader had failed: the result is `on_failed` of the decoder, and nothing changes
 pub record HadFailed {A : Type 0} (decoder : Decoder A) (old : ReaderState) (result : Result A Error)
     (new : ReaderState) : Type 0 where
   pub failed : old.failed ≡ true
   pub answer : result ≡ decoder.on_failed
   pub same : new ≡ old
 
--- The call takes its prefix, a word, and returns the prefix's result. The word alone decides it, whatever bits
--- follow, and no proper beginning of the word has a prefix. The old queue and the bits of the bytes fetched are
--- the word and then the new queue.
+-- The call takes the bits `word`, and returns the result that they decide, whatever bits follow. No proper prefix of
+-- `word` decides a result. The old queue and the bits of the bytes fetched are `word` and then the new queue. After
+-- `RunTooLong` the new queue is empty.
 pub record ReadDone {A : Type 0} (o : Order) (decoder : Decoder A) (old : ReaderState) (result : Result A Error)
     (new : ReaderState) : Type 0 where
   pub fine : old.failed ≡ false
@@ -84,7 +84,7 @@ pub record ReadDone {A : Type 0} (o : Order) (decoder : Decoder A) (old : Reader
   pub references : new.references ≡ old.references
   pub failed : new.failed ≡ is_run_too_long result
 
--- calls that all returned values took this word
+-- calls that all returned values took these bits
 pub record Took (o : Order) (old : ReaderState) (word : List Bool) (new : ReaderState) : Type 0 where
   pub fine : old.failed ≡ false
   pub gone : List ℕ
@@ -96,9 +96,9 @@ pub record Took (o : Order) (old : ReaderState) (word : List Bool) (new : Reader
   pub references : new.references ≡ old.references
   pub failed : new.failed ≡ false
 
--- A request was refused, as the stream may refuse, and the reader has failed. The queue was too short for the
--- call, and so it was with the bytes fetched before; at a true end so were all bits left. The stream lost these
--- bytes, and is as the refusal left it. The reader does not move back.
+-- A request failed, as the stream allows, and the reader has failed. The queue was too short for the call, also with
+-- the bytes fetched before. At the end of input all bits left were too few. The stream lost the bytes fetched, and is
+-- as the failed request left it. The reader does not move back.
 pub record ReadRefused {A : Type 0} (o : Order) (may : Refusal → Type 0) (decoder : Decoder A)
     (old : ReaderState) (result : Result A Error) (new : ReaderState) : Type 0 where
   pub fine : old.failed ≡ false
@@ -118,8 +118,8 @@ pub record ReadRefused {A : Type 0} (o : Order) (may : Refusal → Type 0) (deco
   pub references : new.references ≡ old.references
   pub failed : new.failed ≡ true
 
--- Memory that the call asked for itself was refused, and the reader has failed. The bits that were taken
--- until then were too few for the call, so a call for no bits is never refused memory.
+-- An allocation of the call itself failed, and the reader has failed. The bits that were taken until then were too
+-- few for the call, so a call for no bits never reports a failed allocation.
 pub record MemoryRefused {A : Type 0} (o : Order) (decoder : Decoder A) (old : ReaderState)
     (result : Result A Error) (new : ReaderState) : Type 0 where
   pub fine : old.failed ≡ false
@@ -150,7 +150,7 @@ pub data ReadOutcome {R A : Type 0} (K : BitSource R) (grows : Bool) (decoder : 
 abbrev pub Reads : {R A : Type 0} → BitSource R → Decoder A → R → Result A Error → R → Type 0
 Reads K decoder old result new = ReadOutcome K false decoder old result new
 
--- one read that asks for memory of its own
+-- one read that allocates memory itself
 abbrev pub ReadsGrowing : {R A : Type 0} → BitSource R → Decoder A → R → Result A Error → R → Type 0
 ReadsGrowing K decoder old result new = ReadOutcome K true decoder old result new
 
@@ -190,7 +190,7 @@ ConstAnswer gives err (Ok true) result = result ≡ Ok tt
 ConstAnswer gives err (Ok false) result = result ≡ Err err
 ConstAnswer gives err (Err x) result = IsErrAnd result (gives x)
 
--- a call that returns `err` if a word differs from the expected one, and turns any other error into its own
+-- a call that returns `err` if a number differs from the expected one, and converts any other error into its own
 -- type
 pub record ReadsConst {R E : Type 0} (K : BitSource R) (gives : Error → E → Type 0) (decoder : Decoder Bool)
     (err : E) (old : R) (result : Result (Unit {0}) E) (new : R) : Type 0 where

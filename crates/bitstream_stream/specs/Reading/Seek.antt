@@ -16,13 +16,13 @@ use Rattle.bitstream_stream.specs.Alignment.{to_boundary}
 use Rattle.bitstream_stream.specs.Reading.Place.{bit_meant, place_of}
 use Rattle.bitstream_stream.specs.Reading.Reads.{ReaderState, BitSource, bits_left}
 
--- the meaning of the states of a reader that seeks
+-- a reader that seeks, as a source of bits
 pub record SeekerOf (R : Type 0) : Type 1 where
   pub source : BitSource R
   -- the position in bytes of its stream, and all bytes of its stream, if they are known
   pub position : R → Option ℕ
   pub bytes : R → Option (List ℕ)
-  -- the refusals that its stream may make of a seek to this place
+  -- the failures of a seek to this place that its stream allows
   pub may : SeekFrom → Refusal → Type 0
 
 -- the meaning of the states of a `BitReader` that seeks
@@ -81,8 +81,8 @@ pub record Lands {R : Type 0} (K : SeekerOf R) (place : ℕ) (old new : R) : Typ
   pub left : (xs : List ℕ) → Tells K old xs → bits_left K.source.order (K.source.state new)
       ≡ Some (drop place (bits K.source.order xs))
 
--- A request was refused, as the stream may refuse it, with the error for its kind, and the reader has failed. The stream
--- is as the refusal left it, and this number of fetched bytes stays counted.
+-- A request failed, as the stream allows, with the error for its kind, and the reader has failed. The stream is as
+-- the failed request left it, and this number of fetched bytes stays counted.
 pub record RequestRefused {A : Type 0} (error_of : ErrorKind → Error) (may : Refusal → Type 0) (counted : ℕ)
     (old : ReaderState) (result : Result A Error) (new : ReaderState) : Type 0 where
   pub refusal : Refusal
@@ -102,24 +102,24 @@ IsByteSeek (Start n) = n < 2 ^ 61
 IsByteSeek (End n) = n ≡ pos 0
 IsByteSeek (Current d) = d ≡ pos 0
 
--- the stream may refuse one of these seeks so
+-- the stream allows one of these seeks to fail so
 abbrev pub MaySeek : (SeekFrom → Refusal → Type 0) → Refusal → Type 0
 MaySeek may refusal = (to : SeekFrom) × IsByteSeek to × may to refusal
 
--- the stream refused a seek, with the error of a refused write
+-- a seek of the stream failed, with the error of a failed write
 abbrev pub SeekRefused : {R A : Type 0} → SeekerOf R → ℕ → R → Result A Error → R → Type 0
 SeekRefused K counted old result new = RequestRefused refusal_of (MaySeek K.may) counted (K.source.state old) result
     (K.source.state new)
 
--- The stream refused the byte whose first bits were to be skipped, with the error of a refused read. No byte was fetched
--- from the byte sought on. At a true end the place lies past all bytes.
+-- The request for the byte whose first bits were to be skipped failed, with the error of a failed read. No byte was
+-- fetched from the byte sought on. At the end of input the place is past all bytes.
 pub record SkipRefused {R A : Type 0} (K : SeekerOf R) (place : ℕ) (old : R) (result : Result A Error) (new : R) :
     Type 0 where
   pub refused : RequestRefused read_refusal_of K.source.may 0 (K.source.state old) result (K.source.state new)
   pub some : 0 < place % 8
   pub ended : IsTrueEnd refused.refusal → (xs : List ℕ) → Tells K old xs → length xs ≤ place / 8
 
--- going to a place in bits, with this number of fetched bytes counted before
+-- going to a place in bits; the reader had fetched `counted` bytes before
 pub data GoesTo {R : Type 0} (K : SeekerOf R) (place counted : ℕ) (old : R) (result : Result ℕ Error) (new : R) :
     Type 0 where
   was_done : result ≡ Ok place → Lands K place old new → GoesTo K place counted old result new
@@ -140,7 +140,7 @@ pub record OnlyAsked {R : Type 0} (K : SeekerOf R) (old new : R) : Type 0 where
   pub position : StaysAt (K.position old) (K.position new)
   pub bytes : Keeps (K.bytes old) (K.bytes new)
 
--- The reader has failed, with the refusals that it had. The stream is at its end, if that is known, and the
+-- The reader has failed, with the failed requests that it had. The stream is at its end, if that is known, and the
 -- count of fetched bytes starts again there.
 pub record Fails {R : Type 0} (K : SeekerOf R) (old new : R) : Type 0 where
   pub failed : (K.source.state new).failed ≡ true
@@ -163,8 +163,8 @@ counted_before (Start x) s = s.fetched
 counted_before (End n) s = 0
 counted_before (Current d) s = s.fetched
 
--- A seek. The reader had failed, and it is a `Current`; or the reader goes to the place that is meant; or the
--- stream refused a request for its position or its end; or no place is meant.
+-- A seek. The reader had failed, and it is a `Current`; or the reader goes to the place that is meant; or a request
+-- for the stream's position or its end failed; or no place is meant.
 pub data SeeksBits {R : Type 0} (K : SeekerOf R) (to : SeekFrom) (old : R) (result : Result ℕ Error) (new : R) :
     Type 0 where
   had_failed : HadFailed K to old result new → SeeksBits K to old result new
@@ -176,7 +176,7 @@ pub data SeeksBits {R : Type 0} (K : SeekerOf R) (to : SeekFrom) (old : R) (resu
       → SeeksBits K to old result new
 
 -- A question for a place that is counted from the reader's current place. The reader had failed; or the place
--- is returned; or the stream refused a request for its position; or no place is meant.
+-- is returned; or a request for the stream's position failed; or no place is meant.
 pub data AsksPlace {R : Type 0} (K : SeekerOf R) (to : SeekFrom) (old : R) (result : Result ℕ Error) (new : R) :
     Type 0 where
   had_failed : HadFailed K to old result new → AsksPlace K to old result new

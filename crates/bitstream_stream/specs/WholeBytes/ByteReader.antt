@@ -20,7 +20,7 @@ byte_reader_state port = record {
   references = port.references;
 }
 
--- the meaning of the states of a reader of bytes
+-- a reader of bytes as a source
 abbrev pub byte_reader_source : {R E : Type 0} → InputStream R → Order → ByteSource (ByteReader R E)
 byte_reader_source I o = record {
   order = o;
@@ -32,8 +32,8 @@ byte_reader_source I o = record {
 abbrev pub byte_reader_port : {R E : Type 0} → InputStream R → ByteReader R E → PortState
 byte_reader_port I r = source_state I r.port
 
--- A seek by one request, after which the count of fetched bytes starts again. If the stream refused it, the
--- `io::Error` has the kind of that refusal, and the count of fetched bytes is unchanged.
+-- A seek by one request, after which the count of fetched bytes starts again. If the request failed, the
+-- `io::Error` has the kind of that failed request, and the count of fetched bytes is unchanged.
 abbrev pub ByteSeeks : (Refusal → Type 0) → PortState → Result ℕ IoError → PortState → Type 0
 ByteSeeks may old (Ok at) new = Sought old new
 ByteSeeks may old (Err e) new = (error : Error) × SendRefused may error old 0 new × (error_kind e ≡ kind_of error)

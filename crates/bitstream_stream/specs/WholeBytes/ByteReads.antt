@@ -15,16 +15,16 @@ pub record ByteReaderState : Type 0 where
   -- the bytes left in the stream, if they are known, and the number of bytes taken so far
   pub bytes : Option (List ℕ)
   pub taken : ℕ
-  -- the requests of the stream that were refused, the last one first
+  -- the failed requests to the stream, the last one first
   pub refusals : List Refusal
   -- the references through which the stream is reached
   pub references : List Reference
 
--- the meaning of the states of a reader of bytes
+-- a reader of bytes as a source
 pub record ByteSource (R : Type 0) : Type 1 where
   pub order : Order
   pub state : R → ByteReaderState
-  -- the refusals that its stream may make
+  -- the failed requests that its stream allows
   pub may : Refusal → Type 0
 
 -- a call that reads bytes: its result on the bytes left, and whether it may allocate once it has taken just
@@ -45,7 +45,7 @@ byte_prefix n g bytes = if nat_le n (length bytes) then Done n (g (take n bytes)
 unfoldable pub given_bytes : ℕ → ByteDecoder (List ℕ)
 given_bytes n = byte_call (byte_prefix n (λ bytes. Ok bytes))
 
--- n bytes into a vector, which grows as they come
+-- n bytes into a vector, which grows as they arrive
 abbrev pub vec_bytes : ℕ → ByteDecoder (List ℕ)
 vec_bytes n = record (given_bytes n) { allocates = λ bytes. nat_lt (length bytes) n }
 
@@ -53,7 +53,7 @@ vec_bytes n = record (given_bytes n) { allocates = λ bytes. nat_lt (length byte
 unfoldable pub skipped_bytes : ℕ → ByteDecoder (Unit {0})
 skipped_bytes n = byte_call (byte_prefix n (λ _. Ok tt))
 
--- these bytes were taken, and no request was refused
+-- these bytes were taken, and no request failed
 pub record BytesTaken (old : ByteReaderState) (bytes : List ℕ) (new : ByteReaderState) : Type 0 where
   pub loses : Consumes old.bytes new.bytes bytes
   pub taken : new.taken ≡ old.taken + length bytes
@@ -69,8 +69,8 @@ pub record ByteReadDone {A : Type 0} (decoder : ByteDecoder A) (old : ByteReader
   pub needs : (prefix : List ℕ) (b : ℕ) (back : List ℕ) → bytes ≡ prefix ++ b ∷ back → decoder.reads prefix ≡ Incomplete
   pub took : BytesTaken old bytes new
 
--- A request was refused, as the stream may refuse. The bytes taken before were too few for the call; at a true
--- end so were all bytes left. The stream lost these bytes, and is as the refusal left it.
+-- A request failed, as the stream allows. The bytes taken before were too few for the call. At the end of input so
+-- were all bytes left. The stream lost the bytes taken, and is as the failed request left it.
 pub record ByteReadRefused {A : Type 0} (may : Refusal → Type 0) (decoder : ByteDecoder A)
     (old : ByteReaderState) (result : Result A Error) (new : ByteReaderState) : Type 0 where
   pub refusal : Refusal
@@ -85,8 +85,8 @@ pub record ByteReadRefused {A : Type 0} (may : Refusal → Type 0) (decoder : By
   pub refusals : new.refusals ≡ refusal ∷ old.refusals
   pub references : new.references ≡ old.references
 
--- Memory that the call asked for itself was refused. The bytes that were taken until then were too few for the
--- call, so a call for no bytes is never refused memory.
+-- An allocation of the call itself failed. The bytes that were taken until then were too few for the call, so a
+-- call for no bytes never reports a failed allocation.
 pub record ByteMemoryRefused {A : Type 0} (decoder : ByteDecoder A) (old : ByteReaderState)
     (result : Result A Error) (new : ByteReaderState) : Type 0 where
   pub answer : result ≡ Err OutOfMemory
@@ -107,7 +107,7 @@ pub data ByteReadOutcome {R A : Type 0} (K : ByteSource R) (grows : Bool) (decod
 abbrev pub ByteReads : {R A : Type 0} → ByteSource R → ByteDecoder A → R → Result A Error → R → Type 0
 ByteReads K decoder old result new = ByteReadOutcome K false decoder old result new
 
--- one read of bytes that asks for memory of its own
+-- one read of bytes that allocates memory itself
 abbrev pub ByteReadsGrowing : {R A : Type 0} → ByteSource R → ByteDecoder A → R → Result A Error → R → Type 0
 ByteReadsGrowing K decoder old result new = ByteReadOutcome K true decoder old result new
 

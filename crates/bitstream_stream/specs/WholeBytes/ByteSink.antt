@@ -21,9 +21,9 @@ pub record ByteSink (S : Type 0) : Type 1 where
   pub len : S → ℕ
   -- the greatest number of bytes, for a counter
   pub limit : Option ℕ
-  -- the requests that were refused, the last one first
+  -- the failed requests, the last one first
   pub refusals : S → List Refusal
-  -- the refusals that its stream may make
+  -- the failed requests that its stream allows
   pub may : Refusal → Type 0
   -- the references through which the sink and its stream are reached
   pub references : S → List Reference
@@ -33,14 +33,14 @@ pub record ByteSink (S : Type 0) : Type 1 where
   pub within : (s : S) → IsWithin limit (len s)
   pub appends_len : (s t : S) (x : List ℕ) → appends s x t → len t ≡ len s + length x
 
--- bytes were appended, and no request was refused
+-- bytes were appended, and no request failed
 pub record BytesAppended {S : Type 0} (K : ByteSink S) (old : S) (bytes : List ℕ) (new : S) : Type 0 where
   pub grown : K.appends old bytes new
   pub refusals : K.refusals new ≡ K.refusals old
   pub references : K.references new ≡ K.references old
 
--- A request was refused, as the stream may refuse. A proper beginning of the bytes was sent before, and the
--- request had at most the number of bytes left. The refusal left the stream as it is.
+-- A request failed, as the stream allows. A proper beginning of the bytes was sent before, and the request had at
+-- most the number of bytes left. The failed request left the stream as it is.
 pub record ByteWriteRefused {S : Type 0} (K : ByteSink S) (old : S) (bytes : List ℕ) (error : Error) (new : S) :
     Type 0 where
   pub refusal : Refusal

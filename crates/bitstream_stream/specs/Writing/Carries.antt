@@ -4,14 +4,14 @@ use Rattle.std.specs.Io.KnownBytes.{Appends}
 use Rattle.bitstream_number.specs.Word.{Order, word, bits}
 use Rattle.bitstream_order.specs.Port.{PortState}
 
--- a port, and the bits queued for it: the word of `queue`, `queued` bits long
+-- a port, and the bits queued for it: the encoding of `queue` in `queued` bits
 pub record WriterState : Type 0 where
   pub port : PortState
   pub queued : ℕ
   pub queue : ℕ
   pub failed : Bool
 
--- the same writer after a refusal: it has failed, and its queue is empty
+-- the same writer after a failed request: it has failed, and its queue is empty
 abbrev pub failed_writer : WriterState → WriterState
 failed_writer s = record s { queued = 0; queue = 0; failed = true }
 

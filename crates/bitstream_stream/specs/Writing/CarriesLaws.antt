@@ -1,4 +1,4 @@
--- That writes which follow one another send and queue the bits of both.
+-- The laws by which two consecutive writes send and queue the bits of both.
 -- These are lemmas: a sink is a record with its laws in it, and specs take nothing from the proofs of their crate.
 use Rattle.std.specs.Prelude.{◌≡◌, ℕ, ◌+◌, ◌*◌, Bool, Option, List, [], ◌++◌, length}
 use Rattle.std.proofs.Common.{sym, ap, ◌∙◌, add_assoc, add-zero, append-nil, append_assoc, length-append}
@@ -18,7 +18,7 @@ module _ (o : Order) where
         append-nil (word o a.queued a.queue);
   }
 
-  -- the bits of two words, from the bytes of the first and the bytes of both
+  -- the bits of two encodings, from the bytes of the first and the bytes of both
   words-trans : (u x v y w : List Bool) (g h : List ℕ) → u ++ x ≡ bits o g ++ v → v ++ y ≡ bits o h ++ w → u ++ (x ++ y)
       ≡ bits o (g ++ h) ++ w
   words-trans u x v y w g h p q =

@@ -14,7 +14,7 @@ abbrev pub IsWithin : Option ℕ → ℕ → Type 0
 IsWithin None n = ⊤
 IsWithin (Some most) n = n ≤ most
 
--- a length past the limit
+-- a length above the limit
 abbrev pub IsPastLimit : Option ℕ → ℕ → Type 0
 IsPastLimit None n = ⊥
 IsPastLimit (Some most) n = most < n
@@ -38,9 +38,9 @@ pub record Sink (S : Type 0) : Type 1 where
   -- the greatest number of bits, for a counter
   pub limit : Option ℕ
   pub failed : S → Bool
-  -- the requests that were refused, the last one first
+  -- the failed requests, the last one first
   pub refusals : S → List Refusal
-  -- the refusals that its stream may make
+  -- the failed requests that its stream allows
   pub may : Refusal → Type 0
   -- the references through which the sink and its stream are reached
   pub references : S → List Reference
@@ -52,23 +52,23 @@ pub record Sink (S : Type 0) : Type 1 where
   pub appends_len : (s t : S) (x : List Bool) → appends s x t → len t ≡ len s + length x
   pub limit_full : IsFullLimit limit
 
--- bits were appended, and no request was refused
+-- bits were appended, and no request failed
 pub record Appended {S : Type 0} (K : Sink S) (old : S) (x : List Bool) (new : S) : Type 0 where
   pub grown : K.appends old x new
   pub sound : K.failed new ≡ false
   pub refusals : K.refusals new ≡ K.refusals old
   pub references : K.references new ≡ K.references old
 
--- nothing was appended, and no request was refused
+-- nothing was appended, and no request failed
 pub record Kept {S : Type 0} (K : Sink S) (old new : S) : Type 0 where
   pub grown : K.appends old [] new
   pub failed : K.failed new ≡ K.failed old
   pub refusals : K.refusals new ≡ K.refusals old
   pub references : K.references new ≡ K.references old
 
--- A request was refused, as the stream may refuse, and the sink has failed. The word x would have filled a
--- byte. Only bytes that a beginning of it filled were sent before, and those asked for are others that it fills. The
--- queue is empty, and the stream is as the refusal left it.
+-- A request failed, as the stream allows, and the sink has failed. The encoding x would have filled a byte. Only
+-- bytes that a beginning of x filled were sent before, and the bytes of the request are others that x fills. The
+-- queue is empty, and the stream is as the failed request left it.
 pub record WriteRefused {S : Type 0} (K : Sink S) (old : S) (x : List Bool) (error : Error) (new : S) : Type 0 where
   pub refusal : Refusal
   pub allowed : K.may refusal

@@ -16,7 +16,7 @@ plain x _ = Ok x
 abbrev pub bit : Bool → Encoder
 bit b = plain (b ∷ [])
 
--- the word of n bits of v, a number of a type of `size` bits; of no bits, any number has the empty word
+-- the encoding of v, a number of a type of `size` bits, in n bits; at 0 bits it is empty for any number
 unfoldable pub unsigned : Order → ℕ → ℕ → ℕ → Encoder
 unsigned o size n v _ =
     if nat_lt size n then Err (Checked ExcessiveBits)

@@ -38,7 +38,7 @@ queue_number writer = writer.queue
 abbrev pub has_failed : {W E : Type 0} → BitWriter W E → Bool
 has_failed writer = writer.failed
 
--- a call for a word of n bits made at most one request, and none if it filled no byte
+-- a call for an encoding of n bits made at most one request, and none if it filled no byte
 abbrev pub AsksForWord : {W E : Type 0} → ℕ → BitWriter W E → BitWriter W E → Type 0
 AsksForWord n old new = (requests_made new ≤ requests_made old + 1)
     × (queued_bits old + n < 8 → requests_made new ≡ requests_made old)
@@ -84,7 +84,7 @@ pub record AddsBits (o : Order) (old : Option (List ℕ)) (x : List Bool) (new :
   pub grows : Appends old new bytes
   pub bits : bits o bytes ≡ x
 
--- the bits x were written by a writer that has not failed; or a request was refused, and the writer has failed
+-- the bits x were written by a writer that has not failed; or a request failed, and so has the writer
 abbrev pub Pushes : (Refusal → Type 0) → Order → List Bool → WriterState → Result (Unit {0}) Error → WriterState
     → Type 0
 Pushes may o x old (Ok done) new = Appended (queue_sink may o) old x new

@@ -14,8 +14,8 @@ use std::alloc::Allocator;
 ///
 /// # Errors
 ///
-/// If the stream refuses a request, a call returns `EndOfInput`, `OutOfMemory` or `Stream` with the
-/// kind of the refusal. Errors are not sticky: the next call asks the stream again. The calls below
+/// If a request to the stream fails, a call returns `EndOfInput`, `OutOfMemory`, or `Stream` with the
+/// kind of the failure. Errors are not sticky: the next call asks the stream again. The calls below
 /// list only their additional errors.
 ///
 /// # Examples

@@ -111,14 +111,15 @@ impl<R: SeekSource, E: Endianness> Seek for ByteReader<R, E> {
     ghost stream_bytes = { λ r. R.bytes (port_stream r.port) };
 
     fn seek(&mut self, to: SeekFrom) -> io::Result<u64>
-        // If the stream's position is known, the new position is the result, or the old one if the
-        // seek is refused. If its bytes are known too, the result is the position that `to` means.
+        // If the stream's position is known, the new position is the result, or is the old position
+        // if the seek fails. If its bytes are known too, the result is the position that `to`
+        // means.
         ensures moves { SeekMoves (R.position (byte_reader_stream self.old))
             (R.position (byte_reader_stream self.new)) (R.bytes (byte_reader_stream self.old)) to result }
-        // All bytes of the stream stay the same, if they are known.
+        // If the stream's bytes are known, they are unchanged.
         ensures bytes { Keeps (R.bytes (byte_reader_stream self.old)) (R.bytes (byte_reader_stream self.new)) }
-        // One request is made. The count of fetched bytes restarts at 0, or the error has the
-        // refusal's kind.
+        // One request is made. The count of fetched bytes restarts at 0, or the error has the kind
+        // of the failed request.
         ensures seeks { ByteSeeks (MayRefuseSeek R.stream R.refuses_seek to)
             (byte_reader_port R.stream self.old) result (byte_reader_port R.stream self.new) }
     {

@@ -11,8 +11,8 @@ use bitstream_order::order::Endianness;
 ///
 /// # Errors
 ///
-/// If the stream refuses a request, a call returns `OutOfMemory` or `Stream` with the kind of the
-/// refusal. Errors are not sticky: the next call asks the stream again. A sink with a limit returns
+/// If a request to the stream fails, a call returns `OutOfMemory`, or `Stream` with the kind of the
+/// failure. Errors are not sticky: the next call asks the stream again. A sink with a limit returns
 /// `CounterOverflow` if the bytes would exceed the limit, and is unchanged.
 ///
 /// # Examples

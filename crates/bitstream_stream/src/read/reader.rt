@@ -32,7 +32,7 @@ mod seek;
 /// Over a [`Slice`](bitstream_order::streams::slice::Slice) the result of a call depends only on
 /// the bytes. If all bits of the call are left, it never returns `EndOfInput`, `Stream` or
 /// `OutOfMemory`. If not, it returns `EndOfInput`. (std's contract does not state how a `Read`
-/// refuses.)
+/// fails.)
 ///
 /// # Examples
 ///
@@ -69,7 +69,8 @@ impl<R: Source, E: Endianness> BitReader<R, E> {
 
     /// Returns a reader of a stream's bytes. No request is made yet.
     pub fn new(reader: R) -> BitReader<R, E>
-        // Nothing is taken or queued yet, and the bytes left are the stream's, if they are known.
+        // Nothing is taken or queued yet. The bytes left are the bytes left in the stream, if
+        // known.
         ensures state { ⟦<Self as BitRead>⟧.source.state result
             ≡ new_reader_state (R.stream.remaining reader) (R.stream.references reader) }
         ensures requests { requests_made result ≡ 0 }
@@ -90,7 +91,8 @@ impl<R: Source, E: Endianness> BitReader<R, E> {
     pub fn endian(reader: R, _endian: E) -> BitReader<R, E>
     where
         E: Drop,
-        // Nothing is taken or queued yet, and the bytes left are the stream's, if they are known.
+        // Nothing is taken or queued yet. The bytes left are the bytes left in the stream, if
+        // known.
         ensures state { ⟦<Self as BitRead>⟧.source.state result
             ≡ new_reader_state (R.stream.remaining reader) (R.stream.references reader) }
         ensures requests { requests_made result ≡ 0 }
@@ -99,7 +101,7 @@ impl<R: Source, E: Endianness> BitReader<R, E> {
         BitReader::new(reader)
     }
 
-    /// Reads a word that needs more bits than are queued. Here and below, `constant` is true if
+    /// Reads a number that needs more bits than are queued. Here and below, `constant` is true if
     /// `bits` is known at compile time.
     #[inline(always)]
     fn fetch_word<U: UnsignedInteger>(&mut self, bits: u32, constant: bool) -> Result<U, Error>
@@ -113,7 +115,7 @@ impl<R: Source, E: Endianness> BitReader<R, E> {
     {
         let queued = self.queued;
         let queue = U::from_u8(E::first(self.queue, queued));
-        // Set the failed state first: if the request below is refused, `?` returns, and the reader must
+        // Set the failed state first: if the request below fails, `?` returns, and the reader must
         // have failed already. Success undoes it.
         self.queue = 0;
         self.queued = 0;
@@ -130,7 +132,7 @@ impl<R: Source, E: Endianness> BitReader<R, E> {
         Ok(value)
     }
 
-    /// Reads a word of at most the width of the type. It makes one request, or none if the queue
+    /// Reads a number of at most the width of the type. It makes one request, or none if the queue
     /// has enough bits.
     #[inline(always)]
     fn take_word<U: UnsignedInteger>(&mut self, bits: u32, constant: bool) -> Result<U, Error>
@@ -153,7 +155,7 @@ impl<R: Source, E: Endianness> BitReader<R, E> {
         Ok(U::from_u8(first))
     }
 
-    /// Reads a word, if the reader has not failed and the type has at least `bits` bits.
+    /// Reads a number, if the reader has not failed and the type has at least `bits` bits.
     #[inline(always)]
     fn read_word<U: UnsignedInteger>(&mut self, bits: u32, constant: bool) -> Result<U, Error>
         // Takes only `bits` bits and returns their number, or returns an error.
@@ -257,13 +259,13 @@ impl<R: Source, E: Endianness> BitReader<R, E> {
         ensures reads { Reads ⟦<Self as BitRead>⟧.source (bytes_decoder E.order (length buf.old))
             self.old (result_map (λ _. buf.new) result) self.new }
         // If it succeeds, it made one request if no bit was queued, and otherwise one for each
-        // piece of at most `most` bytes. For no bytes it made none.
+        // piece of at most `most` bytes. For an empty buffer it made none.
         ensures asks { AsksForBytes most (length buf.old) self.old result self.new }
     {
         let mut at = 0;
         while at < buf.len() {
             let end = at + most.min(buf.len() - at);
-            // A piece that is refused ends the call.
+            // The call ends at the first piece that fails.
             self.fetch_bytes(&mut buf[at..end])?;
             at = end;
         }
@@ -279,7 +281,7 @@ impl<R: Source, E: Endianness> BitReader<R, E> {
         ensures reads { Reads ⟦<Self as BitRead>⟧.source (bytes_decoder E.order (length buf.old))
             self.old (result_map (λ _. buf.new) result) self.new }
         // If it succeeds, it made one request if no bit was queued, and otherwise one for each
-        // piece of at most `most` bytes. For no bytes it made none.
+        // piece of at most `most` bytes. For an empty buffer it made none.
         ensures asks { AsksForBytes most (length buf.old) self.old result self.new }
     {
         if self.failed {
@@ -289,7 +291,7 @@ impl<R: Source, E: Endianness> BitReader<R, E> {
         if self.queued > 0 {
             return self.fetch_pieces(buf, most);
         }
-        // For no bytes no request is needed.
+        // An empty buffer needs no request.
         if buf.is_empty() {
             return Ok(());
         }
@@ -434,7 +436,7 @@ impl<R: Source, E: Endianness> BitRead for BitReader<R, E> {
         let stop = S::BITS == 1;
         let queue = self.queue;
         let queued = self.queued;
-        // The reader is now in the state after a refused request or a run that is too long: it has
+        // The reader is now in the state after a failed request or a run that is too long: it has
         // failed, and its queue is empty.
         self.queue = 0;
         self.queued = 0;
@@ -484,7 +486,7 @@ impl<R: Source, E: Endianness> BitRead for BitReader<R, E> {
         ensures reads { Reads ⟦<Self as BitRead>⟧.source (bytes_decoder E.order V.BYTES) self.old
             (result_map (value_bytes E.order V.be_bytes V.le_bytes) result) self.new }
         // If it succeeds, it made one request if no bit was queued, and otherwise one for each
-        // piece of at most 8 bytes. For no bytes it made none.
+        // piece of at most 8 bytes. For an empty buffer it made none.
         ensures asks { AsksForBytes 8 V.BYTES self.old result self.new }
     {
         self.read_as_to::<E, V>()
@@ -496,7 +498,7 @@ impl<R: Source, E: Endianness> BitRead for BitReader<R, E> {
         ensures reads { Reads ⟦<Self as BitRead>⟧.source (bytes_decoder E.order V.BYTES) self.old
             (result_map (value_bytes F.order V.be_bytes V.le_bytes) result) self.new }
         // If it succeeds, it made one request if no bit was queued, and otherwise one for each
-        // piece of at most 8 bytes. For no bytes it made none.
+        // piece of at most 8 bytes. For an empty buffer it made none.
         ensures asks { AsksForBytes 8 V.BYTES self.old result self.new }
     {
         let mut bytes = V::buffer();
@@ -510,14 +512,14 @@ impl<R: Source, E: Endianness> BitRead for BitReader<R, E> {
         ensures reads { Reads ⟦<Self as BitRead>⟧.source (bytes_decoder E.order (length buf.old))
             self.old (result_map (λ _. buf.new) result) self.new }
         // If it succeeds, it made one request if no bit was queued, and otherwise one for each
-        // piece of at most 1024 bytes. For no bytes it made none.
+        // piece of at most 1024 bytes. For an empty buffer it made none.
         ensures asks { AsksForBytes 1024 (length buf.old) self.old result self.new }
     {
         self.fill(buf, PIECE)
     }
 
     fn skip(&mut self, bits: u32) -> Result<(), Error> {
-        // Up to 128 bits are one word.
+        // Up to 128 bits are read as one number.
         if bits <= 128 {
             let _: u128 = self.read_unsigned_var(bits)?;
             return Ok(());

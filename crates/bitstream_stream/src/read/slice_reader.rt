@@ -23,12 +23,12 @@ mod words;
 /// It has no queue: its place is a bit of the bytes. So it reports the number of bits
 /// [read](SliceReader::bits_read) and [left](SliceReader::bits_left) and the
 /// [rest](SliceReader::rest) of the bytes, and it can [seek](SliceReader::seek_bits) to any bit. It
-/// fails only at the end of the bytes, with [`EndOfInput`](bitstream_count::error::Error). A single read
-/// that fails takes no bit. A call made of several reads keeps the completed ones:
-/// groups, array items, bits of a prefix code, or pieces of 4096 bytes of
+/// fails only at the end of the bytes, with [`EndOfInput`](bitstream_count::error::Error). A single
+/// read that fails takes no bit. If a call made of several reads fails, its completed reads stay
+/// taken: groups, array items, bits of a prefix code, or pieces of 4096 bytes of
 /// [read_to_vec](crate::read::BitRead::read_to_vec). [take_bytes](SliceReader::take_bytes) and
-/// [part](SliceReader::part) keep the alignment that they begin with. After such an error the reader
-/// has failed: each later call for a value returns `Failed`, until a seek. The
+/// [part](SliceReader::part) keep the alignment that they begin with. After such an error the
+/// reader has failed: each later call for a value returns `Failed`, until a seek. The
 /// [bits read](SliceReader::bits_read), the [bits left](SliceReader::bits_left) and the rest still
 /// report where it stopped.
 ///

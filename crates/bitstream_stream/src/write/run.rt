@@ -1,4 +1,4 @@
-//! Words of one bit, repeated.
+//! Numbers whose bits are all equal.
 ghost use Rattle.std.specs.Prelude.{◌≡◌, ℕ, ◌^◌, ◌<◌, ◌≤◌, not, replicate};
 ghost use Rattle.bitstream_number.specs.Word.{Order, word};
 
@@ -8,7 +8,7 @@ use bitstream_number::number::{Numeric, UnsignedInteger};
 #[inline(always)]
 pub(crate) fn run_without_stop<U: UnsignedInteger>(stop: bool, n: u32) -> U
     requires { n ≤ U.BITS_SIZE }
-    // The word of the number at n bits has no stop bit, in either order.
+    // The n-bit encoding of the number has no stop bit, in either order.
     ensures word { (o : Order) → word o n (U.value result) ≡ replicate n (not stop) }
     ensures below { U.value result < 2 ^ n }
 {

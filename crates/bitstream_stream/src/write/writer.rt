@@ -83,7 +83,7 @@ impl<W: Target, E: Endianness> BitWriter<W, E> {
         BitWriter::new(stream)
     }
 
-    /// Makes the writer fail, drops its queue, and returns the error of the refused request.
+    /// Makes the writer fail, drops its queue, and returns the error of the failed request.
     fn refuse(&mut self, error: Error) -> Result<(), Error>
         ensures answer { result ≡ Err error }
         // The writer has failed with an empty queue; nothing else has changed.
@@ -102,7 +102,7 @@ impl<W: Target, E: Endianness> BitWriter<W, E> {
     fn push<U: UnsignedInteger>(&mut self, value: U, n: u32) -> Result<(), Error>
         requires sound { self.old.failed ≡ false }
         requires room { n ≤ U.BITS_SIZE }
-        // Writes only the n lowest bits of the value, or a request is refused and the writer fails.
+        // Writes only the n lowest bits of the value, or a request fails, and so does the writer.
         ensures pushes { Pushes (MayRefuseWrite W.stream) E.order (word E.order n (U.value value))
             (writer_state W.stream self.old) result (writer_state W.stream self.new) }
         ensures asks { AsksForWord n self.old self.new }
@@ -131,7 +131,7 @@ impl<W: Target, E: Endianness> BitWriter<W, E> {
         requires sound { self.old.failed ≡ false }
         requires none { self.old.queued ≡ 0 }
         requires some { 1 ≤ length bytes.now }
-        // Writes only these bytes, or a request is refused and the writer fails.
+        // Writes only these bytes, or a request fails, and so does the writer.
         ensures pushes { Pushes (MayRefuseWrite W.stream) E.order (bits E.order bytes.now)
             (writer_state W.stream self.old) result (writer_state W.stream self.new) }
         ensures requests { requests_made self.new ≡ requests_made self.old + 1 }
@@ -147,7 +147,7 @@ impl<W: Target, E: Endianness> BitWriter<W, E> {
         requires sound { self.old.failed ≡ false }
         requires queued { 1 ≤ self.old.queued }
         requires some { 1 ≤ length bytes.old }
-        // Writes only the bytes as they were, or a request is refused and the writer fails.
+        // Writes only the bytes as they were, or a request fails, and so does the writer.
         ensures pushes { Pushes (MayRefuseWrite W.stream) E.order (bits E.order bytes.old)
             (writer_state W.stream self.old) result (writer_state W.stream self.new) }
         ensures queued { OnOk result (queued_bits self.new ≡ queued_bits self.old) }
@@ -171,11 +171,11 @@ impl<W: Target, E: Endianness> BitWriter<W, E> {
         requires queued { 1 ≤ self.old.queued }
         requires some { 1 ≤ N }
         requires few { N ≤ 1024 }
-        // Writes only these bytes, or a request is refused and the writer fails.
+        // Writes only these bytes, or a request fails, and so does the writer.
         ensures pushes { Pushes (MayRefuseWrite W.stream) E.order (bits E.order bytes.now)
             (writer_state W.stream self.old) result (writer_state W.stream self.new) }
         // If it succeeds, it made one request if no bit was queued, and otherwise one for each
-        // piece of at most N bytes. For no bytes it made none.
+        // piece of at most N bytes. For an empty buffer it made none.
         ensures asks { AsksForBytes N (length bytes.now) self.old result self.new }
     {
         // The caller's bytes must not change, so a copy is shifted.
@@ -198,18 +198,18 @@ impl<W: Target, E: Endianness> BitWriter<W, E> {
         requires sound { self.old.failed ≡ false }
         requires some { 1 ≤ N }
         requires few { N ≤ 1024 }
-        // Writes only these bytes, or a request is refused and the writer fails.
+        // Writes only these bytes, or a request fails, and so does the writer.
         ensures pushes { Pushes (MayRefuseWrite W.stream) E.order (bits E.order bytes.now)
             (writer_state W.stream self.old) result (writer_state W.stream self.new) }
         // If it succeeds, it made one request if no bit was queued, and otherwise one for each
-        // piece of at most N bytes. For no bytes it made none.
+        // piece of at most N bytes. For an empty buffer it made none.
         ensures asks { AsksForBytes N (length bytes.now) self.old result self.new }
     {
         // Off a byte boundary, the queued bits have to be put before the bytes.
         if self.queued > 0 {
             return self.send_pieces::<N>(bytes);
         }
-        // For no bytes no request is needed.
+        // An empty buffer needs no request.
         if bytes.is_empty() {
             return Ok(());
         }
@@ -249,7 +249,7 @@ impl<W: Target, E: Endianness> BitWrite for BitWriter<W, E> {
         count: C,
         value: U,
     ) -> Result<(), Error>
-        // Appends only the word of the value at `count` bits, or returns an error.
+        // Appends only the encoding of the value in `count` bits, or returns an error.
         ensures writes { Writes ⟦<Self as BitWrite>⟧.sink
             (unsigned E.order U.BITS_SIZE (C.number count) (U.value value))
             self.old result self.new }
@@ -275,7 +275,7 @@ impl<W: Target, E: Endianness> BitWrite for BitWriter<W, E> {
 
     #[inline(always)]
     fn write_unsigned_var<U: UnsignedInteger>(&mut self, bits: u32, value: U) -> Result<(), Error>
-        // Appends only the word of the value at `bits` bits, or returns an error.
+        // Appends only the encoding of the value in `bits` bits, or returns an error.
         ensures writes { Writes ⟦<Self as BitWrite>⟧.sink
             (unsigned E.order U.BITS_SIZE bits (U.value value))
             self.old result self.new }
@@ -291,7 +291,7 @@ impl<W: Target, E: Endianness> BitWrite for BitWriter<W, E> {
 
     #[inline(always)]
     fn write_unsigned<B: Width, U: UnsignedInteger>(&mut self, value: U) -> Result<(), Error>
-        // Appends only the word of the value at `B::BITS` bits, or returns an error.
+        // Appends only the encoding of the value in `B::BITS` bits, or returns an error.
         ensures writes { Writes ⟦<Self as BitWrite>⟧.sink
             (unsigned E.order U.BITS_SIZE B.BITS (U.value value))
             self.old result self.new }
@@ -330,7 +330,7 @@ impl<W: Target, E: Endianness> BitWrite for BitWriter<W, E> {
     fn write_const<B: Width, V: Width>(&mut self) -> Result<(), Error>
         requires word { B.BITS ≤ 32 }
         requires value { (V.BITS < 2 ^ B.BITS) ⊎ (B.BITS ≡ 0) }
-        // Appends only the word of `V::BITS` at `B::BITS` bits, or returns an error.
+        // Appends only the encoding of `V::BITS` in `B::BITS` bits, or returns an error.
         ensures writes { Writes ⟦<Self as BitWrite>⟧.sink
             (plain (word E.order B.BITS V.BITS)) self.old result self.new }
         ensures asks { AsksForWord B.BITS self.old self.new }
@@ -352,11 +352,11 @@ impl<W: Target, E: Endianness> BitWrite for BitWriter<W, E> {
             return Err(Error::Failed);
         }
         let stop = S::BITS == 1;
-        // Long runs are written in words of 64 bits that differ from the stop bit.
+        // A long run is written as 64-bit numbers whose bits all differ from the stop bit.
         for _done in 0..value / 64 {
             self.push(run_without_stop::<u64>(stop, 64), 64)?;
         }
-        // The last bits before the stop bit, fewer than 64, and the stop bit are one word.
+        // The last bits before the stop bit, fewer than 64, are one number with the stop bit.
         let last = value % 64;
         self.push(
             E::put::<u64>(run_without_stop(stop, last), last, u64::from(stop), 1),
@@ -393,7 +393,7 @@ impl<W: Target, E: Endianness> BitWrite for BitWriter<W, E> {
             (buffer E.order (value_bytes E.order V.be_bytes V.le_bytes value))
             self.old result self.new }
         // If it succeeds, it made one request if no bit was queued, and otherwise one for each
-        // piece of at most 8 bytes. For no bytes it made none.
+        // piece of at most 8 bytes. For an empty buffer it made none.
         ensures asks { AsksForBytes 8 V.BYTES self.old result self.new }
     {
         self.write_as_from::<E, V>(value)
@@ -406,7 +406,7 @@ impl<W: Target, E: Endianness> BitWrite for BitWriter<W, E> {
             (buffer E.order (value_bytes F.order V.be_bytes V.le_bytes value))
             self.old result self.new }
         // If it succeeds, it made one request if no bit was queued, and otherwise one for each
-        // piece of at most 8 bytes. For no bytes it made none.
+        // piece of at most 8 bytes. For an empty buffer it made none.
         ensures asks { AsksForBytes 8 V.BYTES self.old result self.new }
     {
         let bytes = F::value_to_bytes(value);
@@ -422,7 +422,7 @@ impl<W: Target, E: Endianness> BitWrite for BitWriter<W, E> {
         ensures writes { Writes ⟦<Self as BitWrite>⟧.sink (buffer E.order bytes.now)
             self.old result self.new }
         // If it succeeds, it made one request if no bit was queued, and otherwise one for each
-        // piece of at most 1024 bytes. For no bytes it made none.
+        // piece of at most 1024 bytes. For an empty buffer it made none.
         ensures asks { AsksForBytes 1024 (length bytes.now) self.old result self.new }
     {
         if self.failed {
@@ -435,7 +435,7 @@ impl<W: Target, E: Endianness> BitWrite for BitWriter<W, E> {
         if self.failed {
             return Err(Error::Failed);
         }
-        // Up to 128 zeros are one word.
+        // Up to 128 zeros are written as one number.
         if bits <= 128 {
             return self.push(0u128, bits);
         }
@@ -459,7 +459,7 @@ impl<W: Target, E: Endianness> BitWrite for BitWriter<W, E> {
         if self.failed {
             return Err(Error::Failed);
         }
-        // The groups that fit in U are gathered into one word.
+        // The groups that fit in U are gathered into one number.
         let most = most_gathered::<F, U>();
         let mut word = U::ZERO;
         let mut bits = 0;
@@ -475,7 +475,7 @@ impl<W: Target, E: Endianness> BitWrite for BitWriter<W, E> {
                 bits = 0;
             }
         }
-        // The last group joins those that are gathered, if there are any.
+        // The last group is added to the gathered groups, if there are any.
         if bits == 0 {
             self.push(rest, F::BITS)
         } else {

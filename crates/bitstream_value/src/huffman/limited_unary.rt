@@ -1,4 +1,4 @@
-//! Unary numbers of at most a given number of bits.
+//! Unary numbers with a greatest number of bits.
 ghost use Rattle.std.specs.Prelude.{◌<◌, ◌==◌, replicate};
 ghost use Rattle.bitstream_stream.specs.Writing.Sink.{WritesAll};
 ghost use Rattle.bitstream_value.specs.LimitedUnary.{limited_unary, limited_tree};
@@ -7,10 +7,11 @@ ghost use Rattle.bitstream_value.specs.Tree.{path_decoder, bit_by_bit};
 use crate::huffman::{FromBits, NextBit, PutBit, ToBits};
 use bitstream_count::error::Error;
 
-/// Unary numbers below MAXIMUM: the word of n is n bits that are not STOP_BIT, which is 0 or 1, and
-/// then STOP_BIT. The word of `None` is MAXIMUM bits that are not STOP_BIT, without a stop bit.
+/// The prefix code of unary numbers below MAXIMUM. STOP_BIT is 0 or 1. The code word of n is n bits that
+/// are not STOP_BIT, and then STOP_BIT. The code word of `None` is MAXIMUM bits that are not STOP_BIT,
+/// without a stop bit.
 ///
-/// A number of MAXIMUM or more has no word: writing it writes nothing, and succeeds.
+/// A number of MAXIMUM or more has no code word: writing it writes nothing, and succeeds.
 ///
 /// # Examples
 ///

@@ -10,18 +10,18 @@ use crate::huffman::tree::join::joined;
 pub use crate::huffman::tree::words::SymbolWords;
 use std::alloc::{AllocError, Allocator};
 
-/// One node of a tree: a leaf with its symbol, or a branch with the places of its two sides.
+/// One node of a tree: a leaf with its symbol, or a branch with the indices of its two sides.
 #[derive(Copy, Clone, Drop)]
 enum Node<S> {
     Leaf(S),
     Branch { zero: usize, one: usize },
 }
 
-/// A prefix code that is a tree of symbols. The word of a symbol is the path from the root to its
+/// A prefix code that is a tree of symbols. The code word of a symbol is the path from the root to its
 /// leaf: the bit 0 leads to the first side of a branch, and the bit 1 to the second.
 ///
-/// If several leaves have the same symbol, a write takes the path of the first one, from the side
-/// of 0. If no leaf has the symbol, nothing is written. Reading, writing and dropping a deep tree
+/// If several leaves have the same symbol, a write takes the path to the first one, counted from the
+/// side of 0. If no leaf has the symbol, nothing is written. Reading, writing and dropping a deep tree
 /// use no more stack than a flat one.
 ///
 /// # Examples
@@ -40,8 +40,8 @@ enum Node<S> {
 /// ```
 #[derive(Drop)]
 pub struct HuffmanTree<S, A: Allocator> {
-    // Each side of a branch is a part of the nodes before it, which ends with that side's root. The
-    // longer side comes first.
+    // The nodes of both sides of a branch are before the branch. The nodes of each side are next to each
+    // other, and end with the side's root. The longer side comes first.
     nodes: Vec<Node<S>, A>,
     ghost has_tree: { is_some (nodes_tree nodes.items) ≡ true },
 }
@@ -51,7 +51,7 @@ impl<S: Copy + Eq, A: Allocator> HuffmanTree<S, A> {
     ghost use Rattle.bitstream_value.specs.HuffmanTree.{tree_of};
     ghost use Rattle.bitstream_value.specs.Tree.{leaf as one_leaf, node as two_sides};
 
-    /// Makes a tree of one leaf. Its symbol has a word of no bits.
+    /// Makes a tree of one leaf. Its symbol has a code word of no bits.
     ///
     /// # Errors
     ///
@@ -64,8 +64,8 @@ impl<S: Copy + Eq, A: Allocator> HuffmanTree<S, A> {
         Ok(HuffmanTree { nodes })
     }
 
-    /// Joins two trees: the words of `zero` follow the bit 0, and the words of `one` follow the bit
-    /// 1.
+    /// Joins two trees: the code words of `zero` follow the bit 0, and the code words of `one` follow
+    /// the bit 1.
     ///
     /// # Errors
     ///
@@ -89,7 +89,7 @@ impl<S: Copy> Node<S> {
     ghost use Rattle.std.specs.Prelude.{◌≡◌};
     ghost use Rattle.bitstream_value.specs.Nodes.{FitsShifted, shift_node};
 
-    /// Returns the node with its places moved by `by`.
+    /// Returns the node with `by` added to its indices.
     fn moved(self, by: usize) -> Node<S>
         requires { FitsShifted by self }
         ensures { result ≡ shift_node by self }

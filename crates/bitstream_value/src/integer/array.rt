@@ -1,5 +1,7 @@
 //! Arrays, as their items in order.
 ghost use Rattle.std.specs.List.{All, flat_map};
+ghost use Rattle.std.specs.Prelude.{IfOk};
+ghost use Rattle.bitstream_stream.specs.Reading.Reads.{Reads};
 ghost use Rattle.bitstream_value.specs.Array.{items_decoder};
 
 use crate::integer::{Integer, VBRInteger};
@@ -8,6 +10,15 @@ use bitstream_count::error::Error;
 use bitstream_number::number::Width;
 use bitstream_stream::read::BitRead;
 use bitstream_stream::write::BitWrite;
+
+/// Reads an item of the array.
+fn read_item<B: Width, I: Integer, R: BitRead>(reader: &mut R) -> Result<I, Error>
+    requires { I.IsWidth B.BITS }
+    ensures reads { Reads R.source (I.reads R.source.order B.BITS) reader.old result reader.new }
+    ensures fits { IfOk result (λ item. I.Fits B.BITS item) }
+{
+    I::read::<B, R>(reader)
+}
 
 impl<I: Integer + Copy + Default, const SIZE: usize> Integer for [I; SIZE] {
     ghost reads = { λ o n. items_decoder (I.reads o n) SIZE };
@@ -21,7 +32,7 @@ impl<I: Integer + Copy + Default, const SIZE: usize> Integer for [I; SIZE] {
     fn read<B: Width, R: BitRead>(reader: &mut R) -> Result<[I; SIZE], Error> {
         let mut items = [I::default(); SIZE];
         for i in 0..SIZE {
-            items[i] = I::read::<B, R>(reader)?;
+            items[i] = read_item::<B, I, R>(reader)?;
         }
         Ok(items)
     }

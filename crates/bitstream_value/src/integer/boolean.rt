@@ -19,6 +19,7 @@ impl Integer for bool {
 
     ghost Fits = { λ _ _. ⊤ };
 
+    #[inline(always)]
     fn read<B: Width, R: BitRead>(reader: &mut R) -> Result<bool, Error> {
         reader.read_bit()
     }

@@ -22,18 +22,18 @@ pub trait NonZeroInteger: Copy {
     /// The unsigned type.
     type Base: UnsignedInteger;
 
-    // The number of a value, and the value of a number plus 1.
+    // The number of a value, and the value of a number `n + 1`.
     ghost number: { Self → ℕ };
 
     ghost after: { ℕ → Self };
 
-    /// Returns the value of a number, or `None` for 0.
+    /// Returns the `NonZero` with this number, or `None` for 0.
     #[inline(always)]
     fn of(base: Self::Base) -> Option<Self>
         ensures { MatchOption result (Self.Base.value base ≡ 0)
             (λ x. number x ≡ Self.Base.value base) };
 
-    /// Returns the value of this number plus 1.
+    /// Returns the `NonZero` whose number is `base + 1`.
     #[inline(always)]
     fn next(base: Self::Base) -> Self
         requires { Self.Base.value base + 1 < 2 ^ Self.Base.BITS_SIZE }

@@ -17,7 +17,7 @@ use bitstream_stream::write::BitWrite;
 /// Reads a signed number of `bits` bits, by one call.
 #[inline(always)]
 fn read_signed<S: SignedInteger, C: Count, R: BitRead>(reader: &mut R, bits: C) -> Result<S, Error>
-    // Takes only `bits` bits and returns their two's complement, or returns an error.
+    // Takes only `bits` bits and returns their number in two's complement, or returns an error.
     ensures reads { Reads R.source (signed_decoder R.source.order S.BITS_SIZE (C.number bits))
         reader.old (result_map S.integer result) reader.new }
     // A number that is returned lies from -2^(n-1) to 2^(n-1) - 1, for n bits.
@@ -30,7 +30,7 @@ fn read_signed<S: SignedInteger, C: Count, R: BitRead>(reader: &mut R, bits: C) 
 fn read_signed_fixed<B: Width, S: SignedInteger, R: BitRead>(reader: &mut R) -> Result<S, Error>
     requires some { 1 ≤ B.BITS }
     requires within { B.BITS ≤ S.BITS_SIZE }
-    // Takes only `B::BITS` bits and returns their two's complement, or returns an error.
+    // Takes only `B::BITS` bits and returns their number in two's complement, or returns an error.
     ensures reads { Reads R.source (signed_decoder R.source.order S.BITS_SIZE B.BITS)
         reader.old (result_map S.integer result) reader.new }
     // A number that is returned lies from -2^(n-1) to 2^(n-1) - 1, for n bits.

@@ -40,7 +40,7 @@ loop-bits-preserved g c =
     counted-more g.F.Width.BITS _ c.requires.some (ap (λ k. k - 1) c.BITS-payload.ensures) _ _ _ _ _ two
     c.shr_default-rest.ensures (λ none. some (sym c.shr_default-rest.ensures ∙ none)) c.loop-bits.invariant
 
--- behind the loop more than one group is left
+-- after the loop more than one group is left
 second_over : (g : Over) (c : After-BITS-bits-then-ne g)
     → g.U.UnsignedInteger.value c.loop-bits.rest / 2 ^ (c.BITS-payload.result - 1) ≢ 0
 second_over g c =

@@ -25,7 +25,8 @@ impl<R: Source, E: Endianness> ByteReader<R, E> {
     /// Lends the stream. The reader does not count bytes taken from it meanwhile.
     pub fn reader(&mut self) -> &mut R
         ensures stream { result.now ≡ byte_reader_stream self.old }
-        // When the borrow ends, only the stream may have changed: it is as the borrower left it.
+        // When the borrow ends, this reader is unchanged, except for what the borrower did to the
+        // stream.
         ensures* writes_back { sem 𝓛 (Lends (the_row R.row E.row) R.row self.entry result
             (byte_reader_with self.old)) }
     {
@@ -34,7 +35,8 @@ impl<R: Source, E: Endianness> ByteReader<R, E> {
 
     /// Returns a new reader of bits over the stream, in the same order.
     pub fn into_bitreader(self) -> BitReader<R, E>
-        // Nothing is taken or queued yet, and the bytes left are the stream's, if they are known.
+        // Nothing is taken or queued yet. The bytes left are the bytes left in the stream, if
+        // known.
         ensures state { ⟦<BitReader<R, E> as BitRead>⟧.source.state result
             ≡ new_reader_state (R.stream.remaining (byte_reader_stream self))
             (R.stream.references (byte_reader_stream self)) }
@@ -51,13 +53,14 @@ impl<R: Source, E: Endianness> ByteReader<R, E> {
     /// If the new reader stops within a byte, the remaining bits of that byte are lost when it is
     /// dropped: read them first, or skip them with [`byte_align`](BitRead::byte_align).
     pub fn bitreader<'a>(&'a mut self) -> BitReader<Lent<'a, R>, E>
-        // Nothing is taken or queued yet, and the bytes left are the stream's, if they are known.
+        // Nothing is taken or queued yet. The bytes left are the bytes left in the stream, if
+        // known.
         ensures state { ⟦<BitReader<Lent<'a, R>, E> as BitRead>⟧.source.state result
             ≡ new_reader_state (R.stream.remaining (byte_reader_stream self.old))
             (by_name (reader_name result) ∷ R.stream.references (byte_reader_stream self.old)) }
         ensures requests { requests_made result ≡ 0 }
-        // When the new reader is dropped, only the stream may have changed: it is as the borrower
-        // left it.
+        // When the new reader is dropped, this reader is unchanged, except for what the new reader
+        // did to the stream.
         ensures* writes_back { sem 𝓛 (follows (the_row R.row E.row) R.row self.entry.ghost_name
             (reader_name result) (byte_reader_with self.old)) }
     {

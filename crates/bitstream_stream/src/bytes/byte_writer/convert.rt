@@ -25,7 +25,8 @@ impl<W: Target, E: Endianness> ByteWriter<W, E> {
     /// Lends the stream. The writer does not count bytes added to it meanwhile.
     pub fn writer(&mut self) -> &mut W
         ensures stream { result.now ≡ byte_writer_stream self.old }
-        // When the borrow ends, only the stream may have changed: it is as the borrower left it.
+        // When the borrow ends, this writer is unchanged, except for what the borrower did to the
+        // stream.
         ensures* writes_back { sem 𝓛 (Lends (the_row W.row E.row) W.row self.entry result
             (byte_writer_with self.old)) }
     {
@@ -48,12 +49,12 @@ impl<W: Target, E: Endianness> ByteWriter<W, E> {
     /// Bits after the last whole byte are lost when the new writer is dropped: call
     /// [`byte_align`](crate::write::BitWrite::byte_align) first.
     pub fn bitwriter<'a>(&'a mut self) -> BitWriter<Lent<'a, W>, E>
-        // Nothing is sent or queued yet, and the bytes held are the stream's, if they are known.
+        // Nothing is sent or queued yet. The contents are the stream's contents, if known.
         ensures state { writer_state ⟦<Lent<'a, W> as Target>⟧.stream result
             ≡ new_writer_state (W.stream.contents (byte_writer_stream self.old))
             (by_name (writer_name result) ∷ W.stream.references (byte_writer_stream self.old)) }
-        // When the new writer is dropped, only the stream may have changed: it is as the borrower
-        // left it.
+        // When the new writer is dropped, this writer is unchanged, except for what the new writer
+        // did to the stream.
         ensures* writes_back { sem 𝓛 (follows (the_row W.row E.row) W.row self.entry.ghost_name
             (writer_name result) (byte_writer_with self.old)) }
     {

@@ -41,7 +41,8 @@ impl<R: Source, E: Endianness> BitReader<R, E> {
         ensures there { IsSome result ↔ (((⟦<Self as BitRead>⟧.source.state self.old).failed ≡ false)
             × ((⟦<Self as BitRead>⟧.source.state self.old).taken % 8 ≡ 0)) }
         ensures stream { IfSome result (λ stream. stream.now ≡ reader_stream self.old) }
-        // When the borrow ends, only the stream may have changed: it is as the borrower left it.
+        // When the borrow ends, this reader is unchanged, except for what the borrower did to the
+        // stream.
         ensures* writes_back { sem 𝓛 (LendsIf (the_row R.row E.row) R.row self.entry result
             (reader_with self.old) self.old) }
     {
@@ -57,7 +58,8 @@ impl<R: Source, E: Endianness> BitReader<R, E> {
     /// from the stream meanwhile.
     pub fn aligned_reader(&mut self) -> &mut R
         ensures stream { result.now ≡ reader_stream self.old }
-        // When the borrow ends, the queued bits are taken, and the stream is as it was left.
+        // When the borrow ends, the queued bits are taken, and the stream has the borrower's
+        // changes.
         ensures* writes_back { sem 𝓛 (Lends (the_row R.row E.row) R.row self.entry result
             (λ stream. reader_with (aligned_reader self.old) stream)) }
     {
@@ -75,13 +77,13 @@ impl<R: Source, E: Endianness> BitReader<R, E> {
         // bytes.
         ensures there { IsSome result ↔ (((⟦<Self as BitRead>⟧.source.state self.old).failed ≡ false)
             × ((⟦<Self as BitRead>⟧.source.state self.old).taken % 8 ≡ 0)) }
-        // The new one has taken nothing, and the bytes left are the stream's, if they are known.
+        // The new one has taken nothing. The bytes left are the bytes left in the stream, if known.
         ensures state { IfSome result (λ reader.
             ⟦<ByteReader<Lent<'a, R>, E> as ByteRead>⟧.source.state reader
             ≡ byte_reader_state (new_port_state (R.stream.remaining (reader_stream self.old))
             (by_name (byte_reader_name reader) ∷ R.stream.references (reader_stream self.old)))) }
-        // When the new reader is dropped, only the stream may have changed: it is as the borrower
-        // left it.
+        // When the new reader is dropped, this reader is unchanged, except for what the new reader
+        // did to the stream.
         ensures* writes_back { sem 𝓛 (follows_if (the_row R.row E.row) R.row self.entry.ghost_name
             (name_if_some byte_reader_name result) (reader_with self.old) self.old) }
     {
@@ -93,7 +95,7 @@ impl<R: Source, E: Endianness> BitReader<R, E> {
         // There is one exactly if a stream was lent, and it reaches the stream through that
         // reference.
         ensures name { name_if_some byte_reader_name result ≡ ghost_name_of stream.entry }
-        // The new one has taken nothing, and the bytes left are the stream's, if they are known.
+        // The new one has taken nothing. The bytes left are the bytes left in the stream, if known.
         ensures state { IfSome stream.entry (λ lent. IfSome result (λ reader.
             ⟦<ByteReader<Lent<'a, R>, E> as ByteRead>⟧.source.state reader
             ≡ byte_reader_state (new_port_state (R.stream.remaining lent.now)

@@ -25,8 +25,8 @@ impl<R: SeekSource, E: Endianness> BitReader<R, E> {
     ///
     /// - `Place` if the place is below 0 or above 2^64 - 1. From `Current` the reader is unchanged;
     ///   from `End` it has failed, and the stream is at its end.
-    /// - `EndOfInput`, `OutOfMemory` or `Stream` if the stream refuses a request. If so, the
-    ///   reader has failed, and the stream is as the refusal left it.
+    /// - `EndOfInput`, `OutOfMemory` or `Stream` if a request to the stream fails. If so, the
+    ///   reader has failed, and the stream is as the failed request left it.
     /// - `Failed` for `Current` if the reader has failed. `Start` and `End` make it read again.
     ///
     /// # Examples
@@ -66,8 +66,8 @@ impl<R: SeekSource, E: Endianness> BitReader<R, E> {
     /// # Errors
     ///
     /// - `Place` if the place is below 0 or above 2^64 - 1. The reader is unchanged.
-    /// - `OutOfMemory` or `Stream` if the stream refuses the request. If so, the reader has
-    ///   failed, and the stream is as the refusal left it.
+    /// - `OutOfMemory` or `Stream` if the request fails. If so, the reader has failed, and the
+    ///   stream is as the failed request left it.
     /// - `Failed` if the reader has failed.
     pub fn position_in_bits(&mut self) -> Result<u64, Error>
         // Asks the stream, changes nothing else and returns the place, or returns an error.

@@ -51,8 +51,8 @@ impl<'a, E: Endianness> SliceReader<'a, E> {
         let queued = 8 - self.bit;
         let queue = E::first(E::rest(bytes[0], self.bit), queued);
         buf.copy_from_slice(&bytes[1..count + 1]);
-        // The bits left over are not taken: as many bits are taken of the last byte as were taken
-        // of the first one.
+        // The bits left over are not taken: the number of bits taken of the last byte equals the
+        // number of bits taken of the first byte.
         let _left = shift::<E>(queue, queued, buf);
         self.go_bytes(count);
         Ok(())

@@ -9,7 +9,7 @@ use bitstream_count::error::Error;
 use bitstream_order::ghosts::GhostRefusals;
 use bitstream_order::order::Endianness;
 
-/// Records a refusal at the end of some bytes. It does nothing at run time.
+/// Records a failed request at the end of some bytes. It does nothing at run time.
 fn note_end(refusals: &mut GhostRefusals, _left: &[u8])
     ghost by: { Refusal }
     requires { by ≡ end_of _left.now }
@@ -34,7 +34,8 @@ impl<'a, E: Endianness> SliceReader<'a, E> {
     #[inline(never)]
     pub(super) fn refuse(&mut self) -> Error
         ensures error { result ≡ EndOfInput }
-        // The reader has failed at its place, and the refusal at the end of its bytes is recorded.
+        // The reader has failed at its place, and a failed request at the end of its bytes is
+        // recorded.
         ensures state { FailsAtEnd self.old self.new }
     {
         self.failed = true;

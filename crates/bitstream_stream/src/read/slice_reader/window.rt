@@ -74,13 +74,13 @@ fn load_exact<E: Endianness>(bytes: &[u8], need: u32) -> u64
     }
 }
 
-/// Returns a number whose word begins with the first `total` bits of some bytes, or `None` if there
-/// are fewer bits.
+/// Returns a number whose encoding begins with the first `total` bits of some bytes, or `None` if
+/// there are fewer bits.
 #[inline(always)]
 pub(super) fn load_bits<E: Endianness>(bytes: &[u8], total: u32, constant: bool) -> Option<u64>
     requires { total ≤ 64 }
-    // If a number is returned, its word begins with the first `total` bits, and there are enough
-    // bits.
+    // If a number is returned, its encoding begins with the first `total` bits, and there are
+    // enough bits.
     ensures some { IfSome result (λ w. (total ≤ 8 * length bytes.now)
         × (take total (word E.order 64 w) ≡ take total (bits E.order bytes.now))) }
     // If `None` is returned, there are fewer than `total` bits.

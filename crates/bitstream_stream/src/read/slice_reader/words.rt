@@ -35,7 +35,7 @@ impl<'a, E: Endianness> SliceReader<'a, E> {
         requires enough { self.old.bit + bits ≤ 8 * length self.old.bytes.now }
         ensures { TakesNumber E.order bits (U.value result) self.old self.new }
     {
-        // Two or three words, of at most 56 bits each.
+        // Two or three numbers of at most 56 bits each.
         let first = U::from_u64(self.take_few(56));
         let more = bits - 56;
         if more <= 56 {

@@ -39,7 +39,8 @@ impl<W: Target, E: Endianness> BitWriter<W, E> {
         ensures there { IsSome result ↔ (((⟦<Self as BitWrite>⟧.sink.failed self.old) ≡ false)
             × (⟦<Self as BitWrite>⟧.sink.len self.old % 8 ≡ 0)) }
         ensures stream { IfSome result (λ stream. stream.now ≡ writer_stream self.old) }
-        // When the borrow ends, only the stream may have changed: it is as the borrower left it.
+        // When the borrow ends, this writer is unchanged, except for what the borrower did to the
+        // stream.
         ensures* writes_back { sem 𝓛 (LendsIf (the_row W.row E.row) W.row self.entry result
             (writer_with self.old) self.old) }
     {
@@ -60,8 +61,8 @@ impl<W: Target, E: Endianness> BitWriter<W, E> {
         // If it succeeds, it lends the stream of the writer after an alignment.
         ensures stream { IfOk result
             (λ stream. IsAlignedStream ⟦<Self as BitWrite>⟧.sink self.old stream.now) }
-        // When the borrow ends, the writer is aligned and its stream is as it was left. After an
-        // error the writer is as the alignment left it.
+        // When the borrow ends, the writer is aligned and its stream has the borrower's changes.
+        // After an error the writer is as the alignment left it.
         ensures* writes_back { sem 𝓛 (LendsSoOk (the_row W.row E.row) W.row self.entry result
             (EndsAligned ⟦<Self as BitWrite>⟧.sink self.old)
             (EndsUnaligned ⟦<Self as BitWrite>⟧.sink self.old result)) }
@@ -78,13 +79,13 @@ impl<W: Target, E: Endianness> BitWriter<W, E> {
         // bytes.
         ensures there { IsSome result ↔ (((⟦<Self as BitWrite>⟧.sink.failed self.old) ≡ false)
             × (⟦<Self as BitWrite>⟧.sink.len self.old % 8 ≡ 0)) }
-        // The new one has sent nothing, and the bytes held are the stream's, if they are known.
+        // The new one has sent nothing. The contents are the stream's contents, if known.
         ensures state { IfSome result (λ writer.
             byte_writer_state ⟦<Lent<'a, W> as Target>⟧.stream writer
             ≡ new_port_state (W.stream.contents (writer_stream self.old))
             (by_name (byte_writer_name writer) ∷ W.stream.references (writer_stream self.old))) }
-        // When the new writer is dropped, only the stream may have changed: it is as the borrower
-        // left it.
+        // When the new writer is dropped, this writer is unchanged, except for what the new writer
+        // did to the stream.
         ensures* writes_back { sem 𝓛 (follows_if (the_row W.row E.row) W.row self.entry.ghost_name
             (name_if_some byte_writer_name result) (writer_with self.old) self.old) }
     {
@@ -96,7 +97,7 @@ impl<W: Target, E: Endianness> BitWriter<W, E> {
         // There is one exactly if a stream was lent, and it reaches the stream through that
         // reference.
         ensures name { name_if_some byte_writer_name result ≡ ghost_name_of stream.entry }
-        // The new one has sent nothing, and the bytes held are the stream's, if they are known.
+        // The new one has sent nothing. The contents are the stream's contents, if known.
         ensures state { IfSome stream.entry (λ lent. IfSome result (λ writer.
             byte_writer_state ⟦<Lent<'a, W> as Target>⟧.stream writer
             ≡ new_port_state (W.stream.contents lent.now) (by_name (byte_writer_name writer) ∷ W.stream.references lent.now))) }
@@ -125,14 +126,14 @@ impl<W: Target, E: Endianness> BitWriter<W, E> {
     ///
     /// # Errors
     ///
-    /// The errors of the calls of [`BitWrite`]. If the stream refuses, the writer has failed, and
-    /// its queued bits are lost.
+    /// The errors of the calls of [`BitWrite`]. If the flush of the stream fails, the writer has
+    /// failed, and its queued bits are lost.
     pub fn flush(&mut self) -> Result<(), Error>
-        // One request is made, and no bit is sent or lost. Or it is refused and the writer fails,
-        // or the writer had failed.
+        // One request is made, and no bit is sent or lost. Or the request fails and so does the
+        // writer, or the writer had failed before.
         ensures flushes { Flushes (MayRefuseWrite W.stream) (writer_state W.stream self.old) result
             (writer_state W.stream self.new) }
-        // If it succeeds, its effect is the one that the stream states for a flush.
+        // If it succeeds, the stream changes as its properties state for a flush.
         ensures flushed { OnOk result (W.stream.flushes (writer_stream self.old) (writer_stream self.new)) }
     {
         if self.failed {

@@ -1,4 +1,4 @@
-//! The number of bits that a writer to bytes in memory has written.
+//! The bytes and the number of bits that a writer to bytes in memory has written.
 ghost use Rattle.std.specs.Prelude.{◌≡◌, ◌+◌, ◌-◌, ◌*◌, ◌<◌, ◌≤◌, ◌^◌, length};
 
 use super::BitWriter;

@@ -51,7 +51,7 @@ impl<A: Allocator, E: Endianness> BitWriter<Growing<A>, E> {
     pub fn clear(&mut self)
         ensures { writer_state growing_stream self.new ≡ new_writer_state (Some []) [] }
     {
-        // The earlier counts and refusals are forgotten, too.
+        // The earlier counts and failed requests are forgotten, too.
         self.port.restart();
         self.port.lend().clear();
         self.queue = 0;

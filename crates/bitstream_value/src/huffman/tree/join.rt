@@ -6,7 +6,7 @@ ghost use Rattle.bitstream_value.specs.Nodes.{Joined};
 use crate::huffman::tree::{HuffmanTree, Node};
 use std::alloc::{AllocError, Allocator};
 
-/// Appends the nodes of one tree to the nodes of another. Returns all nodes, with the places of the
+/// Appends the nodes of one tree to the nodes of another. Returns all nodes, with the indices of the
 /// two roots.
 ///
 /// # Errors

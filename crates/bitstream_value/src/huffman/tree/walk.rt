@@ -53,7 +53,7 @@ impl<S: Copy + Eq, A: Allocator> ToBits for HuffmanTree<S, A> {
 }
 
 impl<S: Copy + Eq, A: Allocator> HuffmanTree<S, A> {
-    /// Returns the first place from `low` up to `end` whose leaf has the symbol.
+    /// Returns the first index from `low` up to `end` whose node is a leaf with the symbol.
     fn find(&self, low: usize, end: usize, symbol: S) -> Option<usize>
         requires { end ≤ length (nodes_of self.now) }
         ensures { FindsFirst S.eq symbol (nodes_of self.now) low end result }
@@ -66,7 +66,7 @@ impl<S: Copy + Eq, A: Allocator> HuffmanTree<S, A> {
         None
     }
 
-    /// Returns true if a leaf with the symbol is at a place.
+    /// Returns true if the node at an index is a leaf with the symbol.
     fn has(&self, place: usize, symbol: S) -> bool
         requires { place < length (nodes_of self.now) }
         ensures { IsTrue result ↔ HasSymbol S.eq symbol (nodes_of self.now) place }

@@ -1,4 +1,4 @@
-//! The precomputed words of a tree's symbols.
+//! The precomputed code words of a tree's symbols.
 ghost use Rattle.std.specs.Prelude.{◌<◌, ◌^◌};
 
 use crate::huffman::tree::{HuffmanTree, Node};
@@ -6,11 +6,11 @@ use crate::huffman::{PutBit, ToBits};
 use bitstream_count::error::Error;
 use std::alloc::{AllocError, Allocator};
 
-/// A word of at most 63 bits. As a sink, it appends the bits written to it.
+/// A code word of at most 63 bits. As a sink, it appends the bits written to it.
 #[derive(Clone, Copy, Drop)]
 struct ShortWord {
     bits: u32,
-    // The first bit of the word is the highest one.
+    // The first bit of the code word is the highest one.
     number: u64,
     ghost few: { bits < 64 },
     ghost small: { number < 2 ^ bits },
@@ -39,14 +39,14 @@ impl ShortWord {
     ghost use Rattle.bitstream_value.specs.SymbolWords.{short_bits};
     ghost use Rattle.bitstream_value.specs.Tree.{bit_by_bit};
 
-    /// Returns a word of no bits.
+    /// Returns a code word of no bits.
     fn new() -> ShortWord
         ensures { short_bits result ≡ [] }
     {
         ShortWord { bits: 0, number: 0 }
     }
 
-    /// Writes the word, bit by bit.
+    /// Writes the code word, bit by bit.
     fn write<P: PutBit>(self, put: &mut P) -> Result<(), Error>
         ensures writes { WritesAll P.sink (bit_by_bit (short_bits self)) put.old result put.new }
     {
@@ -59,15 +59,15 @@ impl ShortWord {
     }
 }
 
-/// A symbol with its word.
+/// A symbol with its code word.
 #[derive(Clone, Copy, Drop)]
 struct SymbolWord<S> {
     symbol: S,
     word: ShortWord,
 }
 
-/// The precomputed words of a tree's symbols: each word is found by its symbol, and written without a walk down the
-/// tree. Use them to write many symbols. The tree still writes the words of 64 or more bits.
+/// The precomputed code words of a tree's symbols. Each code word is found by its symbol, and written without a walk
+/// down the tree. Use them to write many symbols. The tree still writes the code words of 64 or more bits.
 ///
 /// # Examples
 ///
@@ -89,7 +89,7 @@ struct SymbolWord<S> {
 #[derive(Drop)]
 pub struct SymbolWords<'a, S, A: Allocator> {
     tree: &'a HuffmanTree<S, A>,
-    // The shortest words first.
+    // The shortest code words come first.
     made: Vec<SymbolWord<S>, A>,
 }
 
@@ -99,8 +99,8 @@ impl<S: Copy + Eq, A: Allocator> HuffmanTree<S, A> {
     ghost use Rattle.bitstream_value.specs.SymbolWords.{FindsShort, ShortestFirst, made_word, short_bits};
     ghost use Rattle.bitstream_value.specs.Tree.{symbol_word};
 
-    /// Precomputes the words of all symbols, so that each symbol is written faster. This takes as long as writing
-    /// each symbol once with the tree.
+    /// Precomputes the code words of all symbols, so that each symbol is written faster. This takes as long as
+    /// writing each symbol once with the tree.
     ///
     /// # Errors
     ///
@@ -109,9 +109,9 @@ impl<S: Copy + Eq, A: Allocator> HuffmanTree<S, A> {
         // A symbol is written as the tree writes it.
         ensures words { IfOk result (λ words. (symbol : S)
             → made_word S.eq words symbol ≡ symbol_word S.eq (tree_of self.now) symbol) }
-        // A symbol whose word has at most 63 bits is found: no write of it walks down the tree.
+        // A symbol whose code word has at most 63 bits is found: no write of it walks down the tree.
         ensures found { IfOk result (FindsShort S.eq (tree_of self.now)) }
-        // Shorter words are found sooner.
+        // Shorter code words are found sooner.
         ensures order { IfOk result ShortestFirst }
     {
         let mut made = Vec::new(alloc);
@@ -126,7 +126,7 @@ impl<S: Copy + Eq, A: Allocator> HuffmanTree<S, A> {
         Ok(SymbolWords { tree: self, made })
     }
 
-    /// Returns the word of a symbol, if it has at most 63 bits.
+    /// Returns the code word of a symbol, if it has at most 63 bits.
     fn short_word(&self, symbol: S) -> Option<ShortWord>
         ensures { MatchOption result (63 < length (symbol_word S.eq (tree_of self.now) symbol))
             (λ word. short_bits word ≡ symbol_word S.eq (tree_of self.now) symbol) }
@@ -143,7 +143,7 @@ impl<S: Copy + Eq, A: Allocator> SymbolWords<'_, S, A> {
     ghost use Rattle.std.specs.Prelude.{◌≡◌, option_map};
     ghost use Rattle.bitstream_value.specs.SymbolWords.{found_word, short_bits, words_made};
 
-    /// Returns the word of a symbol, if it was precomputed.
+    /// Returns the code word of a symbol, if it was precomputed.
     fn find(&self, symbol: S) -> Option<ShortWord>
         ensures { option_map short_bits result ≡ found_word S.eq (words_made self.now) symbol }
     {

@@ -1,4 +1,4 @@
--- An empty body. The borrow is opened, and closed with one more refusal.
+-- An empty body. The borrow is opened, and closed with one more failed request.
 use Rattle.bitstream_order.proofs.Steps.{[], ◌∷◌, refl, w64, proved, id⊢, ftrue, flft, named, vunit, ‵, ◌⊛◌, ◌$◌, ◌∵◌, !, qed, done, move, keep, use1, split, join, fsplit3, feq_i, suffices, frame, group, enter, of_opd, unit_lit, returns, alloc_all, pass_all, free_all, look_at, sets, u64, yes, uint_vals, uint_Tells, MutRef, mut_vals, mut_Tells, plain, nothing, opens, closes, Stays, walk_of, says, stay_dropped, Goes-dropped, stay_ref, Goes-ref, ends_at}
 use Rattle.bitstream_order.specs.contracts.ghosts.GhostRefusals.push as f
 use Rattle.bitstream_order.specs.contracts.ghosts.GhostRefusals.{the_row as R}

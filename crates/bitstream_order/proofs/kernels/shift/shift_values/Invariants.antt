@@ -4,7 +4,7 @@ use Rattle.bitstream_order.specs.Parts.{piece}
 use Rattle.bitstream_order.specs.Moving.Shift.{Shifts}
 use Rattle.bitstream_order.proofs.kernels.shift.shift_values.Given as goal
 
--- the bytes up to a place are shifted, those behind it are as they were, and the last bits of a value are left
+-- the bytes before a position are shifted, the bytes after it are unchanged, and the last bits of a value are left
 abbrev pub invariant-loop-bytes : goal.invariant-loop-bytes
 invariant-loop-bytes g l =
     let size = g.U.Numeric.BITS_SIZE in

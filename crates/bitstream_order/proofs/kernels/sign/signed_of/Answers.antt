@@ -15,13 +15,13 @@ half-number g c =
     let within = c.requires.within in
     half_is _ _ _ _ one (omega (arith, same, within)) c.shl_default-half.ensures
 
--- what the comparison with that bit says of the word
+-- if the comparison with that bit is false, the word is at least that bit
 not_below : (g : Over) (c : After-lt g) → c.lt.result ≡ false
     → g.S.Unsigned.UnsignedInteger.value c.shl_default-half.result ≤ g.S.Unsigned.UnsignedInteger.value c.args.word
 not_below g c = number_not_less g.S.Unsigned.PartialOrd.partial_cmp c.args.word c.shl_default-half.result _ _ _
     (g.met.S.Unsigned.UnsignedInteger.order_value_law _ _) c.lt.ensures
 
--- the word with the sign's bit turned is below half of the type's words
+-- the word with the sign bit flipped is below half of the type's range
 turned : (g : Over) (c : After-bitxor g) → c.args.bits < g.S.Numeric.BITS_SIZE
     → g.S.Unsigned.UnsignedInteger.value c.shl_default-half.result ≡ 2 ^ (c.args.bits - 1)
     → g.S.Unsigned.UnsignedInteger.value c.bitxor.result < 2 ^ (g.S.Numeric.BITS_SIZE - 1)

@@ -11,7 +11,7 @@ returns-in_err-bits g c = λ entry x is len.
     overflowed g.E.Endianness.order (λ w. g.N.Counter.value w.count) g.N.Counter.greatest g.N.Counter.full (λ w. w.within) entry _ _ _ x
     c.args.bits is len (exit_is _ c.from_residual.ensures.1) past refl
 
--- a sum that was refused passes the greatest number
+-- a sum that failed is above the greatest number
 refused : (n greatest : ℕ) → (n ≤ greatest → false ≡ true) → greatest < n
 refused n greatest h = elim (cases_lt greatest n) [ inl past ↦ past | inr fits ↦ absurd (false≢true (h fits)) ]
 

@@ -3,7 +3,7 @@ use Rattle.bitstream_stream.specs.Writing.Sink.{IsWithin}
 use Rattle.bitstream_stream.proofs.Writing.SinkParts.{Begun}
 use Rattle.bitstream_stream.proofs.write.BitWrite.write_unary.Given as goal
 
--- the bits beyond whole groups of 128 were written, and behind them one group a turn; all of them have room
+-- the bits beyond whole groups of 128 were written, and then one group an iteration; all of them have room
 abbrev pub invariant-loop-done : goal.invariant-loop-done
 invariant-loop-done g l =
     let K = g.Self.BitWrite.sink in

@@ -15,7 +15,7 @@ use Rattle.bitstream_stream.proofs.write.writer.BitWriterBitWrite.write_unsigned
 abbrev sink : Over → Sink WriterState
 sink g = queue_sink (MayRefuseWrite g.W.Target.stream) g.E.Endianness.order
 
--- the group is gathered behind the others
+-- the group is gathered after the others
 gathered : (g : Over) (c : After-BITS-bits g) (group next : ℕ)
     → IsFirstGroup g.F.Width.BITS (g.U.UnsignedInteger.value c.loop-group.rest) group next
     → g.U.UnsignedInteger.value c.put-word.result ≡ put_number g.E.Endianness.order

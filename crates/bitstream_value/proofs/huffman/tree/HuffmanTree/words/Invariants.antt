@@ -3,7 +3,7 @@ use Rattle.bitstream_value.specs.HuffmanTree.{tree_of}
 use Rattle.bitstream_value.proofs.WordsLemmas.{IsMade, HasShort}
 use Rattle.bitstream_value.proofs.huffman.tree.HuffmanTree.words.Given as goal
 
--- the words so far are the tree's, and each short one is there
+-- the code words so far are the tree's, and each short one is there
 abbrev pub invariant-loop-node : goal.invariant-loop-node
 invariant-loop-node g l =
     record {

@@ -12,7 +12,7 @@ pub returns-in_err-items-clause-reads : goal.returns-in_err-items-clause-reads
 returns-in_err-items-clause-reads g c =
     let p = err_from_is_err_and c.from_residual.result c.from_residual.ensures.1 in
     rw (p.1 ∙ ap Err p.2)
-    (items-stop _ _ _ _ {z = c.read.new.reader} (omega arith) c.loop-i.invariant.0 c.in_err-items.ensures.reads)
+    (items-stop _ _ _ _ {z = c.read_item.new.reader} (omega arith) c.loop-i.invariant.0 c.in_err-items.ensures.reads)
 
 pub returns-in_err-items-clause-fits : goal.returns-in_err-items-clause-fits
 returns-in_err-items-clause-fits g c =
