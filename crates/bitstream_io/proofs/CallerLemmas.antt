@@ -1,6 +1,6 @@
--- What callers' proofs need. The usual lemmas and words of std are passed on, so that one line imports them. What is
--- stated here is what an answer tells, and what goes with constants, branches, errors of a caller's own, items in a loop,
--- numbers that are computed, and what goes back by parts.
+-- What callers' proofs need. The usual lemmas and words of std are passed on, so that one line imports them. The
+-- lemmas stated here are about results, constants, branches, errors of a caller's own, items in a loop, numbers that
+-- are computed, and round trips by parts.
 use borrow.Author.Rules.{sfits_of}
 use Rattle.std.proofs.Common.{◌⊎◌, ℤ, SFits, to_z, of_z, suc, Continue, Break, get_or, ◌*◌, ◌%◌, ◌≤◌, ◌==◌, Bool, true, false, length, take, drop, Option, None, Result, Err, subst, add-one, pow-suc}
 use Rattle.std.specs.Option.{ForSome}
@@ -53,15 +53,15 @@ pub use Rattle.std.proofs.Common.{◌≡◌, ◌∙◌, ℕ, ◌+◌, ◌-◌, �
 -- a one that is shifted left: 1 * 2 ^ n % 2 ^ size ≡ 2 ^ n
 pub use Rattle.std.proofs.lemmas.Nat.{one_shl}
 pub use Rattle.bitstream_number.specs.Word.{Order, High, Low, bits, number}
--- the reader that `over` makes is refused only at a true end (`SliceEnds` has the same of a reader over a `Slice`)
+-- the reader that `over` makes fails only at the end of input (`SliceEnds` has the same of a reader over a `Slice`)
 pub use Rattle.bitstream_stream.proofs.Reading.MemoryLemmas.{memory_ends as slice_ends}
 -- calls of a known length are done if so many bits are left
 pub use Rattle.bitstream_stream.proofs.Reading.EnoughLemmas.{Reads-enough, bit-enough, unsigned-enough, signed-enough, const-enough, count-enough, bytes-enough, skip-enough, pure-enough, and_then-enough, done-if_left}
 pub use Rattle.bitstream_stream.specs.Reading.ReadTable.{unsigned_decoder, signed_decoder}
 pub use Rattle.bitstream_stream.proofs.Reading.ReadsLemmas.{Reads-and_then-ok, Reads-pure, exit}
--- the calls of a new writer to bytes in memory with room for their bits, and an alignment behind them, answer `Ok`
+-- the calls of a new writer to bytes in memory with room for their bits, and an alignment after them, return `Ok`
 pub use Rattle.bitstream_stream.proofs.Writing.RoomLemmas.{calls_with_room, align_with_room}
--- a number that a read of n bits answered is below 2^n
+-- a number that a read of n bits returned is below 2^n
 pub use Rattle.bitstream_stream.proofs.Reading.SignedLemmas.{unsigned-below as below}
 pub use Rattle.bitstream_value.proofs.BackLemmas.{RoundTrip, round_trip, bit-back, pure-back, signed-back, unsigned-back}
 -- parts of which it is not known whether they ask for memory
@@ -87,19 +87,19 @@ pub use Rattle.bitstream_order.proofs.Streaming.SliceMutLemmas.{slice-holds}
 pub use Rattle.bitstream_io.proofs.SequenceLemmas.{counted, write_sequence-append}
 pub use Rattle.bitstream_io.specs.Loop.{ItemsRead, ItemsWritten}
 
--- ---- what an answer tells
+-- ---- what a result tells
 
--- behind an answer the reader has not failed
+-- after a result the reader has not failed
 pub sound : {R A : Type 0} {K : BitSource R} {grows : Bool} {e : Decoder A} {a : A} {s t : R}
     → e.on_failed ≡ Err Failed → ReadOutcome K grows e s (Ok a) t → (K.state t).failed ≡ false
 sound failed read = (ok_prefix failed read).failed
 
--- a signed number that a read of n bits answered lies in their range (`below` says the same of an unsigned one)
+-- a signed number that a read of n bits returned lies in their range (`below` says the same of an unsigned one)
 pub in_range : {R : Type 0} {K : BitSource R} {s t : R} (o : Order) (size n : ℕ) (x : ℤ)
     → Reads K (signed_decoder o size n) s (Ok x) t → FitsSignedBits n x
 in_range o size n x read = (signed-holds o size n read).1
 
--- a number of n bytes in an order of its own, as `read_as_to` reads it, and a refused one
+-- a number of n bytes in an order of its own, as `read_as_to` reads it, and a failed one
 module _ {R : Type 0} {K : BitSource R} (o p : Order) (n : ℕ) {s t : R} where
   pub bytes_number-read : {v : ℕ} → Reads K (bytes_decoder o n) s (Ok (bytes_in p n v)) t → v < 2 ^ (8 * n)
       → Reads K (bytes_number o p n) s (Ok v) t
@@ -111,7 +111,7 @@ module _ {R : Type 0} {K : BitSource R} (o p : Order) (n : ℕ) {s t : R} where
       → Reads K (bytes_number o p n) s (Err x) t
   bytes_number-stops h = Reads-and_then-err _ _ h
 
--- an error of an answer that a clause sees by a view
+-- an error of a result that a clause sees by a view
 pub map_is_err : {A B : Type 0} {x : Error} (view : A → B) (r : Result A Error) → result_map view r ≡ Err x → r ≡ Err x
 map_is_err view (Ok a) is = cc
 map_is_err view (Err y) is = cc
@@ -131,7 +131,7 @@ pub unary-on_failed : (stop : Bool) → (unary_decoder stop).on_failed ≡ Err F
 unfolding unary_decoder
 unary-on_failed stop = refl
 
--- an error of one's own, behind a read that answered
+-- an error of one's own, after a read that returned
 pub refuses_behind : {R A B : Type 0} {K : BitSource R} {e : Decoder A} {a : A} {s t : R} (x : Error)
     → Reads K e s (Ok a) t → e.on_failed ≡ Err Failed → is_run_too_long {A = B} (Err x) ≡ false
     → Reads {A = B} K (fail x) t (Err x) t
@@ -195,7 +195,7 @@ module _ {R B : Type 0} {K : BitSource R} (o : Order) (n v : ℕ) (f : Bool → 
         exit_const k (subst (λ y. ReadsConst K same_error (const_decoder o n v) err s y t)
         (p ∙ ap result_from_control_flow q) h) other short
 
--- a constant as a read by itself, which gives nothing, and refuses any other number
+-- a constant as a read by itself, which gives nothing, and fails for any other number
 pub const_alone : {R : Type 0} {K : BitSource R} (o : Order) (n v : ℕ) (f : Bool → Decoder (Unit {0})) (err : Error)
     (r : Result (Unit {0}) Error) {s t : R} → ReadsConst K same_error (const_decoder o n v) err s r t
     → f true ≡ pure tt → f false ≡ fail err → is_run_too_long {A = Unit {0}} (Err err) ≡ false
@@ -214,7 +214,7 @@ module _ {R A B E : Type 0} {K : BitSource R} {becomes : Error → E → Type 0}
       → ReadsOwn K becomes (and_then e f) s r t
   exit_own_read {x = x} k h = record { plain = Err x; called = Reads-and_then-err e f h; answer = k }
 
--- a part with errors of its own, whose answer becomes one of another type: what an error of the reader becomes there
+-- a part with errors of its own, whose result becomes one of another type: what an error of the reader becomes there
 -- becomes what it is here
 own_made-of : {R A E F : Type 0} {K : BitSource R} (there : Error → E → Type 0) (here : Error → F → Type 0)
     {e : Decoder (Result A E)} (makes : Result A E → Result A F) (r : Result A E) {s t : R}
@@ -235,7 +235,7 @@ pub own_made : {R A E F : Type 0} {K : BitSource R} {there : Error → E → Typ
     → ReadsOwn K here (and_then e (λ answer. pure (makes answer))) s (makes r) t
 own_made {there = there} {here = here} makes r h errors = own_made-of there here makes r h.plain h.called h.answer errors
 
--- a number of a signed type, which stands behind the read as what its bits say
+-- a number of a signed type, which after the read is what its bits encode
 pub next_own_signed_read : {R B E : Type 0} {K : BitSource R} {becomes : Error → E → Type 0} (o : Order) (size n : ℕ)
     (f : ℤ → Decoder (Result B E)) {r : Result B E} {s t z : R} {x : ℤ} → Reads K (signed_decoder o size n) s (Ok x) t
     → SFits (width_of size) x → ReadsOwn K becomes (f (to_z (width_of size) (of_z (width_of size) x))) t r z
@@ -292,7 +292,7 @@ module _ {R B E : Type 0} {K : BitSource R} {becomes : Error → E → Type 0} {
 
 -- ---- the same in a function that asks for memory
 
--- a number of a signed type, which stands behind the read as what its bits say
+-- a number of a signed type, which after the read is what its bits encode
 pub next_grown_signed : {R B E : Type 0} {K : BitSource R} {becomes : Error → E → Type 0} {e : Decoder ℤ}
     (f : ℤ → Decoder (Result B E)) (w : Width) {r : Result B E} {s t z : R} {x : ℤ} → Reads K e s (Ok x) t → SFits w x
     → GrowsOwn K becomes (f (to_z w (of_z w x))) t r z → GrowsOwn K becomes (and_then e f) s r z
@@ -380,7 +380,7 @@ module _ {S E : Type 0} (K : Sink S) (becomes : Error → E → Type 0) (es : Li
   exit_own_signed o size n w x error k h fits =
       exit_own_write (signed o size n x) error k (signed_value K o size n w x s t (Err error) h fits)
 
--- constants and branches, to be named beside `reads`, `few_reads`, `own_reads` or `few_own_reads`
+-- constants and branches, to be named next to `reads`, `few_reads`, `own_reads` or `few_own_reads`
 pub ruleset constants = (
   next_const,
   exit_const,
@@ -437,7 +437,7 @@ module _ {R A : Type 0} {K : BitSource R} (e : Decoder A) where
   items-begin {s = s} none = rw none (items-start e s)
 
   module _ (n : ℕ) where
-    -- one more, pushed behind the others
+    -- one more, pushed after the others
     pub items-push : {xs ys : List A} {x : A} {s t z : R} → ys ≡ xs ++ x ∷ [] → ItemsRead K e n s xs t
         → Reads K e t (Ok x) z → ItemsRead K e (n + 1) s ys z
     items-push is h k =
@@ -481,7 +481,7 @@ sum_below size n rest wider small =
     let twice : 2 ^ suc n ≡ 2 ^ n * 2 = pow-suc 2 n in
     rw (one_shl n size wider) (omega arith)
 
--- the highest bit of m, among `size` bits, stands before so many others
+-- the highest bit of m, among `size` bits, is before so many others
 pub record Top (size m behind : ℕ) : Type 0 where
   pub within : behind < size
   pub low : 2 ^ behind ≤ m
@@ -532,7 +532,7 @@ module _ {B : Type 0} (b : List Bool) (k n l : ℕ) (r : Result B Error) where
   skip-finds f le found = next-finds b k n l (skip_decoder n) f (λ w. tt) r (skip-word n) le found
 
 module _ {B : Type 0} (b : List Bool) (k l : ℕ) (r : Result B Error) where
-  -- words of n bits, of which there are `count`
+  -- encodings of n bits, of which there are `count`
   each-finds : {A : Type 0} (e : Decoder A) (n count : ℕ) (g : List Bool → A) (f : List A → Decoder B)
       → IsWord e n (λ w. Ok (g w)) → nat_le (count * n) l ≡ true
       → Finds b (k + count * n) (f (map g (words n count (take (count * n) (drop k b))))) (l - count * n) r
@@ -571,7 +571,7 @@ module _ {B : Type 0} (b : List Bool) (k l : ℕ) (r : Result B Error) where
       next-finds b k n l (and_then (unsigned_decoder o size n) (λ v. pure (make v))) f (λ w. make (number o w)) r
       (mapped-word (unsigned_decoder o size n) n (number o) make (unsigned-word o size n (leb-true n size fits))) le found
 
--- the same of one that may be refused: if it is made, and if it is not
+-- the same of one that may fail: if it is made, and if it is not
 module _ {A B E : Type 0} (b : List Bool) (k l n : ℕ) (o : Order) (size : ℕ) (make : ℕ → Result A E)
     (f : A → Decoder (Result B E)) where
   pub part-finds : (a : A) (r : Result (Result B E) Error) → nat_le n size ≡ true → nat_le n l ≡ true
@@ -585,7 +585,7 @@ module _ {A B E : Type 0} (b : List Bool) (k l n : ℕ) (o : Order) (size : ℕ)
   part-misses x fits le is ends =
       made-finds b k l (Ok (Err x)) n o size make (part_then f) fits le (rw (is, ends) (pure-finds b (k + n) (Err x)))
 
--- ---- what a new reader answers, over a stream that refuses at true ends alone
+-- ---- what a new reader returns, over a stream that fails only at the end of input
 
 -- what `new` and `Slice::new` state, as one; `over` states it itself
 pub told : {state : ReaderState} {xs known : List ℕ} {references : List Reference}
@@ -603,7 +603,7 @@ own_answered {becomes = becomes} {r = r} {xs = xs} {references = references} end
     new_answer ends xs references (new ∙ ap (λ z. new_reader_state z references) told) h.called in
     subst (λ z. OwnAnswer becomes (λ y. y) z r) plain h.answer
 
--- and of a type that asks for memory: that, or memory was refused where the type may allocate
+-- and of a type that asks for memory: that, or an allocation failed where the type may allocate
 pub own_grown_answered : {R A E : Type 0} {K : BitSource R} {becomes : Error → E → Type 0}
     {e : Decoder (Result A E)} {r : Result A E} {s t : R} {xs : List ℕ} {known : Option (List ℕ)}
     {references : List Reference} → TrueEnds K.may → K.state s ≡ new_reader_state known references → known ≡ Some xs
@@ -649,7 +649,7 @@ module _ {R A : Type 0} {K : BitSource R} {s t : R} {n : ℕ} {xs : List ℕ} {k
       subst (λ z. OwnAnswer becomes (λ y. y) (sure_answer z) r) (found.short 0 (omega arith) less)
       (own_answered ends new told h)
 
--- too few bits for items that are words
+-- too few bits for items that are encodings
 pub items_short : {R A : Type 0} {K : BitSource R} {e : Decoder A} {n : ℕ} {g : List Bool → A}
     {r : Result (List A) Error} {s t : R} {xs : List ℕ} {references : List Reference}
     → IsWord e n (λ w. Ok (g w)) → (k : ℕ) → TrueEnds K.may → K.state s ≡ new_reader_state (Some xs) references
@@ -658,12 +658,12 @@ items_short word k ends new h few = word_short (items-word word k) ends new h fe
 
 -- ---- back again
 
--- a part whose writes are read back, as a law or a caller's own law says, and what stands behind it
+-- a part whose writes are read back, as a law or a caller's own law says, and what is after it
 pub part-back : {A B : Type 0} (e : Decoder A) (f : A → Decoder B) (ws es : List Encoder) (a : A) (b : B)
     → IsReadAs ws e a → RoundTrip (f a) es b → RoundTrip (and_then e f) (ws ++ es) b
 part-back e f ws es a b part behind = record { back = then-read e f ws es a b part behind.back }
 
--- one that nothing stands behind
+-- one with nothing after it
 pub last-back : {A B : Type 0} (e : Decoder A) (make : A → B) (ws : List Encoder) (a : A) → IsReadAs ws e a
     → RoundTrip (and_then e (λ v. pure (make v))) ws (make a)
 last-back e make ws a part = record { back = mapped-read make ws e a part }

@@ -35,7 +35,7 @@ use Rattle.bitstream_io.proofs.SequenceLemmas.{write_sequence-append}
 
 -- ---- calls one after another
 
--- one call, whose word is found everywhere
+-- one call, whose encoding is found everywhere
 one-read : {A : Type 0} {e : Decoder A} {a : A} (x : Encoder) (w : List Bool) → ((len : ℕ) → x len ≡ Ok w)
     → ((p : ℕ) → Found e p w a)
     → IsReadAs (x ∷ []) e a
@@ -115,12 +115,12 @@ signed_groups-read strict o field size x wide some fits =
 
 -- ---- the types of values
 
--- a number that fits is what its bits answer
+-- a number that fits is what its bits encode
 pub value_in-fits : (n v : ℕ) → v < 2 ^ n → value_in n v ≡ v
 value_in-fits zero v fits = omega arith
 value_in-fits (suc n) v fits = rw (ne_eqb (suc n) 0 (λ e. omega arith)) refl
 
--- a read whose answer is made another value
+-- a read whose result is made another value
 pub mapped-read : {A B : Type 0} (make : A → B) (es : List Encoder) (e : Decoder A) (a : A) → IsReadAs es e a
     → IsReadAs es (and_then e (λ v. pure (make v))) (make a)
 mapped-read make es e a h =
@@ -183,7 +183,7 @@ module _ {C : Type 0} (count : C) (o : Order) where
 
 -- ---- items, parts, and paths
 
--- items one behind the other, of which one more is read behind those before it; `ok` is what they are read as
+-- items one after the other, of which one more is read after those before it; `ok` is what they are read as
 module _ {A B : Type 0} (writes : A → List Encoder) (decoder : ℕ → Decoder B) (ok : List A → B) (IsOne : A → Type 0) where
   abbrev AreRead : List A → Type 0
   AreRead xs = IsReadAs (flat_map writes xs) (decoder (length xs)) (ok xs)

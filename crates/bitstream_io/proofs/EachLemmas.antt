@@ -58,7 +58,7 @@ grown_made {there = there} {here = here} makes r h errors =
 
 -- ---- a list of parts with errors of their own
 
--- an error of an answer, as a view of the values shows it
+-- an error of a result, as a view of the values shows it
 pub own_map_err : {A V E : Type 0} (view : A → V) {x : E} (r : Result A E) → IsErrAnd r (λ y. y ≡ x)
     → result_map view r ≡ Err x
 own_map_err view (Ok a) is = absurd is
@@ -187,7 +187,7 @@ module _ {A V : Type 0} (make : ℕ → V) (ok : A → V) (ns : List ℕ) (xs : 
       let all_items : take k xs ≡ xs = ap (λ m. take m xs) items ∙ take-length xs in
       ap (map make) (sym all_numbers) ∙ before ∙ ap (map ok) all_items
 
--- one that is refused stops them
+-- one that fails stops them
 pub made-stop : {A E : Type 0} (make : ℕ → Result A E) (ns : List ℕ) (xs : List A) (k d : ℕ) (e : E) → k < length ns
     → map make (take k ns) ≡ map (λ x. Ok x) (take k xs) → make (get_or ns k d) ≡ Err e → all_ok (map make ns) ≡ Err e
 made-stop make ns xs k d e inside before is =

@@ -9,7 +9,7 @@ use Rattle.bitstream_io.specs.Unary.{unary}
 use Rattle.bitstream_io.proofs.CallerLemmas.{◌≡◌, ◌∙◌, ℕ, ◌+◌, ◌-◌, ◌^◌, ◌<◌, List, [], ◌∷◌, Order, RoundTrip, Packs, ap, arith, at_most-back, computed-back, packs-is, packs-more, packs-none, last-back, refl, top, unary-back, unary-written, unsigned-written, var-back}
 use Rattle.bitstream_io.specs.Golomb.{place_of, se_decoder, se_size, se_writes, signed_at, ue_decoder, ue_size, ue_word, ue_writes, zeros_of}
 
--- the writes of a number that has a word
+-- the writes of a number that has an encoding
 pub has_word : (o : Order) (v : ℕ) → v < 2 ^ 32 - 1 → ue_writes o v ≡ ue_word o v
 has_word o v small = rw (lt-leb (2 ^ 32 - 1) v small) refl
 

@@ -29,7 +29,7 @@ non_zero_u64-again x = made-again (λ k p. record { value = k; ok = p }) x.value
 pub non_zero_u128-again : (x : NonZeroU128) → non_zero_u128 (x.value - 1) ≡ x
 non_zero_u128-again x = made-again (λ k p. record { value = k; ok = p }) x.value _ x.ok
 
--- and so is an `Option` of one, of which 0 stands for none
+-- and so is an `Option` of one, where 0 means none
 if_any-number : {A : Type 0} (after : ℕ → A) (v : ℕ) (x : A) → 0 < v → after (v - 1) ≡ x → if_any after v ≡ Some x
 if_any-number after zero x some is = absurd (omega arith)
 if_any-number after (suc v) x some is =

@@ -1,4 +1,4 @@
--- That calls are all accepted wherever they stand, and how many bits they write: `Packs`. A caller's proof of it is
+-- That calls are all accepted wherever they are, and how many bits they write: `Packs`. A caller's proof of it is
 -- `search (packs, FACTS)`, where the facts say that the values fit their widths. The other way: that what was accepted
 -- fits. And what `pack_into` makes of such calls.
 use Rattle.std.proofs.Common.{ap, inl, inr, ◌≡◌, ◌∙◌, ℕ, ℤ, ◌+◌, ◌-◌, ◌*◌, ◌^◌, ◌<◌, ◌≤◌, Bool, true, false, List, [], ◌∷◌, ◌++◌, length, Result, Ok, Err, refl, sym, subst, arith, length-append, append-nil}
@@ -34,7 +34,7 @@ use Rattle.bitstream_io.proofs.SequenceLemmas.{write_sequence-append}
 
 -- ---- one call
 
--- a call that writes a word of so many bits, wherever it stands
+-- a call that writes an encoding of so many bits, wherever it is
 pub record IsWritten (encoder : Encoder) (size : ℕ) : Type 0 where
   pub word : List Bool
   pub is : (at : ℕ) → encoder at ≡ Ok word
@@ -92,7 +92,7 @@ vbr-written o field v = record { word = vbr_word o field v; is = λ at. refl; lo
 
 -- ---- calls one after another
 
--- calls that are all accepted, wherever they stand, and write so many bits
+-- calls that are all accepted, wherever they are, and write so many bits
 pub record Packs (encoders : List Encoder) (total : ℕ) : Type 0 where
   pub accepted : (from : ℕ) → AllAccepted encoders from
   pub size : (from : ℕ) → length (write_sequence encoders from) ≡ total
@@ -100,7 +100,7 @@ pub record Packs (encoders : List Encoder) (total : ℕ) : Type 0 where
 pub packs-none : Packs [] 0
 packs-none = record { accepted = λ from. tt; size = λ from. refl }
 
--- one, and those behind it
+-- one, and those after it
 pub packs-more : {e : Encoder} {k : ℕ} {es : List Encoder} {m : ℕ} → IsWritten e k → Packs es m
     → Packs (e ∷ es) (k + m)
 packs-more {k = k} {es = es} {m = m} one rest = record {
@@ -134,7 +134,7 @@ accepted-behind (e ∷ es) fs n all more =
     let sum = length-append w (write_sequence es (n + length w)) in omega (arith, sum) in
     (all.0, accepted-behind es fs (n + length w) all.1 (subst (AllAccepted fs) place more))
 
--- a part, and those behind it
+-- a part, and those after it
 pub packs-part : {es fs : List Encoder} {k m : ℕ} → Packs es k → Packs fs m → Packs (es ++ fs) (k + m)
 packs-part {es = es} {fs = fs} part rest = record {
   accepted = λ from.
@@ -146,7 +146,7 @@ packs-part {es = es} {fs = fs} part rest = record {
       rw (write_sequence-append es fs from) (omega (arith, sum, first, more));
 }
 
--- words of n bits each, of which there are `count`
+-- encodings of n bits each, of which there are `count`
 pub packs-each : {A : Type 0} (write : A → Encoder) (n count : ℕ) (xs : List A) → length xs ≡ count
     → All (λ x. IsWritten (write x) n) xs → Packs (flat_map (λ x. write x ∷ []) xs) (count * n)
 packs-each write n count [] is all =
@@ -171,7 +171,7 @@ packs-signed_items o size n count xs some le is fit =
     packs-each (signed o size n) n count xs is (All-weaker (FitsSignedBits n)
     (λ x. IsWritten (signed o size n x) n) (λ x fits. signed-written o size n x some le fits) xs fit)
 
--- parts, one behind the other
+-- parts, one after the other
 pub packs-parts : {A : Type 0} (writes : A → List Encoder) (size : A → ℕ) (xs : List A)
     → All (λ x. Packs (writes x) (size x)) xs → Packs (flat_map writes xs) (parts_size size xs)
 packs-parts writes size [] all = packs-none
@@ -194,7 +194,7 @@ pub ruleset packs = (
 boundary-within : (k n : ℕ) → k ≤ 8 * n → k + to_boundary k ≤ 8 * n
 boundary-within k n enough = omega arith
 
--- a buffer that has room for calls has room for an alignment behind them too
+-- a buffer that has room for calls has room for an alignment after them too
 pub packs-room : {es : List Encoder} {k : ℕ} → Packs es k → (n : ℕ) → k ≤ 8 * n
     → length (write_sequence (es ++ align ∷ []) 0) ≤ 8 * n
 packs-room {es = es} {k = k} all n enough =

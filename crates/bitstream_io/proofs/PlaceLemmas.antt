@@ -57,7 +57,7 @@ seen_in o bytes first bit p w v place few eight is =
           ∙ middle_word o 64 w bit 10 few ∙ ap (word o 10) (sym is);
     }
 
--- ---- one word
+-- ---- one encoding
 
 -- a place goes on by n bits
 goes_on : (o : Order) (bytes : List ℕ) (p n : ℕ) (refusals : List Refusal) → p + n ≤ 8 * length bytes
@@ -170,7 +170,7 @@ from_same {K = K} {e = e} {r = r} {t = t} x same (was_refused h) =
     was_refused (subst (λ u. ReadRefused K.order K.may e u r (K.state t)) same h)
 from_same x same (memory_refused g h) = absurd (cc g)
 
--- a reader from which values were read has its refusals still
+-- a reader from which values were read still has its failures
 pub same_refusals : {R A : Type 0} {K : BitSource R} {e : Decoder A} {a : A} {s t : R} → (K.state t).failed ≡ false
     → Reads K e s (Ok a) t → ((K.state s).failed ≡ false) × ((K.state t).refusals ≡ (K.state s).refusals)
 same_refusals fine (had_failed h) =

@@ -44,11 +44,11 @@ use Rattle.bitstream_io.specs.declared.script.write_call.WriteCall.TheVariants.{
 
 -- ---- one call
 
--- behind p bits the read takes this word, whatever follows it, and answers a
+-- after p bits the read takes this encoding, whatever follows it, and returns a
 pub record Found {A : Type 0} (e : Decoder A) (p : ℕ) (w : List Bool) (a : A) : Type 0 where
   pub takes : (rest : List Bool) → e.reads p (w ++ rest) ≡ Done (length w) (Ok a)
 
--- a read whose answer is made another value
+-- a read whose result is made another value
 pub mapped-found : {A B : Type 0} (make : A → B) {e : Decoder A} {p : ℕ} {w : List Bool} {a : A} → Found e p w a
     → Found (and_then e (λ v. pure (make v))) p w (make a)
 mapped-found make {e = e} {p = p} {w = w} {a = a} h = record {
@@ -56,7 +56,7 @@ mapped-found make {e = e} {p = p} {w = w} {a = a} h = record {
       ∙ ap (λ (n : ℕ). Done n (Ok (make a))) (add-zero (length w));
 }
 
--- a read that takes as many bits, and answers g of them
+-- a read that takes as many bits, and returns g of them
 pub word-found : {A : Type 0} (e : Decoder A) (n p : ℕ) (g : List Bool → A) (w : List Bool) (a : A)
     → ((b : List Bool) → e.reads p b ≡ word_prefix n (λ u. Ok (g u)) b) → length w ≡ n → g w ≡ a → Found e p w a
 word-found e n p g w a reads size value = record {
@@ -67,13 +67,13 @@ word-found e n p g w a reads size value = record {
 abbrev ok : List Bool → Result (List Bool) Error
 ok w = Ok w
 
--- a word that no error stands before
+-- an encoding with no error before it
 behind_error : (b : Bool) (x : Error) (r : Result (List Bool) Error) (w : List Bool) → cond b (Err x) r ≡ Ok w
     → (b ≡ false) × (r ≡ Ok w)
 behind_error true x r w e = absurd cc
 behind_error false x r w e = (refl, e)
 
--- a word, else an error
+-- an encoding, else an error
 before_error : (b : Bool) (x : Error) (u w : List Bool) → cond b (Ok u) (Err x) ≡ Ok w → (b ≡ true) × (u ≡ w)
 before_error true x u w e = (refl, cc)
 before_error false x u w e = absurd cc
@@ -195,7 +195,7 @@ signed_vbr_call : (o : Order) (field : ℕ) {x : ℤ} {p : ℕ} {w : List Bool} 
 signed_vbr_call o field {x = x} {p = p} wide e h =
     plain-found e (mapped-found answer.SignedVbr (signed_groups-found true o field 64 x p wide (omega arith) h))
 
--- the word of an accepted call is found by its matching read
+-- the encoding of an accepted call is found by its matching read
 pub call-found : (o : Order) (call : WriteCall) (len p : ℕ) (w : List Bool) → IsCall call → p % 8 ≡ len % 8
     → write_encoder o call len ≡ Ok w → Found (read_decoder o (matching_read call)) p w (answer_of call)
 call-found o (Bit b) len p w h same e = plain-found e (mapped-found answer.Bit (bit-found b p))
@@ -223,11 +223,11 @@ call-found o Align len p w h same e = plain-found e (mapped-found (λ _. answer.
 
 -- ---- lists of calls
 
--- a call's answer and the place behind it
+-- a call's result and the place after it
 abbrev Step : Type 0
 Step = Result Answer Error × ℕ
 
--- answers in their places
+-- results in their places
 abbrev Places : Type 0
 Places = List (Option (Result Answer Error))
 
@@ -244,7 +244,7 @@ module _ (o : Order) (more : List Bool) where
   abbrev reads : List WriteCall → ℕ → List (Decoder Answer)
   reads calls len = read_decoders o (matching_reads (accepted_calls o calls len))
 
-  -- what they answer behind p bits
+  -- what they return after p bits
   abbrev matched : List WriteCall → ℕ → ℕ → List Step
   matched calls len p = read_sequence (reads calls len) p (words calls len ++ more)
 
@@ -293,7 +293,7 @@ module _ (o : Order) (more : List Bool) where
       (write_sequence (write_encoders None o calls) len ++ more)) ≡ p + length (write_sequence (write_encoders None o calls) len)
   place_back calls len p h same = (all_back calls len p (recursion_from_All IsCall calls h) same).1
 
--- ---- what a reader answers
+-- ---- what a reader returns
 
 heads : {A : Type 0} (x y : A) (xs ys : List A) → x ∷ xs ≡ y ∷ ys → x ≡ y
 heads x y xs ys h = cc
@@ -356,7 +356,7 @@ cut (c ∷ calls) (b ∷ before) call behind h =
       behind_is = k.behind_is;
     }
 
--- the answers up to a call, and those behind
+-- the results up to a call, and those after
 split_answers : (first others : List Step) (before behind : List WriteCall) → length before ≡ length first
     → sequence_answers (first ++ others) ≡ answers_of (before ++ behind)
     → (sequence_answers first ≡ answers_of before) × (sequence_answers others ≡ answers_of behind)
@@ -371,7 +371,7 @@ module _ {R : Type 0} (K : BitSource R) (calls : List WriteCall) (words bits : L
     (new : R) (run : List Step)
     (is_run : read_sequence (read_decoders K.order (matching_reads calls)) (K.state old).taken bits ≡ run)
     (all : sequence_answers run ≡ answers_of calls) where
-  -- the answers before a call, and those from it on
+  -- the results before a call, and those from it on
   parted : (before : List ReadCall) (call : ReadCall) (behind : List ReadCall) (first others : List Step)
       → (c : Cut calls before call behind) → length before ≡ length first → run ≡ first ++ others
       → (sequence_answers first ≡ answers_of c.first) × (sequence_answers others ≡ answers_of (c.one ∷ c.last))
@@ -379,7 +379,7 @@ module _ {R : Type 0} (K : BitSource R) (calls : List WriteCall) (words bits : L
       split_answers first others c.first (c.one ∷ c.last) (sizes c.first before c.before_is ∙ size)
       (sym (ap sequence_answers is) ∙ all ∙ ap answers_of c.parts)
 
-  -- what is answered up to a call that answers this error, and behind it
+  -- what is returned up to a call that returns this error, and after it
   stopped : (x : Error) (before : List ReadCall) (call : ReadCall) (behind : List ReadCall) (first : List Step)
       → (c : Cut calls before call behind) → sequence_answers first ≡ answers_of c.first
       → answers ≡ sequence_answers first ++ Some (Err x) ∷ failed_answers K.order behind
@@ -387,7 +387,7 @@ module _ {R : Type 0} (K : BitSource R) (calls : List WriteCall) (words bits : L
   stopped x before call behind first c h same =
       same ∙ ap₂ (λ (u : Places) (l : List ReadCall). u ++ Some (Err x) ∷ failed_answers K.order l) h (sym c.behind_is)
 
-  -- a read sequence that answers what was written
+  -- a read sequence that returns what was written
   back_from_run : place_behind (K.state old).taken run ≡ (K.state old).taken + length words
       → ReadsSequence K (matching_reads calls) bits old answers new → ReadsBack K calls words old answers new
   back_from_run place (lists.had_failed f same state) = back.had_failed f same state
@@ -410,7 +410,7 @@ module _ {R : Type 0} (K : BitSource R) (calls : List WriteCall) (words bits : L
 
 module _ {R : Type 0} (K : BitSource R) (written : List WriteCall) (len : ℕ) (calls : List ReadCall) (old : R)
     (answers : Places) (new : R) where
-  -- what read calls answer that stand before written words
+  -- what read calls return that are before written encodings
   pub reads_back : All IsCall written → StandsBefore K written len old
       → calls ≡ matching_reads (accepted_calls K.order written len)
       → ((bytes : List ℕ) → (K.state old).bytes ≡ Some bytes
@@ -446,7 +446,7 @@ asks_none (b ∷ before) call behind (c ∷ calls) is free asks =
 
 module _ {R : Type 0} (K : BitSource R) (kept : List WriteCall) (words : List Bool) (old : R) (answers : Places)
     (new : R) where
-  -- a request that is refused at true ends alone is not refused here
+  -- a request that fails only at the end of input does not fail here
   pub sure_back : TrueEnds K.may → AsksNoMemory (matching_reads kept) → (K.state old).failed ≡ false
       → ReadsBack K kept words old answers new → answers ≡ answers_of kept
   sure_back ends free fine (back.had_failed f same state) = cc

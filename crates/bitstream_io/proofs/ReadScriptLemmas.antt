@@ -63,7 +63,7 @@ module _ {R A : Type 0} {K : BitSource R} {grows : Bool} (make : A → Answer) {
       → ReadOutcome K grows e s (Err x) t → ReadOutcome K grows (map_answer make e) s r t
   answered_stops r h k = exit (λ (v : A). pure (make v)) r h k
 
-  -- what is made of the answer
+  -- what is made of the result
   pub answered_as : {r : Result A Error} (q : Result Answer Error) → MatchResult r (λ x. IsOkAnd q (λ y. y ≡ make x))
       (λ x. q ≡ Err x) → ReadOutcome K grows e s r t → ReadOutcome K grows (map_answer make e) s q t
   answered_as {r = Ok _} (Ok _) is h =
@@ -135,7 +135,7 @@ module _ {R : Type 0} (K : BitSource R) where
 
   -- ---- known bits
 
-  -- the bits left behind a call that was answered
+  -- the bits left after a call that returned
   module _ {e : Decoder Answer} {answer : Result Answer Error} {old mid : R}
       (h : ReadDone K.order e (K.state old) answer (K.state mid)) (sound : is_run_too_long answer ≡ false)
       (xs : List ℕ) (known : (K.state old).bytes ≡ Some xs) where
@@ -155,7 +155,7 @@ module _ {R : Type 0} (K : BitSource R) where
               ∙ ap (λ (l : List Bool). h.word ++ (l ++ bits K.order ys)) (sym rest),
         )
 
-  -- the prefix of a call that was answered, on the bits left
+  -- the prefix of a call that returned, on the bits left
   prefix_is : {e : Decoder Answer} {answer : Result Answer Error} {old mid : R}
       (h : ReadDone K.order e (K.state old) answer (K.state mid)) (xs : List ℕ) → (K.state old).bytes ≡ Some xs
       → e.reads (K.state old).taken ((K.state old).queue ++ bits K.order xs) ≡ Done (length h.word) answer
@@ -175,7 +175,7 @@ module _ {R : Type 0} (K : BitSource R) where
       ≡ (K.state old).refusals)
       (step : read_sequence (read_decoders K.order (call ∷ calls)) (K.state old).taken bits_old
       ≡ (answer, (K.state mid).taken) ∷ read_sequence (read_decoders K.order calls) (K.state mid).taken bits_mid) where
-    -- behind a call that was answered, what the others do
+    -- after a call that returned, what the others do
     behind_one : ReadsSequence K calls bits_mid mid places new
         → ReadsSequence K (call ∷ calls) bits_old old (Some answer ∷ places) new
     behind_one (lists.had_failed f same state) = cc
@@ -257,7 +257,7 @@ module _ {R : Type 0} (K : BitSource R) where
       (ap (λ (s : ReaderState). s.refusals) z.1 ∙ h.refusals)
       (ap₂ (λ (x : Result Answer Error) (l : List (Option (Result Answer Error))). Some x ∷ l) h.answer z.0)
 
-  -- the answers on the bits left
+  -- the results on the bits left
   pub run_of : (calls : List ReadCall) (old : R) (places : List (Option (Result Answer Error))) (new : R)
       → ReadsEach K calls old places new → (xs : List ℕ) → (K.state old).bytes ≡ Some xs
       → ReadsSequence K calls ((K.state old).queue ++ bits K.order xs) old places new

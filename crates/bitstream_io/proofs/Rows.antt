@@ -39,7 +39,7 @@ answers : answers_of (accepted_calls High calls 0)
 unfolding calls digits unsigned
 answers = refl
 
--- their words, and then a bit more
+-- their encodings, and then a bit more
 left : List Bool
 left = true ∷ false ∷ true ∷ true ∷ true ∷ false ∷ false ∷ false ∷ true ∷ []
 

@@ -138,7 +138,7 @@ module _ {S : Type 0} (K : Sink S) (o : Order) (calls : List WriteCall) (old : S
             ∙ ap (λ (n : ℕ). K.len old + n) one.1,
       )
 
--- ---- behind other bits
+-- ---- after other bits
 
 -- two places, at which the call appends the same
 abbrev Meets : WriteCall → ℕ → ℕ → Type 0
@@ -161,7 +161,7 @@ module _ (o : Order) where
       omega arith in e)
   same_decoder _ m n h = refl
 
-  -- a call, and others behind it
+  -- a call, and others after it
   one_more : (c : WriteCall) (calls : List WriteCall) (m n : ℕ) → write_encoder o c m ≡ write_encoder o c n
       → (let k = length (accepted_bits (write_encoder o c n)) in write_sequence (write_encoders None o calls) (m + k)
       ≡ write_sequence (write_encoders None o calls) (n + k))

@@ -37,7 +37,7 @@ write_refusals-append (e ∷ es) fs len =
     ap (λ (u : List (Option Error)). refusal_if_any (e len) ∷ u) (write_refusals-append es fs (len + length w)
     ∙ ap (λ (p : ℕ). write_refusals es (len + length w) ++ write_refusals fs p) place)
 
--- the last call's word, and its answer
+-- the last call's encoding, and its result
 pub write_sequence-last : (es : List Encoder) (e : Encoder) (len n : ℕ) → n ≡ len + length (write_sequence es len)
     → write_sequence (es ++ e ∷ []) len ≡ write_sequence es len ++ accepted_bits (e n)
 write_sequence-last es e len n at =
@@ -72,7 +72,7 @@ pub failed_or_not : (b : Bool) → (b ≡ true) ⊎ (b ≡ false)
 failed_or_not true = inl refl
 failed_or_not false = inr refl
 
--- as many answers and one more
+-- as many results and one more
 answers_more : (n m : ℕ) (answer : Option Error) → m ≡ n + 1 → replicate n answer ++ answer ∷ [] ≡ replicate m answer
 answers_more n m answer is = replicate-append-replicate n 1 answer ∙ ap (λ (k : ℕ). replicate k answer) (sym is)
 
@@ -105,7 +105,7 @@ module _ {S : Type 0} (K : Sink S) where
 
   module _ (es : List Encoder) (e : Encoder) (old mid new : S) (answers : List (Option Error))
       (answer : Option Error) where
-    -- a call behind others that were done, whose word was appended or which was not accepted
+    -- a call after others that were done, whose encoding was appended or which was not accepted
     done_more : (x : Result (List Bool) Error) → K.failed old ≡ false → answers ≡ write_refusals es (K.len old)
         → Appended K old (write_sequence es (K.len old)) mid
         → limit_encoder K.limit e (K.len mid) ≡ x → answer ≡ refusal_if_any x → Appended K mid (accepted_bits x) new
@@ -134,7 +134,7 @@ module _ {S : Type 0} (K : Sink S) where
           references = k.references;
         })
 
-    -- a call behind others that were done
+    -- a call after others that were done
     more_done : {T : Type 0} (r : Result T Error) → K.failed old ≡ false → answers ≡ write_refusals es (K.len old)
         → Appended K old (write_sequence es (K.len old)) mid
         → Writes K e mid r new → answer ≡ result_err r
@@ -151,7 +151,7 @@ module _ {S : Type 0} (K : Sink S) where
     more_done r f same a (was_done x d p en wi re k) is =
         done_more (Ok x) f same a (limited-ok K.limit e (K.len mid) x en wi) (is ∙ ap result_err re) k
 
-    -- a call behind others
+    -- a call after others
     pub run_more : {T : Type 0} (r : Result T Error) → WritesSequence K es old answers mid → Writes K e mid r new → answer
         ≡ result_err r → WritesSequence K (es ++ limit_encoder K.limit e ∷ []) old (answers ++ answer ∷ []) new
     run_more r (script.had_failed f all k) w is =
@@ -177,7 +177,7 @@ module _ {S : Type 0} (K : Sink S) where
 
 -- ---- lengths
 
--- writes to a new sink that all answered `Ok` have as many bits as it then counts
+-- writes to a new sink that all returned `Ok` have as many bits as it then counts
 pub counted : {S : Type 0} (K : Sink S) (es : List Encoder) (old new : S) → K.failed old ≡ false → K.len old ≡ 0
     → WritesAll K es old (Ok tt) new → K.len new ≡ length (write_sequence es 0)
 counted K es old new sound none all =

@@ -1,3 +1,4 @@
+pub mod Buffered
 pub mod Callers
 pub mod Golomb
 pub mod Loop

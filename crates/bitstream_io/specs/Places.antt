@@ -1,4 +1,4 @@
--- Places in bytes in memory, as the states of a reader of bits.
+-- Bit positions in a slice of bytes, as the states of a reader of bits.
 use Rattle.std.specs.Prelude.{◌≡◌, ℕ, ◌*◌, ◌/◌, ◌%◌, ◌≤◌, false, List, length, drop}
 use Rattle.bitstream_number.specs.Word.{Order}
 use Rattle.bitstream_order.specs.Refusal.{Refusal}
@@ -11,7 +11,7 @@ use Rattle.bitstream_io.specs.PlaceLaws.{within_byte, byte_there}
 use Rattle.bitstream_stream.specs.declared.read.slice_reader.SliceReader.{SliceReader}
 use Rattle.bitstream_io.specs.declared.symbols.spot.Spot.{Spot}
 
--- a place in bits in these bytes, and the refusals of the reader that is there
+-- a bit position in these bytes, and the I/O errors of the reader that is there
 pub record Place : Type 0 where
   pub bytes : List ℕ
   pub bit : ℕ
@@ -34,7 +34,7 @@ place_source o = record {
   empties = λ p. state_empties o p.bytes (drop (p.bit / 8) p.bytes) (p.bit % 8) false p.refusals;
 }
 
--- the place of a spot, in a reader with these refusals
+-- the place of a spot, in a reader with these I/O errors
 abbrev pub spot_place : Spot → List Refusal → Place
 spot_place s refusals = record { bytes = s.bytes.now; bit = s.place; within = s.within; refusals = refusals }
 

@@ -104,7 +104,7 @@ answer_of Align = answer.Done
 abbrev pub answers_of : List WriteCall → List (Option (Result Answer Error))
 answers_of calls = map (λ call. Some (Ok (answer_of call))) calls
 
--- The bits left of a reader begin with the words of these calls, as they are written after `len` bits. The
+-- The bits left of a reader begin with the encodings of these calls, as they are written after `len` bits. The
 -- number of bits that the reader has taken is `len`, or differs from it by whole bytes.
 pub record StandsBefore {R : Type 0} (K : BitSource R) (calls : List WriteCall) (len : ℕ) (reader : R) : Type 0 where
   pub bytes : List ℕ
@@ -113,10 +113,10 @@ pub record StandsBefore {R : Type 0} (K : BitSource R) (calls : List WriteCall) 
   pub begins : (K.state reader).queue ++ bits K.order bytes ≡ write_sequence (write_encoders None K.order calls) len ++ more
   pub place : (K.state reader).taken % 8 ≡ len % 8
 
--- The results of the matching reads of calls that wrote these words, if the bits left begin with them. A reader
+-- The results of the matching reads of calls that wrote these encodings, if the bits left begin with them. A reader
 -- that had failed is unchanged. Else each read returns the value that was written; or this holds up to a read
--- whose request or memory was refused, and each later read returns the same as on a failed reader. No request
--- is refused at a true end.
+-- whose request or allocation failed, and each later read returns the same as on a failed reader. No request
+-- fails at the end of input.
 pub data ReadsBack {R : Type 0} (K : BitSource R) (calls : List WriteCall) (words : List Bool) (old : R)
     (answers : List (Option (Result Answer Error))) (new : R) : Type 0 where
   had_failed : (K.state old).failed ≡ true

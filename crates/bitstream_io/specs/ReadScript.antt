@@ -97,7 +97,7 @@ pub data ReadsSequence {R : Type 0} (K : BitSource R) (calls : List ReadCall) (b
       → answers ≡ sequence_answers first ++ Some (Err RunTooLong) ∷ failed_answers K.order behind
       → (K.state new).taken ≡ place
       → ReadsSequence K calls bits old answers new
-  -- This holds up to a call whose request was refused, at a true end only if it has no prefix; each later call
+  -- This holds up to a call whose request failed, at the end of input only if it has no prefix; each later call
   -- returns the same as on a failed reader.
   was_refused : (before : List ReadCall) (call : ReadCall) (behind : List ReadCall)
       (first others : List (Result Answer Error × ℕ)) (refusal : Refusal)
@@ -108,7 +108,7 @@ pub data ReadsSequence {R : Type 0} (K : BitSource R) (calls : List ReadCall) (b
       → (IsTrueEnd refusal → others ≡ [])
       → answers ≡ sequence_answers first ++ Some (Err (read_refusal_of refusal.kind)) ∷ failed_answers K.order behind
       → ReadsSequence K calls bits old answers new
-  -- This holds up to a call whose memory was refused; each later call returns the same as on a failed reader.
+  -- This holds up to a call whose allocation failed; each later call returns the same as on a failed reader.
   memory_refused : (before : List ReadCall) (call : ReadCall) (behind : List ReadCall)
       (first others : List (Result Answer Error × ℕ))
       → (K.state old).failed ≡ false → (K.state new).failed ≡ true

@@ -39,13 +39,13 @@ AlignsNowhere [] = ⊤
 AlignsNowhere (Align ∷ calls) = ⊥
 AlignsNowhere (_ ∷ calls) = AlignsNowhere calls
 
--- the length of a call's word in bits, or its error
+-- the length of a call's encoding in bits, or its error
 abbrev pub word_size : Result (List Bool) Error → Result ℕ Error
 word_size (Ok word) = Ok (length word)
 word_size (Err error) = Err error
 
--- a word after `len` bits, or the error of its call, if there is a limit: a word that would pass it is not
--- accepted
+-- an encoding after `len` bits, or the error of its call, if there is a limit: an encoding that would exceed it is
+-- not accepted
 abbrev pub within_limit : Option ℕ → ℕ → Result (List Bool) Error → Result (List Bool) Error
 within_limit None len result = result
 within_limit (Some most) len (Err error) = Err error
@@ -61,8 +61,7 @@ write_encoders limit o calls = map (λ c. limit_encoder limit (write_encoder o c
 
 -- The effect of write calls on a sink, all made in order, from their encoders. A sink that had failed is
 -- unchanged. Else the write sequence is appended, and each call returns the result of its encoder; or this
--- holds up to a call with a refused request, which returns the error of the refusal, and each later call
--- returns `Failed`.
+-- holds up to a call with a failed request, which returns the I/O error, and each later call returns `Failed`.
 pub data WritesSequence {S : Type 0} (K : Sink S) (encoders : List Encoder) (old : S)
     (answers : List (Option Error)) (new : S) : Type 0 where
   had_failed : K.failed old ≡ true → answers ≡ replicate (length encoders) (Some Failed) → Kept K old new
@@ -78,8 +77,8 @@ pub data WritesSequence {S : Type 0} (K : Sink S) (encoders : List Encoder) (old
       → Appended K old (write_sequence encoders (K.len old)) new
       → WritesSequence K encoders old answers new
 
--- write calls on a sound sink that stays sound return the results of these encoders, and it grows by the
--- lengths of their words, if its limit holds the sum
+-- Suppose that a sink has not failed before or after write calls, and that its limit holds all their encodings.
+-- Then the calls return the results of these encoders, and the sink grows by the length of the encodings.
 abbrev pub Counts : {S : Type 0} → Sink S → List Encoder → S → List (Option Error) → S → Type 0
 Counts K encoders old answers new =
     K.failed old ≡ false → K.failed new ≡ false → IsWithin K.limit (K.len old + length (write_sequence encoders (K.len old)))

@@ -1,4 +1,4 @@
--- Windows of ten bits, and the word with which each begins.
+-- Windows of ten bits, and the code word with which each begins.
 use Rattle.std.specs.Prelude.{◌≡◌, ℕ, ◌+◌, ◌-◌, ◌*◌, ◌^◌, ◌<◌, ◌≤◌, Bool, List, Some, Ok, length, take, drop, nat_le, nat_lt, slice_get, if◌then◌else◌}
 use Rattle.bitstream_count.specs.Codec.{Prefix, Incomplete, Done}
 use Rattle.bitstream_number.specs.Word.{Order, High, Low, word, bits}
@@ -10,7 +10,7 @@ use Rattle.bitstream_io.specs.declared.symbols.Found.{Found}
 abbrev pub window_word : ℕ → List Bool
 window_word k = if nat_lt k 1024 then word High 10 k else word Low 10 (k - 1024)
 
--- what a window begins with: a word of at most ten bits and its symbol, or a longer word
+-- what a window begins with: a code word of at most ten bits and its symbol, or a longer code word
 abbrev pub found_prefix : {S : Type 0} → Found S → Prefix S
 found_prefix f = if nat_le f.bits 10 then Done f.bits (Ok f.symbol) else Incomplete
 

@@ -6,11 +6,11 @@
 //!
 //! - [`compat`]: the current calls under their older names
 //! - [`golomb`]: exponential Golomb numbers
-//! - [`script`]: lists of calls as values, which are made one after another
+//! - [`script`]: calls as values, and lists of calls that are made in order
 //! - [`symbols`]: many symbols of a prefix code, read by a table
 //! - [`error`]: the error of a call
 //! - [`number`]: integer types as numbers, and numbers of bits as types
-//! - [`count`]: counts of bits, and values that are known to fit one
+//! - [`count`]: counts of bits, and values that are known to fit a count
 //! - [`integer`]: types whose values are read and written as bits
 //! - [`huffman`]: prefix codes
 //! - [`order`]: the two orders of bits
@@ -34,6 +34,7 @@
 //! ```
 #![tactic(auto)]
 
+mod buffered;
 pub mod compat;
 pub mod golomb;
 pub mod script;
@@ -51,7 +52,7 @@ pub mod number {
     };
 }
 
-/// Counts of bits, and values that are known to fit one.
+/// Counts of bits, and values that are known to fit a count.
 pub mod count {
     pub use bitstream_count::count::{
         BitCount, Checked, CheckedError, CheckedSigned, CheckedSignedFixed, CheckedUnsigned,
@@ -66,7 +67,7 @@ pub mod integer {
     pub use bitstream_value::integer::{Integer, VBRInteger};
 }
 
-/// Prefix codes: each symbol is a word of bits, and no word is the beginning of another.
+/// Prefix codes: each symbol has a code word of bits, and no code word is a prefix of another.
 pub mod huffman {
     pub use bitstream_value::huffman::{
         FromBits, HuffmanTree, LimitedUnary, NextBit, PutBit, SymbolWords, ToBits,
@@ -80,6 +81,7 @@ pub mod order {
 
 /// Reading bits.
 pub mod read {
+    pub use crate::buffered::Buffered;
     pub use bitstream_order::streams::lent::Lent;
     pub use bitstream_order::streams::seek::SeekSource;
     pub use bitstream_order::streams::slice::Slice;
@@ -177,8 +179,8 @@ pub use integer::{Integer, VBRInteger};
 pub use number::{Bits, Buffer, Numeric, Primitive, SignedInteger, UnsignedInteger, Width};
 pub use order::{BE, BigEndian, Endianness, LE, LittleEndian};
 pub use read::{
-    BitRead, BitReadExt, BitReader, FromBitStream, FromBitStreamUsing, FromBitStreamWith, Lent,
-    SeekSource, Slice, SliceReader, Source,
+    BitRead, BitReadExt, BitReader, Buffered, FromBitStream, FromBitStreamUsing, FromBitStreamWith,
+    Lent, SeekSource, Slice, SliceReader, Source,
 };
 pub use symbols::{ReadSymbols, SymbolTable};
 pub use write::{

@@ -1,4 +1,4 @@
-//! Lists of calls, which are made one after another.
+//! Calls as values, and lists of calls that are made in order.
 
 mod answers;
 mod byte_list;

@@ -1,4 +1,4 @@
-//! Symbols of prefix codes by a table, which finds a word of at most ten bits at once.
+//! Symbols of prefix codes by a table, which finds a code word of at most ten bits at once.
 ghost use Rattle.std.specs.Prelude.{◌≡◌, length};
 ghost use Rattle.bitstream_value.specs.HuffmanTree.{tree_of};
 ghost use Rattle.bitstream_io.specs.Windows.{FindsAll};
@@ -13,18 +13,18 @@ use bitstream_order::order::Endianness;
 use bitstream_value::huffman::HuffmanTree;
 use std::alloc::{AllocError, Allocator};
 
-/// The symbol with whose word a window of ten bits begins.
+/// The symbol whose code word begins a window of ten bits.
 #[derive(Clone, Copy, Drop)]
 struct Found<S> {
     symbol: S,
-    // The number of bits of the word. If it is above 10, the word is longer than the window, and the
-    // symbol means nothing.
+    // The number of bits of the code word. If it is above 10, the code word is longer than the window,
+    // and the symbol has no meaning.
     bits: u8,
 }
 
-/// The table of a tree: for each ten bits, the symbol with whose word they begin. By
-/// [`read_symbols`](ReadSymbols::read_symbols) it reads symbols from bytes in memory without a walk down the tree
-/// for each. The tree still reads the words of more than ten bits.
+/// The table of a tree. For each window of ten bits, it holds the symbol whose code word begins the window.
+/// [`read_symbols`](ReadSymbols::read_symbols) reads symbols from bytes in memory by the table, without a walk
+/// down the tree for each. The tree still reads the code words of more than ten bits.
 ///
 /// # Examples
 ///
@@ -56,13 +56,14 @@ impl<'a, S: Copy + Eq + Default, A: Allocator> SymbolTable<'a, S, A> {
     ghost use Rattle.std.specs.Prelude.{IfOk};
     ghost use Rattle.bitstream_io.specs.SymbolTable.{table_entries, table_tree};
 
-    /// Makes the table of a tree. This reads one symbol for each of 2048 windows of ten bits.
+    /// Makes the table of a tree. This reads one symbol for each of 2048 windows: 1024 numbers of ten bits, in
+    /// each of the two orders of bits.
     ///
     /// # Errors
     ///
     /// `AllocError` if an allocation fails.
     pub fn of(alloc: A, tree: &'a HuffmanTree<S, A>) -> Result<SymbolTable<'a, S, A>, AllocError>
-        // It is the table of this tree.
+        // The result is the table of this tree.
         ensures tree { IfOk result (λ table. table_tree table ≡ tree_of tree.now) }
         // Each entry states what this tree reads from the ten bits of its window.
         ensures entries { IfOk result (λ table. FindsAll (tree_of tree.now) (table_entries table)) }
@@ -88,12 +89,13 @@ impl<S: Copy + Eq, A: Allocator> SymbolTable<'_, S, A> {
         self.tree
     }
 
-    /// Returns the symbol with whose word ten bits begin, and the number of bits of the word. Returns `None`
-    /// if the word has more than ten bits. `window` is the number of the ten bits in the order E.
+    /// Returns the symbol whose code word begins a window of ten bits, and the number of bits of the code word.
+    /// Returns `None` if the code word has more than ten bits. `window` is the number of the ten bits in the
+    /// order E.
     #[inline(always)]
     pub fn find<E: Endianness>(&self, window: u64) -> Option<(S, u32)>
         requires { window < 2 ^ 10 }
-        // The word has at most ten bits, begins the window, and is the path to the symbol.
+        // The code word has at most ten bits, begins the window, and is the path to the symbol.
         ensures some { IfSome result (λ found. (found.1 ≤ 10)
             × IsPath (table_tree self.now) (take found.1 (word E.order 10 window)) found.0) }
         // If `None` is returned, no path of at most ten bits begins the window.

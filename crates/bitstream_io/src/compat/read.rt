@@ -22,8 +22,8 @@ use std::alloc::Allocator;
 ///
 /// # Errors
 ///
-/// Each call returns the same result as the current call that its comment names, and leaves the
-/// reader in the same state.
+/// The comment of each call names a current call. Both return the same result, and leave the reader
+/// in the same state.
 ///
 /// # Examples
 ///
@@ -111,7 +111,7 @@ pub trait BitRead2 {
     fn byte_align(&mut self)
         ensures reads { Reads source align_decoder self.old (Ok tt) self.new };
 
-    /// Reads the word of a symbol of a prefix code, as [`BitReadExt::read_huffman`].
+    /// Reads the code word of a symbol of a prefix code, as [`BitReadExt::read_huffman`].
     fn read_huffman<T: FromBits>(&mut self, code: &T) -> Result<T::Symbol, Error>
         ensures reads { Reads source (T.decoder code.now) self.old result self.new };
 

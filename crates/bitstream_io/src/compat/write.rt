@@ -21,8 +21,8 @@ use bitstream_value::write::BitWriteExt;
 ///
 /// # Errors
 ///
-/// Each call returns the same result as the current call that its comment names, and leaves the
-/// sink in the same state.
+/// The comment of each call names a current call. Both return the same result, and leave the sink in
+/// the same state.
 ///
 /// # Examples
 ///
@@ -116,7 +116,7 @@ pub trait BitWrite2 {
     fn byte_align(&mut self) -> Result<(), Error>
         ensures writes { Writes sink align self.old result self.new };
 
-    /// Writes the word of a symbol of a prefix code, as [`BitWriteExt::write_huffman`].
+    /// Writes the code word of a symbol of a prefix code, as [`BitWriteExt::write_huffman`].
     fn write_huffman<T: ToBits>(&mut self, code: &T, symbol: T::Symbol) -> Result<(), Error>
         ensures writes { WritesAll sink (bit_by_bit (T.word code.now symbol))
             self.old result self.new };

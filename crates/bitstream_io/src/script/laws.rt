@@ -25,8 +25,8 @@ use crate::script::write_call::WriteCall;
 use bitstream_stream::read::BitRead;
 use bitstream_stream::write::BitWrite;
 
-/// A call's word has one length in both orders of bits. A call that is rejected in one order is
-/// rejected in the other, with the same error.
+/// The encoding of a call has the same length in both orders of bits. A call that is rejected in one order
+/// is rejected in the other, with the same error.
 pub fn words_have_one_length()
     ensures { (o p : Order) (call : WriteCall) (len : ℕ)
         → word_size (write_encoder o call len) ≡ word_size (write_encoder p call len) }
@@ -44,7 +44,7 @@ pub fn played_calls_are_direct_calls()
 /// Making the calls of two lists, one after the other, is the same as making the calls of the
 /// joined list.
 pub fn write_sequences_join()
-    // The words of the first list come first, and then the words of the second, from the length
+    // The encodings of the first list come first, and then the encodings of the second, from the length
     // reached.
     ensures words { (o : Order) (first second : List WriteCall) (len : ℕ)
         → let words = write_sequence (write_encoders None o first) len in
@@ -142,7 +142,7 @@ pub fn written_words_are_read()
     // It is read back by the lenient read, too.
     ensures any_vbr { (o : Order) (field size limit v : ℕ) → 2 ≤ field → 0 < size → limit ≤ 2 ^ size
         → v < limit → IsReadAs (vbr o field v ∷ []) (any_vbr_decoder o field size limit) v }
-    // A signed number of the type is read back from its groups by the strict read.
+    // A signed number that fits `size` bits is read back from its groups by the strict read.
     ensures signed_vbr { (o : Order) (field size : ℕ) (x : ℤ) → 2 ≤ field → 0 < size
         → FitsSignedBits size x
         → IsReadAs (signed_vbr o field x ∷ []) (signed_vbr_decoder o field size) x }
@@ -152,12 +152,13 @@ pub fn written_words_are_read()
         → IsReadAs (signed_vbr o field x ∷ []) (any_signed_vbr_decoder o field size) x }
 {}
 
-/// The same holds for the types of values: a value is read back from the words of its writes. In 0
-/// bits a `NonZero` is read as 1, and an `Option` as `None`.
+/// A `bool`, a `NonZero`, an `Option` of a `NonZero`, a checked value, an array or a symbol is read back from
+/// the encodings of its writes, at any place and whatever follows. In 0 bits a `NonZero` is read as 1, and an
+/// `Option` as `None`.
 pub fn written_values_are_read<A>()
     // A `bool` is read back from one bit.
     ensures bool { (b : Bool) → IsReadAs (truth 1 b ∷ []) (truth_decoder 1) b }
-    // A `NonZero` whose number minus 1 fits n bits, fewer than its type has, is read back. A
+    // A `NonZero` is read back if its number minus 1 fits n bits, and its type has more than n bits. A
     // `NonZero` written in 0 bits is read as 1.
     ensures non_zero { (after : ℕ → A) (o : Order) (size n v : ℕ) → n < size
         → (v - 1 < 2 ^ n) ⊎ (n ≡ 0)
@@ -169,12 +170,12 @@ pub fn written_values_are_read<A>()
         → (v < 2 ^ n) ⊎ (n ≡ 0)
         → IsReadAs (unsigned o size n v ∷ []) (option_decoder after o size n)
         (if_any after (value_in n v)) }
-    // A `NonZero` of the type is read back from groups of bits.
+    // A `NonZero` that fits `size` bits is read back from its groups.
     ensures non_zero_vbr { (after : ℕ → A) (o : Order) (field size v : ℕ) → 2 ≤ field → 0 < size
         → v - 1 < 2 ^ size - 1
         → IsReadAs (vbr o field (v - 1) ∷ []) (non_zero_vbr_decoder after o field size)
         (after (v - 1)) }
-    // An `Option` of a `NonZero` of the type is read back from groups of bits.
+    // An `Option` of a `NonZero` that fits `size` bits is read back from its groups.
     ensures option_vbr { (after : ℕ → A) (o : Order) (field size v : ℕ) → 2 ≤ field → 0 < size
         → v < 2 ^ size
         → IsReadAs (vbr o field v ∷ []) (option_vbr_decoder after o field size) (if_any after v) }
@@ -189,7 +190,7 @@ pub fn written_values_are_read<A>()
     ensures array { (decoder : Decoder A) (writes : A → List Encoder) (items : List A)
         → All (λ x. IsReadAs (writes x) decoder x) items
         → IsReadAs (flat_map writes items) (items_decoder decoder (length items)) items }
-    // A symbol that has a word is read back as a symbol that is the same.
+    // A symbol that has a code word is read back as an equal symbol.
     ensures symbol { (same : A → A → Bool) (t : Tree A) (s : A) (w : List Bool)
         → first_path same t s ≡ Some w
         → (x : A) × (same x s ≡ true) × IsReadAs (bit_by_bit w) (path_decoder t) x }
@@ -198,8 +199,8 @@ pub fn written_values_are_read<A>()
         → IsReadAs (bit_by_bit (limited_unary stop most v)) (path_decoder (limited_tree stop 0 most)) v }
 {}
 
-/// If one read reads back the words of some calls, and another the words of others, then the two
-/// reads, one after the other, read back the words of all these calls.
+/// If one read reads back the encodings of some calls, and a second read the encodings of others, then the
+/// two reads, one after the other, read back the encodings of all these calls.
 pub fn written_parts_are_read<A, B>()
     ensures { (first : Decoder A) (next : A → Decoder B) (a : A) (b : B)
         (writes others : List Encoder)

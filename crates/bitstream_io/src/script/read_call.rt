@@ -42,9 +42,9 @@ pub enum ReadCall {
     Vbr4,
     /// An unsigned number of variable width, in groups of 8 bits.
     Vbr8,
-    /// An unsigned number of variable width, in groups of 4 bits, which may end in groups of 0.
+    /// An unsigned number of variable width, in groups of 4 bits. Its last groups may be 0.
     AnyVbr4,
-    /// An unsigned number of variable width, in groups of 8 bits, which may end in groups of 0.
+    /// An unsigned number of variable width, in groups of 8 bits. Its last groups may be 0.
     AnyVbr8,
     /// A signed number of variable width, in groups of 4 bits.
     SignedVbr4,

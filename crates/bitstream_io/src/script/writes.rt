@@ -10,8 +10,8 @@ use bitstream_stream::write::BitWrite;
 /// Makes all calls in order, even after one that failed, and stores the result of each call in its
 /// place in `answers`: `None` if it succeeded, and otherwise its error.
 ///
-/// The words of the calls that succeed are appended, each at the length reached before it. A call
-/// that is rejected for its width or value, or that would pass a counter's limit, appends nothing,
+/// The encodings of the calls that succeed are appended, each at the length reached before it. A call
+/// that is rejected for its width or value, or that would exceed a counter's limit, appends nothing,
 /// and the later calls are still made. At the first I/O error or failed allocation, the call
 /// returns that error, and each later call returns `Failed`.
 pub fn write_calls<W: BitWrite>(writer: &mut W, calls: &[WriteCall], answers: &mut [Option<Error>])

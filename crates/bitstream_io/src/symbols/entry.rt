@@ -51,7 +51,7 @@ fn entry_of<E: Endianness, S: Copy + Eq + Default, A: Allocator>(
 impl<S: Default> Found<S> {
     ghost use Rattle.std.specs.Prelude.{◌<◌};
 
-    /// Returns the entry of a window that begins with a longer word.
+    /// Returns the entry of a window that begins with a longer code word.
     fn longer() -> Found<S>
         ensures { 10 < result.bits }
     {

@@ -23,10 +23,10 @@ use std::io::SeekFrom;
 
 /// Reads symbols of a prefix code by the [table](SymbolTable) of its tree.
 ///
-/// A [`SliceReader`] looks ahead at the bytes in memory, and finds a word of at most ten bits at once. It reads
-/// longer words, and the words of the last eight bytes, by the tree. Read many symbols by one call: each call of
-/// it looks up its place. A [`BitReader`] reads all words by the tree, so it requests no byte before a word needs
-/// it. For a reader of your own, write an `impl` with no methods.
+/// A [`SliceReader`] looks ahead at the bytes in memory, and finds a code word of at most ten bits at once. It
+/// reads longer code words, and some code words in the last eight bytes, by the tree. Read many symbols by one
+/// call: each call of a `SliceReader` looks up its place. A [`BitReader`] reads all code words by the tree, so it
+/// requests no byte before a code word needs it. For a reader of your own, write an `impl` with no methods.
 ///
 /// # Examples
 ///
@@ -45,16 +45,16 @@ use std::io::SeekFrom;
 /// assert!(rt; matches!(reader.read_symbols(&table, &mut symbols), Err(Error::EndOfInput)));
 /// ```
 pub trait ReadSymbols: BitRead + Sized {
-    /// Reads the word of a symbol, and returns the symbol.
+    /// Reads the code word of a symbol, and returns the symbol.
     ///
     /// # Errors
     ///
-    /// The errors of the reader. The errors, and the state after them, are those of a read by the tree.
+    /// The errors of the reader. A read by the tree returns the same error, and leaves the same state.
     fn read_symbol<S: Copy + Eq, A: Allocator>(
         &mut self,
         table: &SymbolTable<'_, S, A>,
     ) -> Result<S, Error>
-        // It follows the decoder of the table's tree.
+        // The read follows the decoder of the table's tree.
         ensures reads { Reads Self.source (path_decoder (table_tree table.now)) self.old result self.new }
     {
         table.tree().from_bits(self)
@@ -64,14 +64,14 @@ pub trait ReadSymbols: BitRead + Sized {
     ///
     /// # Errors
     ///
-    /// The errors of the reader. The errors, and the state after them, are those of reads by the tree, one after
-    /// another: the words before the error are taken.
+    /// The errors of the reader. Reads by the tree, one after another, return the same error and leave the same
+    /// state: the code words before the error are taken.
     fn read_symbols<S: Copy + Eq, A: Allocator>(
         &mut self,
         table: &SymbolTable<'_, S, A>,
         symbols: &mut [S],
     ) -> Result<(), Error>
-        // It follows the decoder of the table's tree, once for each symbol.
+        // The reads follow the decoder of the table's tree, once for each symbol.
         ensures reads { Reads Self.source (items_decoder (path_decoder (table_tree table.now)) (length symbols.old))
             self.old (result_map (λ _. symbols.new) result) self.new }
     {
@@ -102,7 +102,7 @@ impl<'a, E: Endianness> ReadSymbols for SliceReader<'a, E> {
     ) -> Result<(), Error> {
         let mut at = take_found(self, table, symbols, 0);
         while at < symbols.len() {
-            // A word that the table does not find: it is long, or near the end.
+            // The table does not find a code word that is long, or near the end.
             symbols[at] = table.tree().from_bits(self)?;
             at = take_found(self, table, symbols, at + 1);
         }
@@ -138,13 +138,13 @@ fn go_to<E: Endianness>(reader: &mut SliceReader<'_, E>, spot: &Spot<'_>)
     let _sought = reader.seek_bits(SeekFrom::Start(spot.place as u64));
 }
 
-/// Takes a word if the table finds it, and returns its symbol.
+/// Takes a code word if the table finds it, and returns its symbol.
 #[inline]
 fn take_one<E: Endianness, S: Copy + Eq, A: Allocator>(
     reader: &mut SliceReader<'_, E>,
     table: &SymbolTable<'_, S, A>,
 ) -> Option<S>
-    // A word that is taken is what the tree's decoder reads.
+    // A code word that is taken is the one that the tree's decoder reads.
     ensures some { IfSome result (λ symbol. Reads (memory_source E.order)
         (path_decoder (table_tree table.now)) reader.old (Ok symbol) reader.new) }
     // If `None` is returned, the reader is where it was.
@@ -157,8 +157,8 @@ fn take_one<E: Endianness, S: Copy + Eq, A: Allocator>(
     symbol
 }
 
-/// Takes words as long as the table finds them, and writes their symbols from an index on. Returns the index
-/// after the last one.
+/// Takes code words as long as the table finds them, and stores their symbols from an index on. Returns the
+/// index after the last symbol.
 fn take_found<E: Endianness, S: Copy + Eq, A: Allocator>(
     reader: &mut SliceReader<'_, E>,
     table: &SymbolTable<'_, S, A>,
@@ -168,8 +168,8 @@ fn take_found<E: Endianness, S: Copy + Eq, A: Allocator>(
     requires { from ≤ length symbols.old }
     ensures after { from ≤ result }
     ensures within { result ≤ length symbols.old }
-    // If the symbols before the index were read from some state up to here, then now all up to the result are
-    // read from there.
+    // Suppose that the symbols before the index were read from an earlier state up to this one. Then the symbols
+    // before the returned index are read from that earlier state.
     ensures reads { (start : SliceReader E)
         → Reads (memory_source E.order) (items_decoder (path_decoder (table_tree table.now)) from)
         start (Ok (take from symbols.old)) reader.old

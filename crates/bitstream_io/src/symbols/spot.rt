@@ -1,11 +1,11 @@
-//! A place in bytes, from which symbols are found by a table.
+//! A position in bytes, from which a table finds symbols.
 ghost use Rattle.std.specs.Prelude.{◌*◌, ◌<◌, ◌≤◌, ◌^◌, length};
 
 use crate::symbols::SymbolTable;
 use bitstream_order::order::Endianness;
 use std::alloc::Allocator;
 
-/// A place in bytes, in bits.
+/// Some bytes with a position in them, in bits.
 #[derive(Drop)]
 pub(super) struct Spot<'a> {
     pub(super) bytes: &'a [u8],
@@ -24,7 +24,7 @@ impl<'a> Spot<'a> {
     ghost use Rattle.bitstream_io.specs.SymbolTable.{table_tree};
     ghost use Rattle.bitstream_io.specs.Windows.{IsEight};
 
-    /// Returns the eight bytes from the place's byte on as a number, if they are there.
+    /// Returns the eight bytes from the place's byte on as a number, or `None` if there are fewer.
     #[inline(always)]
     fn eight<E: Endianness>(&self) -> Option<u64>
         ensures { IfSome result (λ value. IsEight E.order self.now.bytes.now (self.now.place / 8) value) }
@@ -39,13 +39,13 @@ impl<'a> Spot<'a> {
         Some(E::of_bytes::<u64>(eight))
     }
 
-    /// Takes the next word, if the table finds it, and returns its symbol.
+    /// Takes the next code word, if the table finds it, and returns its symbol.
     #[inline(always)]
     pub(super) fn next<E: Endianness, S: Copy + Eq, A: Allocator>(
         &mut self,
         table: &SymbolTable<'_, S, A>,
     ) -> Option<S>
-        // A word that is taken is what the tree's decoder reads here.
+        // A code word that is taken is the one that the tree's decoder reads here.
         ensures some { IfSome result (λ symbol. (refusals : List Refusal)
             → Reads (place_source E.order) (path_decoder (table_tree table.now))
             (spot_place self.old refusals) (Ok symbol) (spot_place self.new refusals)) }
@@ -60,8 +60,8 @@ impl<'a> Spot<'a> {
         Some(symbol)
     }
 
-    /// Takes words of the next eight bytes as long as the table finds them, and writes their symbols from an index
-    /// on. Returns the index after the last one.
+    /// Takes code words of the next eight bytes as long as the table finds them, and stores their symbols from an
+    /// index on. Returns the index after the last symbol.
     #[inline(always)]
     fn fill_some<E: Endianness, S: Copy + Eq, A: Allocator>(
         &mut self,
@@ -72,8 +72,8 @@ impl<'a> Spot<'a> {
         requires { from ≤ length symbols.old }
         ensures after { from ≤ result }
         ensures within { result ≤ length symbols.old }
-        // If the symbols before the index were read from some place up to here, then now all up to the
-        // result are read from there.
+        // Suppose that the symbols before the index were read from an earlier place up to this one. Then
+        // the symbols before the returned index are read from that earlier place.
         ensures reads { (start : Place) (refusals : List Refusal)
             → Reads (place_source E.order) (items_decoder (path_decoder (table_tree table.now)) from)
             start (Ok (take from symbols.old)) (spot_place self.old refusals)
@@ -103,8 +103,8 @@ impl<'a> Spot<'a> {
         at
     }
 
-    /// Takes words as long as the table finds them, and writes their symbols from an index on. Returns the index
-    /// after the last one.
+    /// Takes code words as long as the table finds them, and stores their symbols from an index on. Returns the
+    /// index after the last symbol.
     pub(super) fn fill<E: Endianness, S: Copy + Eq, A: Allocator>(
         &mut self,
         table: &SymbolTable<'_, S, A>,
@@ -114,8 +114,8 @@ impl<'a> Spot<'a> {
         requires { from ≤ length symbols.old }
         ensures after { from ≤ result }
         ensures within { result ≤ length symbols.old }
-        // If the symbols before the index were read from some place up to here, then now all up to the
-        // result are read from there.
+        // Suppose that the symbols before the index were read from an earlier place up to this one. Then
+        // the symbols before the returned index are read from that earlier place.
         ensures reads { (start : Place) (refusals : List Refusal)
             → Reads (place_source E.order) (items_decoder (path_decoder (table_tree table.now)) from)
             start (Ok (take from symbols.old)) (spot_place self.old refusals)
