@@ -42,7 +42,7 @@ pub struct Measurement {
 ///
 /// # Errors
 ///
-/// If an allocation fails.
+/// `AllocError` if an allocation fails.
 pub fn state_code(alloc: Global) -> Result<StateCode, AllocError>
     ensures { IfOk result (λ code. tree_of code ≡ state_tree) }
 {

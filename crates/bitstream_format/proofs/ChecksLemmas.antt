@@ -1,13 +1,13 @@
 -- Checksums: after more bytes, that they fit their bits, and the steps of the loops in code.
 use Rattle.std.proofs.Common.{add-one, ◌≡◌, ◌∙◌, ℕ, zero, suc, ◌+◌, ◌-◌, ◌*◌, ◌/◌, ◌%◌, ◌^◌, ◌<◌, ◌≤◌, ◌==◌, Bool, true, false, List, [], ◌∷◌, ◌++◌, length, take, get_or, inl, inr, refl, sym, ap, subst, arith, length-append}
-use Rattle.std.specs.Prelude.{if◌then◌else◌, nat_lt, bit_xor}
+use Rattle.std.specs.Prelude.{if◌then◌else◌, min, nat_lt, bit_xor}
 use Rattle.std.proofs.lemmas.List.{length-take-le, take_more}
 use Rattle.std.proofs.lemmas.Nat.{xor_lt}
 use Rattle.std.proofs.Math.Nat.{mul-le-mul_right}
-use Rattle.std.proofs.lemmas.Bool.{cases_lt, eq-eqb, lt-ltb, le-ltb}
+use Rattle.std.proofs.lemmas.Bool.{cases_lt, eq-eqb, ne_eqb, lt-ltb, le-ltb}
 use Rattle.bitstream_io.specs.Callers.{Decoder, Encoder}
 use Rattle.bitstream_io.proofs.CallerLemmas.{RoundTrip}
-use Rattle.bitstream_format.specs.Checks.{crc16_ccitt, crc16_kermit, crc16_low_state, crc16_state, crc16_x25, crc24_adsb, crc32, crc32_mpeg, crc32_mpeg_state, crc32_state, crc_over, end_around, high_step, low_step, place16, steps, sum16, sum16_state}
+use Rattle.bitstream_format.specs.Checks.{byte_count, crc16_ccitt, crc16_kermit, crc16_low_state, crc16_state, crc16_x25, crc24_adsb, crc32, crc32_mpeg, crc32_mpeg_state, crc32_state, crc_over, end_around, high_step, low_step, place16, steps, sum16, sum16_state, sum16_udp}
 
 -- ---- after more bytes
 
@@ -134,6 +134,17 @@ sum-push first at sum next k xs i d less place so_far is =
     ∙ sym (sum-append first at (take i xs) (get_or xs i d ∷ []))
     ∙ ap (sum16_state first at) (sym (take_more xs i d less))
 
+-- ---- the number of bytes
+
+-- more bytes are counted, up to 2^64 - 1
+pub count-taken : (a b : ℕ) (xs ys : List ℕ) → a ∷ [] ≡ byte_count xs ∷ [] → b ≡ min (a + length ys) 18446744073709551615
+    → b ∷ [] ≡ byte_count (xs ++ ys) ∷ []
+count-taken a b xs ys was is =
+    let one = one-state _ _ was in
+    let long = length-append xs ys in
+    let all : b ≡ byte_count (xs ++ ys) = omega (arith, one, is, long) in
+    ap (λ n. n ∷ []) all
+
 -- ---- they fit their bits
 
 module _ (n : ℕ) (step : ℕ → ℕ) (keeps : (crc : ℕ) → crc < 2 ^ n → step crc < 2 ^ n) where
@@ -191,6 +202,16 @@ crc16_kermit-small bytes = over-fits 16 (low_step 0x8408) (low-keeps 16 0x8408 (
 
 pub sum16-small : (bytes : List ℕ) → sum16 bytes < 2 ^ 16
 sum16-small bytes = omega arith
+
+pub sum16_udp-small : (bytes : List ℕ) → sum16_udp bytes < 2 ^ 16
+sum16_udp-small bytes = grind (arith, sum16-small bytes)
+
+-- a sum of 0 is written as all ones, and another one as it is
+pub udp-none : (n : ℕ) (bytes : List ℕ) → n ≡ sum16 bytes → n ≡ 0 → 65535 ≡ sum16_udp bytes
+udp-none n bytes is none = rw (eq-eqb (sum16 bytes) 0 (sym is ∙ none)) refl
+
+pub udp-some : (n : ℕ) (bytes : List ℕ) → n ≡ sum16 bytes → (n ≡ 0 → ⊥) → n ≡ sum16_udp bytes
+udp-some n bytes is some = rw (ne_eqb (sum16 bytes) 0 (λ none. some (is ∙ none))) is
 
 -- ---- the test of a checksum
 

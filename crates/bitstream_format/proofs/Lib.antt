@@ -5,6 +5,7 @@ mod SummedRows
 pub mod WithinLemmas
 pub mod FilledLemmas
 pub mod StatedLemmas
+pub mod InGroupsLemmas
 pub mod UntilLemmas
 pub mod BlocksLemmas
 pub mod UpToLastLemmas

@@ -32,7 +32,7 @@ IsRow F value row =
     (write_sequence (F.write High value ++ align ∷ []) 0 ≡ bits High row)
     × ((F.read High).reads 0 (bits High row) ≡ Done (8 * length row) (Ok (Ok value)))
 
--- these bytes are refused by this error
+-- a read of these bytes returns this error
 abbrev Refuses : {A E : Type 0} → Own E A → List ℕ → E → Type 0
 Refuses F row err = sure_answer ((F.read High).reads 0 (bits High row)) ≡ Ok (Err err)
 

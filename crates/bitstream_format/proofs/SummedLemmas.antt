@@ -112,7 +112,7 @@ module _ {W : Type 0} (held : W → Option (List ℕ)) (references : W → List 
         ∙ ap (λ w. bits o all.bytes ++ w) (word-none o t.queue) ∙ append-nil (bits o all.bytes) in
         bytes-are o x xs (whole ∙ ap (bits o) (sym is)) (AreBytes-from xs small)
 
-    -- an alignment of a writer whose stream refuses nothing is done
+    -- an alignment of a writer whose stream never fails is done
     pub aligns : (s t : BitWriter W E) (x : Error) → ((before after : W) (n : ℕ) (kind : ErrorKind) → refuses before n kind after → ⊥)
         → has_failed s ≡ false → Writes {T = Unit {0}} K align s (Err x) t → ⊥
     aligns s t x never sound (had_failed f is k) = cc

@@ -116,7 +116,7 @@ module _ {R A E : Type 0} {K : BitSource R} {own : Error → E} {r : Result A E}
       go_grown _ (vec-grown o n read) (stored-by (fine_by o n read)
       (subst (λ q. UnlessMemory own (within (decoder q) err own ended (bits q xs)) r) (sym same) told))
 
--- ---- a write that is refused without a request
+-- ---- a write that fails without a request
 
 never_past : (limit : Option ℕ) (n : ℕ) → IsWithin limit n → IsPastLimit limit (n + 0) → ⊥
 never_past None n le past = past

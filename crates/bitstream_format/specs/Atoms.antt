@@ -1,5 +1,5 @@
 -- Formats of one line: bits, numbers and bytes, and bytes up to what ends them. Import them as a module, as in
--- `atom.unsigned 32 20 refl`: most names are those of calls.
+-- `atom.unsigned 32 20 refl`: most names are the names of calls.
 use Rattle.std.proofs.Common.{◌≡◌, ℕ, ◌-◌, ◌*◌, ◌^◌, ◌<◌, Bool, true, ℤ, List, [], ◌∷◌, length, Option}
 use Rattle.std.specs.Prelude.{nat_le, nat_lt}
 use Rattle.std.specs.List.{All}

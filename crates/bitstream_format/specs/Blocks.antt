@@ -1,4 +1,4 @@
--- Blocks of bytes, as in GIF: each behind its size in a byte, and an empty one ends them.
+-- Blocks of bytes, as in GIF: each is written after its size in a byte, and an empty block ends them.
 use Rattle.std.specs.Prelude.{◌≡◌, ℕ, zero, suc, ◌+◌, ◌*◌, ◌<◌, ◌==◌, if◌then◌else◌, List, [], ◌∷◌, ◌++◌, length, flat_map}
 use Rattle.std.specs.List.{All}
 use Rattle.bitstream_count.specs.declared.error.Error.TheVariants.{RunTooLong}
@@ -18,7 +18,7 @@ blocks_from o (suc n) found = and_then (unsigned_decoder o 64 8) (λ size.
 abbrev pub blocks_decoder : Order → Decoder (List (List ℕ))
 blocks_decoder o = blocks_from o 4294967296 []
 
--- the size that is written before a block: for an empty one a number that 8 bits do not hold, so its write is refused
+-- the size that is written before a block: for an empty one a number that does not fit 8 bits, so its write fails
 abbrev pub block_size : ℕ → ℕ
 block_size count = if count == 0 then 256 else count
 

@@ -1,4 +1,4 @@
--- Blocks of bytes: they are read back, and how long they are.
+-- Blocks of bytes: they are read back, and their length is known.
 use Rattle.std.proofs.Common.{◌≡◌, ℕ, zero, suc, ◌<◌, ◌==◌, List, [], ◌∷◌, ◌++◌, length, append_assoc, append-nil, refl, arith}
 use Rattle.std.specs.Prelude.{if◌then◌else◌}
 use Rattle.std.specs.List.{All, AllByRecursion}
@@ -50,6 +50,6 @@ module _ (o : Order) where
       (packs-is (packs-more (unsigned-written o 64 8 (length x) refl few) (packs-more (bytes-written o (length x) x refl)
       (packs-from xs fits.1))) (omega arith))
 
-  -- it is accepted, and has so many bits
+  -- it is accepted, and has the stated number of bits
   pub blocks-packs : (xs : List (List ℕ)) → All IsBlock xs → Packs (blocks_writes o xs) (blocks_size xs)
   blocks-packs xs fits = packs-from xs (recursion_from_All _ xs fits)

@@ -16,13 +16,14 @@ use Rattle.bitstream_format.specs.Format.{Format, Plain, Own}
 use Rattle.bitstream_format.specs.Atoms as atom
 use Rattle.bitstream_format.specs.Lists.{mapped, mapped-goes}
 
--- the cases of an enum, each with a number of n bits that gives it back
+-- the cases of an enum, each with a number of n bits that gives the case back
 abbrev pub cases : {A V : Type 0} {ok : A → V} (size n : ℕ) → nat_le n size ≡ true → (of : ℕ → V) (number : A → ℕ)
     → ((a : A) → nat_lt (number a) (2 ^ n) ≡ true) → ((a : A) → of (number a) ≡ ok a) → Format A V ok
 cases size n le of number small again =
     mapped (atom.unsigned size n le) of number again (λ a. ltb-true (number a) (2 ^ n) (small a))
 
--- the same of an enum with a case for the other numbers, which may hold any number
+-- the cases of an enum, one of which holds the numbers that no other case has; a value fits if its number fits n bits
+-- and gives the value back
 abbrev pub open_cases : {A : Type 0} (size n : ℕ) → nat_le n size ≡ true → (of : ℕ → A) (number : A → ℕ) → Plain A
 open_cases size n le of number = record {
   read = λ o. and_then (unsigned_decoder o size n) (λ v. pure (of v));
@@ -43,7 +44,7 @@ flat_map-map f number [] = refl
 flat_map-map f number (x ∷ xs) = ap (λ (es : List Encoder). f (number x) ++ es) (flat_map-map f number xs)
 
 module _ {A V : Type 0} (n : ℕ) (of : ℕ → V) (number : A → ℕ) (ok : A → V) where
-  -- the number of a case fits, and gives it back
+  -- the number of a case fits n bits, and gives the case back
   abbrev pub IsCase : A → Type 0
   IsCase x = (number x < 2 ^ n) × (of (number x) ≡ ok x)
 
@@ -108,13 +109,13 @@ abbrev pub cases_array : {A : Type 0} (count size n : ℕ) → nat_le n size ≡
 cases_array {A = A} count size n le of number small again =
     array_known count size n le of number (λ x. x) (λ (xs : List A). xs) (λ xs. map-id xs) small again
 
--- the same of an enum that refuses the other numbers
+-- an array of an enum whose read fails on any other number
 abbrev pub own_cases_array : {A E : Type 0} (count size n : ℕ) → nat_le n size ≡ true → (of : ℕ → Result A E) (number : A → ℕ)
     → ((a : A) → nat_lt (number a) (2 ^ n) ≡ true) → ((a : A) → of (number a) ≡ Ok a) → Own E (List A)
 own_cases_array count size n le of number small again =
     array_known count size n le of number (λ x. Ok x) all_ok (λ xs. all_ok-items xs) small again
 
--- the same of an enum with a case for the other numbers
+-- an array of an enum with a case for the other numbers
 abbrev pub open_cases_array : {A : Type 0} (count size n : ℕ) → nat_le n size ≡ true → (of : ℕ → A) (number : A → ℕ)
     → Plain (List A)
 open_cases_array {A = A} count size n le of number =

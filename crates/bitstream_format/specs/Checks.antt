@@ -1,12 +1,12 @@
 -- Checksums of bytes, as `./format` prints them: cyclic redundancy checks, and the Internet checksum.
-use Rattle.std.specs.Prelude.{ℕ, zero, suc, ◌+◌, ◌-◌, ◌*◌, ◌/◌, ◌%◌, ◌==◌, nat_lt, if◌then◌else◌, List, [], ◌∷◌, bit_xor}
+use Rattle.std.specs.Prelude.{ℕ, zero, suc, ◌+◌, ◌-◌, ◌*◌, ◌/◌, ◌%◌, ◌==◌, min, nat_lt, if◌then◌else◌, List, [], ◌∷◌, length, bit_xor}
 
 -- A remainder of n bits times x: its bits go up by one place, and if x^n comes out, the polynomial takes it away. `half` is
 -- the number of the highest place.
 abbrev pub high_step : ℕ → ℕ → ℕ → ℕ
 high_step half polynomial crc = if nat_lt crc half then 2 * crc else bit_xor (2 * (crc - half)) polynomial
 
--- a remainder times x, if its bits and those of the polynomial stand in the opposite order
+-- a remainder times x, if its bits and the bits of the polynomial are in the opposite order
 abbrev pub low_step : ℕ → ℕ → ℕ
 low_step polynomial crc = if crc % 2 == 0 then crc / 2 else bit_xor (crc / 2) polynomial
 
@@ -25,19 +25,19 @@ crc_over step scale crc (byte ∷ bytes) = crc_over step scale (steps step 8 (bi
 abbrev pub crc32_state : ℕ → List ℕ → ℕ
 crc32_state crc bytes = crc_over (low_step 0xEDB88320) 1 crc bytes
 
--- that of the CRC-32 of MPEG-2
+-- the remainder of the CRC-32 of MPEG-2 after more bytes
 abbrev pub crc32_mpeg_state : ℕ → List ℕ → ℕ
 crc32_mpeg_state crc bytes = crc_over (high_step 0x80000000 0x04C11DB7) 0x1000000 crc bytes
 
--- that of the CRC-24 of Mode S, in the highest 24 of 32 bits; the others are 0
+-- the remainder of the CRC-24 of Mode S after more bytes, in the highest 24 of 32 bits; the others are 0
 abbrev pub crc24_state : ℕ → List ℕ → ℕ
 crc24_state crc bytes = crc_over (high_step 0x80000000 0xFFF40900) 0x1000000 crc bytes
 
--- that of a CRC-16
+-- the remainder of a CRC-16 after more bytes
 abbrev pub crc16_state : ℕ → List ℕ → ℕ
 crc16_state crc bytes = crc_over (high_step 0x8000 0x1021) 0x100 crc bytes
 
--- that of a CRC-16 in the opposite order
+-- the remainder of a CRC-16 in the opposite order after more bytes
 abbrev pub crc16_low_state : ℕ → List ℕ → ℕ
 crc16_low_state crc bytes = crc_over (low_step 0x8408) 1 crc bytes
 
@@ -59,11 +59,11 @@ crc24_adsb bytes = crc24_state 0 bytes / 256
 abbrev pub crc16_ccitt : List ℕ → ℕ
 crc16_ccitt bytes = crc16_state 0xFFFF bytes
 
--- that of X.25 and HDLC frames: by the same polynomial, in the opposite order, from all ones, and inverted
+-- the CRC-16 of X.25 and HDLC frames: by the same polynomial, in the opposite order, from all ones, and inverted
 abbrev pub crc16_x25 : List ℕ → ℕ
 crc16_x25 bytes = bit_xor (crc16_low_state 0xFFFF bytes) 0xFFFF
 
--- that of IEEE 802.15.4 frames: in the opposite order, from 0
+-- the CRC-16 of IEEE 802.15.4 frames: in the opposite order, from 0
 abbrev pub crc16_kermit : List ℕ → ℕ
 crc16_kermit bytes = crc16_low_state 0 bytes
 
@@ -84,6 +84,14 @@ sum16_state sum at (byte ∷ bytes) =
 -- the Internet checksum (RFC 1071): the inverse of the sum of the bytes as numbers of 16 bits, a last one filled up by 0
 abbrev pub sum16 : List ℕ → ℕ
 sum16 bytes = 65535 - sum16_state 0 0 bytes
+
+-- the same for UDP (RFC 768): all ones in place of 0, which means that there is no checksum
+abbrev pub sum16_udp : List ℕ → ℕ
+sum16_udp bytes = if sum16 bytes == 0 then 65535 else sum16 bytes
+
+-- the number of bytes; 2^64 - 1 if there are more
+abbrev pub byte_count : List ℕ → ℕ
+byte_count bytes = min (length bytes) 18446744073709551615
 
 -- the byte of a number of 8 bits
 abbrev pub bytes1 : ℕ → List ℕ

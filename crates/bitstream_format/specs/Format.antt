@@ -6,7 +6,7 @@ use Rattle.std.specs.Prelude.{nat_lt, if◌then◌else◌}
 use Rattle.bitstream_io.specs.Callers.{Decoder, Encoder, Done, AllAccepted, and_then, pure, Order, High, align, word, const_decoder, plain, write_sequence, part_then}
 use Rattle.bitstream_io.proofs.CallerLemmas.{RoundTrip, Packs, part-back, literal-back, pure-back, packs-none, packs-more, packs-part, packs-is, const-written, accepted-first, accepted-second}
 
--- ---- facts, one after another
+-- ---- lists of facts
 
 -- facts about a value, as a list of types
 abbrev pub Facts : Type 1
@@ -83,7 +83,7 @@ Own E A = Format A (Result A E) (λ a. Ok a)
 abbrev pub Fits : {A V : Type 0} {ok : A → V} → Format A V ok → A → Type 0
 Fits F a = AllOf (F.facts a)
 
--- the same format, whose facts have names: those of a record from which they follow
+-- the same format, whose facts have names: the fields of a record from which the facts follow
 abbrev pub named : {A V : Type 0} {ok : A → V} (Named : A → Type 0) (F : Format A V ok)
     → ((a : A) → Named a → Fits F a) → Format A V ok
 named Named F facts = record F {
@@ -132,7 +132,7 @@ pub record Parts (S W : Type 0) (ok : S → W) : Type 1 where
   pub besides : S → Facts
   pub accepted : (o : Order) (s : S) (at : ℕ) → AllOf (besides s) → AllAccepted (write o s) at → AllOf (facts s)
 
--- one part and then those after it, which may depend on what it gave
+-- one part and then the parts after it, which may depend on its value
 abbrev pub join : {S W A : Type 0} {ok : S → W} → Part S W A → (A → Parts S W ok) → Parts S W ok
 join p k = record {
   read = λ o. p.read o (λ a. (k a).read o);
@@ -308,7 +308,7 @@ module _ {A V : Type 0} {ok : A → V} (F : Format A V ok) where
       → let written = write_sequence (F.write o value) at in
       (F.read o).reads from (written ++ more) ≡ Done (length written) (Ok (ok value))
 
-  -- a value has as many bits as the format states
+  -- a value has the number of bits that the format states
   abbrev pub LengthLaw : Type 0
   LengthLaw = (o : Order) (value : A) (at : ℕ) → Fits F value → length (write_sequence (F.write o value) at) ≡ F.size value
 

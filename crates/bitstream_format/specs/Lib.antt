@@ -9,6 +9,9 @@ pub mod Groups
 pub mod Choices
 pub mod Sizes
 pub mod Within
+pub mod Powers
+pub mod Bounded
+pub mod InGroups
 pub mod Filled
 pub mod Stated
 pub mod Varint
@@ -16,6 +19,7 @@ pub mod VarintLaws
 pub mod SizeLaws
 pub mod Chosen
 pub mod Measured
+pub mod InGroupsLaws
 pub mod Until
 pub mod UntilLaws
 pub mod Blocks

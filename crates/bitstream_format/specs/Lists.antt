@@ -113,7 +113,7 @@ mapped {ok = ok} F of to again fit = record {
   accepted = λ o a at more all. tt;
 }
 
--- the same answer, with an error of another type
+-- the same result, with an error of another type
 abbrev pub error_of : {A D E : Type 0} → (D → E) → Result A D → Result A E
 error_of make (Ok a) = Ok a
 error_of make (Err x) = Err (make x)

@@ -20,7 +20,7 @@ use Rattle.bitstream_format.specs.SizeLaws.{sized-read, size-written, size-back,
 use Rattle.bitstream_format.specs.Varint.{varint_decoder, varint_writes, varint_size}
 use Rattle.bitstream_format.specs.VarintLaws.{varint-back, varint-packs}
 
--- a number of 1, 2, 4 or 8 bytes, as QUIC has it
+-- a number of 1, 2, 4 or 8 bytes, as in QUIC
 abbrev pub varint : Plain ℕ
 varint = record {
   read = varint_decoder;

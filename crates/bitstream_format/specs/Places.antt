@@ -23,7 +23,7 @@ prefix-same Incomplete f h same = refl
 prefix-same (Done n (Ok a)) f h same = ap (advance n) (same n a)
 prefix-same (Done n (Err d)) f h same = refl
 
--- one word and then another are one word
+-- the bits of one number and then of another are the bits of one number
 pub then-word : {A B : Type 0} (e : Decoder A) (f : A → Decoder B) (m n : ℕ) (g : List Bool → A) (h : A → List Bool → B)
     → IsWord e m (λ w. Ok (g w)) → ((a : A) → IsWord (f a) n (λ w. Ok (h a w)))
     → IsWord (and_then e f) (m + n) (λ w. Ok (h (g (take m w)) (drop m w)))
@@ -67,7 +67,7 @@ pub record FixedParts (S : Type 0) (n : ℕ) : Type 1 where
   pub is_word : (o : Order) → IsWord (parts.read o) n (λ w. Ok (at o w))
 
 infixl 10 ◌>>=◌
--- one part and then those after it, as a line of a `do` block
+-- one part and then the parts after it, as a line of a `do` block
 abbrev pub ◌>>=◌ : {S A : Type 0} {m n : ℕ} → FixedPart S A m → (A → FixedParts S n) → FixedParts S (m + n)
 ◌>>=◌ {m = m} {n = n} p k = record {
   parts = join (field p.of.format p.get) (λ a. (k a).parts);

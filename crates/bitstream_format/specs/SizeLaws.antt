@@ -66,7 +66,7 @@ pub size-is : (o : Order) (width : ℕ) (es : List Encoder) (m : ℕ) → Packs 
 unfolding size_encoder
 size-is o width es m packs le = ap (size_of o width) (counted-is es m packs le)
 
--- the size of calls that are all accepted, which are read back behind it
+-- the size of calls that are all accepted: its write appends `width` bits
 pub size-written : (o : Order) (width : ℕ) (es : List Encoder) (m : ℕ) → Packs es m → m ≤ 18446744073709551615
     → nat_le width 64 ≡ true → m / 8 < 2 ^ width → IsWritten (size_encoder o width es) width
 size-written o width es m packs le wide small =

@@ -1,6 +1,6 @@
 -- Parts of a stated size in bytes: a part that fills it, and a list that fills it. The size limits the reader: the part is read
 -- over the bits of these bytes alone, and no bit after them is read. If the value does not fill them, the read returns the error
--- that the size names. The reader has then taken these bytes and no more.
+-- that the size names. The reader has then taken only these bytes.
 use Rattle.std.proofs.Common.{◌≡◌, ◌∙◌, ℕ, zero, suc, take, drop, length-take-le, ◌+◌, ◌*◌, ◌<◌, ◌≤◌, ◌==◌, Bool, true, false, List, [], ◌∷◌, ◌++◌, length, length-append, Result, Ok, Err, refl, subst, sym, ap, append-nil, arith, le_refl}
 use Rattle.std.specs.Prelude.{if◌then◌else◌, nat_le, flat_map, ◌&&◌, ◌≢◌}
 use Rattle.std.specs.List.{All, AllByRecursion}
@@ -185,7 +185,7 @@ fill n F err other = record {
   accepted = λ o xs at fits all. fits;
 }
 
--- ---- a part of a fixed width fills a size of as many bits, and no other
+-- ---- a part of a fixed width fills a size of the same number of bits, and no other
 
 module _ {A E : Type 0} (F : Own E A) (err : E) (other : Error → E) (o : Order) (n : ℕ) (g : List Bool → A)
     (is : IsWord (F.read o) n (λ w. Ok (Ok (g w)))) (w : List Bool) where

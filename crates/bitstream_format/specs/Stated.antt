@@ -1,5 +1,5 @@
--- Sizes in units, as `./format` prints them: a stored number states how many bytes a part has. They are so many units and `less`
--- bytes more, without the `plus` bytes that the number counts too and that are not of the part.
+-- Sizes in units, as `./format` prints them: a stored number states how many bytes a part has. They are that number of units
+-- and `less` bytes more, without `plus` bytes, which the number counts but which are not in the part.
 use Rattle.std.specs.Prelude.{ℕ, ◌+◌, ◌-◌, ◌*◌, ◌/◌, ◌%◌, ◌==◌, ◌&&◌, min, nat_le, if◌then◌else◌, Option, Some, None, List, Result, Ok, Err}
 use Rattle.bitstream_count.specs.declared.error.Error.{Error}
 use Rattle.bitstream_value.specs.Lengths.{counted_bits}
@@ -19,11 +19,11 @@ abbrev pub units_in : ℕ → ℕ → ℕ → ℕ
 units_in unit less counted =
     if nat_le less counted && ((counted - less) % unit == 0) then (counted - less) / unit else 18446744073709551615
 
--- the number that states so many bytes; 2^64 - 1, which no size has, if none does
+-- the number that states n bytes; 2^64 - 1, which is no size, if none does
 unfoldable pub stored_size : ℕ → ℕ → ℕ → ℕ → ℕ
 stored_size unit plus less bytes = units_in unit less (min (bytes + plus) 18446744073709551615)
 
--- the reads of a part of so many bytes; `err` if no size is stated
+-- the reads of a part of the stated number of bytes; `err` if no size is stated
 abbrev pub if_stated : {A E : Type 0} → E → (ℕ → Decoder (Result A E)) → Option ℕ → Decoder (Result A E)
 if_stated err decoder (Some n) = decoder n
 if_stated err decoder None = pure (Err err)
@@ -33,11 +33,11 @@ abbrev pub stated_decoder : {A E : Type 0} → ℕ → ℕ → ℕ → E → (Or
     → Decoder (Result A E)
 stated_decoder unit plus less err decoder o number = if_stated err (decoder o) (stated_size unit plus less number)
 
--- the reads of n bytes, among reads that may be refused
+-- the reads of n bytes, among reads that may fail
 abbrev pub sized_bytes : {E : Type 0} → Order → ℕ → Decoder (Result (List ℕ) E)
 sized_bytes o n = and_then (vec_decoder o n) (λ bytes. pure (Ok bytes))
 
--- the write of the number that states the bytes of so many bits, in `width` bits; or the error of the count
+-- the write of the number that states the bytes of a number of bits, in `width` bits; or the error of the count
 abbrev pub stored_of : Order → ℕ → ℕ → ℕ → ℕ → Result ℕ Error → Encoder
 stored_of o width unit plus less (Ok n) = unsigned o 64 width (stored_size unit plus less (n / 8))
 stored_of o width unit plus less (Err error) = λ at. Err error

@@ -1,4 +1,4 @@
--- Bytes up to a terminator, as `./format` prints them: C strings, and what else ends at a byte of one value.
+-- Bytes up to a terminator, as `./format` prints them, such as C strings.
 use Rattle.std.specs.Prelude.{◌≡◌, ◌≢◌, ℕ, zero, suc, ◌+◌, ◌*◌, ◌<◌, ◌==◌, if◌then◌else◌, List, [], ◌∷◌, ◌++◌, length, flat_map}
 use Rattle.std.specs.List.{All}
 use Rattle.bitstream_count.specs.declared.error.Error.TheVariants.{RunTooLong}
@@ -17,7 +17,7 @@ until_from decoder stop (suc n) found = and_then decoder (λ x.
 abbrev pub until_decoder : Order → ℕ → Decoder (List ℕ)
 until_decoder o stop = until_from (unsigned_decoder o 8 8) stop 4294967296 []
 
--- the number that is written for a byte: for `stop` one that 8 bits do not hold, so its write is refused
+-- the number that is written for a byte: for `stop` one that does not fit 8 bits, so its write fails
 abbrev pub until_item : ℕ → ℕ → ℕ
 until_item stop x = if x == stop then 256 else x
 
@@ -29,10 +29,10 @@ until_word o stop x = unsigned o 16 8 (until_item stop x) ∷ []
 abbrev pub until_writes : Order → ℕ → List ℕ → List Encoder
 until_writes o stop xs = flat_map (until_word o stop) xs ++ unsigned o 8 8 stop ∷ []
 
--- the number of bits of bytes and of what ends them
+-- the number of bits of bytes and of their terminator
 abbrev pub until_size : List ℕ → ℕ
 until_size xs = 8 * length xs + 8
 
--- bytes that do not end before their end
+-- bytes none of which is the terminator
 abbrev pub IsUnended : ℕ → List ℕ → Type 0
 IsUnended stop xs = All (λ x. (x < 256) × (x ≢ stop)) xs

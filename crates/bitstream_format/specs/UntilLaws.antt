@@ -1,4 +1,4 @@
--- Bytes up to a terminator: they are read back, and how long they are.
+-- Bytes up to a terminator: they are read back, and their length is known.
 use Rattle.std.proofs.Common.{◌≡◌, ◌≢◌, ℕ, zero, suc, ◌<◌, ◌==◌, List, [], ◌∷◌, ◌++◌, length, append_assoc, append-nil, refl, arith}
 use Rattle.std.specs.Prelude.{if◌then◌else◌}
 use Rattle.std.specs.List.{AllByRecursion}
@@ -51,6 +51,6 @@ module _ (o : Order) (stop : ℕ) (small : stop < 256) where
       rw (ne_eqb x stop fits.0.1) (unsigned-written o 16 8 x refl fits.0.0) in
       packs-is (packs-more one (packs-from xs fits.1)) (omega arith)
 
-  -- it is accepted, and has so many bits
+  -- it is accepted, and has the stated number of bits
   pub until-packs : (xs : List ℕ) → IsUnended stop xs → Packs (until_writes o stop xs) (until_size xs)
   until-packs xs fits = packs-from xs (recursion_from_All _ xs fits)

@@ -11,18 +11,18 @@ abbrev pub varint_length : ℕ → ℕ
 varint_length v =
     if nat_lt v 64 then 0 else (if nat_lt v 16384 then 1 else (if nat_lt v 1073741824 then 2 else 3))
 
--- the reads: after the two bits any number of so many bits, also one that fewer would hold
+-- the reads: after the two bits any number of the stated number of bits, even if it fits fewer
 abbrev pub varint_decoder : Order → Decoder ℕ
 varint_decoder o = and_then (unsigned_decoder o 32 2) (λ k. unsigned_decoder o 64 (varint_width k))
 
--- the word of v, below 2^62
+-- the encoding of v, below 2^62
 abbrev pub varint_word : Order → ℕ → List Encoder
 varint_word o v = unsigned o 32 2 (varint_length v) ∷ unsigned o 64 (varint_width (varint_length v)) v ∷ []
 
--- the writes of v, in order: what has no word is refused, as a number that 62 bits do not hold
+-- the writes of v, in order: the write of a number without an encoding fails, as a number that does not fit 62 bits
 abbrev pub varint_writes : Order → ℕ → List Encoder
 varint_writes o v = if nat_le 4611686018427387904 v then unsigned o 64 62 v ∷ [] else varint_word o v
 
--- the number of bits of a word
+-- the number of bits of an encoding
 abbrev pub varint_size : ℕ → ℕ
 varint_size v = 2 + varint_width (varint_length v)

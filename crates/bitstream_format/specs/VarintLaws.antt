@@ -1,4 +1,4 @@
--- Numbers of variable length: they are read back, and how long they are.
+-- Numbers of variable length: they are read back, and their length is known.
 use Rattle.std.proofs.Common.{◌≡◌, ℕ, ◌^◌, ◌<◌, true, List, [], ◌∷◌, inl, refl, sym, subst, arith}
 use Rattle.std.specs.Prelude.{nat_le}
 use Rattle.std.proofs.lemmas.Bool.{leb-true, lt-leb}
@@ -18,7 +18,7 @@ width_most k = grind arith
 fits_width : (v : ℕ) → v < 4611686018427387904 → v < 2 ^ varint_width (varint_length v)
 fits_width v small = grind (arith, small)
 
--- the writes of a number that has a word
+-- the writes of a number that has an encoding
 pub has_varint : (o : Order) (v : ℕ) → v < 4611686018427387904 → varint_writes o v ≡ varint_word o v
 has_varint o v small = rw (lt-leb 4611686018427387904 v small) refl
 
@@ -38,7 +38,7 @@ module _ (o : Order) (v : ℕ) (small : v < 2 ^ 62) where
       (unsigned-back o 2 (unsigned o 64 (varint_width k) v ∷ []) v 32 k (λ k. unsigned_decoder o 64 (varint_width k)) refl
       (length_small v) rest)
 
-  -- it is accepted, and has so many bits
+  -- it is accepted, and has the stated number of bits
   pub varint-packs : Packs (varint_writes o v) (varint_size v)
   varint-packs =
       let k = varint_length v in

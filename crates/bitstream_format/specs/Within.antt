@@ -42,7 +42,7 @@ abbrev pub sized_decoder : {A E : Type 0} → (Order → Decoder (Result A E)) �
     → Decoder (Result A E)
 sized_decoder decoder err own ended o n = limited true n (within (decoder o) err own ended) o
 
--- a result, unless memory was refused
+-- a result, unless an allocation failed
 abbrev pub UnlessMemory : {A E : Type 0} → (Error → E) → Result A E → Result A E → Type 0
 UnlessMemory own known result = (result ≡ known) ⊎ (result ≡ Err (own OutOfMemory))
 

@@ -1,4 +1,5 @@
-//! Blocks of bytes, as in GIF (section 15): each follows its size in a byte, and an empty one ends them.
+//! Blocks of bytes, as in GIF (section 15). Each block is written after its size in a byte, and an empty block ends
+//! them.
 ghost use Rattle.bitstream_format.specs.Blocks.{block_size, block_writes, blocks_decoder, blocks_writes};
 ghost use Rattle.std.specs.Prelude.{◌≡◌, ℕ, List};
 ghost use Rattle.bitstream_io.specs.Callers.{WritesAll, result_map};
@@ -11,7 +12,7 @@ use std::marker::Model;
 /// A block of bytes.
 #[derive(Debug, Drop)]
 pub struct Block {
-    /// The bytes: from 1 to 255 can be written.
+    /// The bytes. A write accepts from 1 to 255 bytes.
     pub bytes: Vec<u8>,
 }
 
@@ -26,8 +27,8 @@ impl Block {
     ///
     /// # Errors
     ///
-    /// `Checked` for a block that is empty or has more than 255 bytes. Nothing is written then. Otherwise the errors
-    /// of the sink.
+    /// `Checked` for a block that is empty or has more than 255 bytes. If so, nothing is written. Otherwise, the
+    /// errors of the sink.
     pub fn write<W: BitWrite>(&self, writer: &mut W) -> Result<(), Error>
         ensures { WritesAll W.sink (block_writes W.sink.order self.now) writer.old result writer.new }
     {
@@ -36,7 +37,7 @@ impl Block {
     }
 }
 
-/// Returns the size that is written before a block: 256, which 8 bits do not hold, for an empty one.
+/// Returns the size that is written before a block. For an empty block it is 256, which does not fit 8 bits.
 fn block_size(count: u64) -> u64
     ensures { result ≡ block_size count }
 {
@@ -46,12 +47,13 @@ fn block_size(count: u64) -> u64
     count
 }
 
-/// Reads blocks up to an empty one, which is read too, and is not in the `Vec`. The memory grows as the bytes come.
+/// Reads blocks up to an empty one. The empty block is read too, and is not in the `Vec`. The `Vec` grows as the
+/// blocks are read.
 ///
 /// # Errors
 ///
-/// `RunTooLong` if none of the first 2^32 blocks is empty; the reader has failed then. `OutOfMemory` if an
-/// allocation fails, after the blocks before. Otherwise the errors of the reader.
+/// `RunTooLong` if none of the first 2^32 blocks is empty. After it the reader has failed. `OutOfMemory` if an
+/// allocation fails, after the blocks before have been read. Otherwise, the errors of the reader.
 pub fn read_blocks<R: BitRead>(reader: &mut R, alloc: Global) -> Result<Vec<Block>, Error>
     ensures { GrowingOutcome R.source (blocks_decoder R.source.order)
         reader.old (result_map (λ found. found.items) result) reader.new }
@@ -69,12 +71,12 @@ pub fn read_blocks<R: BitRead>(reader: &mut R, alloc: Global) -> Result<Vec<Bloc
     Err(Error::RunTooLong)
 }
 
-/// Writes blocks, and an empty one after them.
+/// Writes blocks, and an empty block after them.
 ///
 /// # Errors
 ///
-/// `Checked` for a block that is empty or has more than 255 bytes. The blocks before it are written then. Otherwise
-/// the errors of the sink.
+/// `Checked` for a block that is empty or has more than 255 bytes, after the blocks before it have been written.
+/// Otherwise, the errors of the sink.
 pub fn write_blocks<W: BitWrite>(writer: &mut W, blocks: &[Block]) -> Result<(), Error>
     ensures { WritesAll W.sink (blocks_writes W.sink.order blocks.now) writer.old result writer.new }
 {

@@ -1,5 +1,5 @@
-//! Checksums, as `./format` prints calls to them. A function takes the state after the bytes before, and returns the
-//! one after more bytes.
+//! Functions for checksums. Code printed by `./format` calls them. Each `_more` function takes the state after some
+//! bytes, and returns the state after more bytes.
 ghost use Rattle.bitstream_format.specs.Checks.{bytes1, bytes2, bytes4, crc16_low_state, crc16_state, crc24_state, crc32_mpeg_state, crc32_state, end_around, high_step, low_step, place16, steps, sum16_state};
 ghost use Rattle.std.specs.Prelude.{◌≡◌};
 
@@ -87,7 +87,8 @@ pub fn sum16_more(sum: u16, at: usize, bytes: &[u8]) -> u16
     sum
 }
 
-/// Returns a byte at a place of a number of 16 bits.
+/// Returns the number of 16 bits that has `byte` at `place`. At an even place it is the high byte, and otherwise the
+/// low byte.
 fn place16(place: usize, byte: u8) -> u16
     ensures { result ≡ place16 place byte }
 {
@@ -107,7 +108,7 @@ fn low_step(polynomial: u32, crc: u32) -> u32
     crc / 2 ^ polynomial
 }
 
-/// Returns the remainder after a byte was added to it, in the opposite order.
+/// Returns a remainder after the eight steps that follow the addition of a byte, in the opposite order.
 fn low_byte(polynomial: u32, crc: u32) -> u32
     ensures { result ≡ steps (low_step polynomial) 8 crc }
 {
@@ -128,7 +129,7 @@ fn low_step16(crc: u16) -> u16
     crc / 2 ^ 0x8408
 }
 
-/// Returns a remainder of 16 bits after a byte was added to it, in the opposite order.
+/// Returns a remainder of 16 bits after the eight steps that follow the addition of a byte, in the opposite order.
 fn low_byte16(crc: u16) -> u16
     ensures { result ≡ steps (low_step 0x8408) 8 crc }
 {
@@ -149,7 +150,7 @@ fn high_step(polynomial: u32, crc: u32) -> u32
     2 * (crc - 0x8000_0000) ^ polynomial
 }
 
-/// Returns the remainder after a byte was added to it.
+/// Returns a remainder after the eight steps that follow the addition of a byte.
 fn high_byte(polynomial: u32, crc: u32) -> u32
     ensures { result ≡ steps (high_step 0x80000000 polynomial) 8 crc }
 {
@@ -170,7 +171,7 @@ fn ccitt_step(crc: u16) -> u16
     2 * (crc - 0x8000) ^ 0x1021
 }
 
-/// Returns a remainder after a byte was added to it, by the polynomial of CCITT.
+/// Returns a remainder after the eight steps that follow the addition of a byte, by the polynomial of CCITT.
 fn ccitt_byte(crc: u16) -> u16
     ensures { result ≡ steps (high_step 0x8000 0x1021) 8 crc }
 {
@@ -181,7 +182,7 @@ fn ccitt_byte(crc: u16) -> u16
     crc
 }
 
-/// Returns the sum of two numbers, whose carry is added again.
+/// Returns the sum of two numbers of 16 bits. The carry is added to it.
 fn end_around(a: u16, b: u16) -> u16
     ensures { result ≡ end_around a b }
 {
@@ -192,7 +193,7 @@ fn end_around(a: u16, b: u16) -> u16
     (sum - 65535) as u16
 }
 
-/// Returns the byte of a number.
+/// Returns the number of 8 bits as a list of one byte.
 pub fn octets_of_u8(number: u8) -> [u8; 1]
     ensures { result ≡ bytes1 number }
 {

@@ -1,4 +1,4 @@
-//! Checksums of bytes that come one after another, each a type with its state.
+//! Checksums that take bytes step by step. Each checksum is a type that holds its state.
 ghost use Rattle.std.specs.Prelude.{◌≡◌, ℕ, List, [], ◌++◌};
 
 use crate::checks::{
@@ -7,7 +7,7 @@ use crate::checks::{
 
 /// A checksum that takes bytes.
 pub trait Checksum {
-    // The numbers that it holds, and the ones that it holds after these bytes.
+    // The numbers that the checksum holds, and the numbers that it holds after these bytes.
     ghost state: { Self → List ℕ };
 
     ghost after: { List ℕ → List ℕ };
@@ -25,7 +25,7 @@ pub trait Checksum {
             → state self.new ≡ after (before ++ bytes.now) };
 
     /// Returns the checksum of the bytes so far.
-    fn number(&self) -> u32
+    fn number(&self) -> u64
         ensures { (bytes : List ℕ) → state self.now ≡ after bytes → result ≡ sum bytes };
 }
 
@@ -53,8 +53,8 @@ impl Checksum for Crc32 {
         self.crc = crc32_more(self.crc, bytes);
     }
 
-    fn number(&self) -> u32 {
-        self.crc ^ u32::MAX
+    fn number(&self) -> u64 {
+        u64::from(self.crc ^ u32::MAX)
     }
 }
 
@@ -82,8 +82,8 @@ impl Checksum for Crc32Mpeg {
         self.crc = crc32_mpeg_more(self.crc, bytes);
     }
 
-    fn number(&self) -> u32 {
-        self.crc
+    fn number(&self) -> u64 {
+        u64::from(self.crc)
     }
 }
 
@@ -111,8 +111,8 @@ impl Checksum for Crc24Adsb {
         self.crc = crc24_more(self.crc, bytes);
     }
 
-    fn number(&self) -> u32 {
-        self.crc / 256
+    fn number(&self) -> u64 {
+        u64::from(self.crc / 256)
     }
 }
 
@@ -140,8 +140,8 @@ impl Checksum for Crc16Ccitt {
         self.crc = crc16_more(self.crc, bytes);
     }
 
-    fn number(&self) -> u32 {
-        u32::from(self.crc)
+    fn number(&self) -> u64 {
+        u64::from(self.crc)
     }
 }
 
@@ -169,8 +169,8 @@ impl Checksum for Crc16X25 {
         self.crc = crc16_low_more(self.crc, bytes);
     }
 
-    fn number(&self) -> u32 {
-        u32::from(self.crc ^ u16::MAX)
+    fn number(&self) -> u64 {
+        u64::from(self.crc ^ u16::MAX)
     }
 }
 
@@ -198,8 +198,8 @@ impl Checksum for Crc16Kermit {
         self.crc = crc16_low_more(self.crc, bytes);
     }
 
-    fn number(&self) -> u32 {
-        u32::from(self.crc)
+    fn number(&self) -> u64 {
+        u64::from(self.crc)
     }
 }
 
@@ -230,7 +230,71 @@ impl Checksum for Sum16 {
         self.place = (self.place % 2 + bytes.len() % 2) % 2;
     }
 
-    fn number(&self) -> u32 {
-        u32::from(65535 - self.sum)
+    fn number(&self) -> u64 {
+        u64::from(65535 - self.sum)
+    }
+}
+
+/// The Internet checksum as UDP uses it (RFC 768): a checksum of 0 is written as all ones, since 0 means that there is
+/// no checksum.
+#[derive(Drop)]
+pub struct Sum16Udp {
+    sum: Sum16,
+}
+
+impl Checksum for Sum16Udp {
+    ghost use Rattle.bitstream_format.specs.Checks.{sum16_udp};
+
+    ghost state = { λ it. ⟦<Sum16 as Checksum>⟧.state it.sum };
+
+    ghost after = { ⟦<Sum16 as Checksum>⟧.after };
+
+    ghost sum = { sum16_udp };
+
+    fn start() -> Sum16Udp {
+        Sum16Udp {
+            sum: Sum16::start(),
+        }
+    }
+
+    fn take(&mut self, bytes: &[u8]) {
+        self.sum.take(bytes);
+    }
+
+    fn number(&self) -> u64 {
+        let number = self.sum.number();
+        if number == 0 {
+            return 65535;
+        }
+        number
+    }
+}
+
+/// The number of bytes, or 2^64 - 1 if there are more.
+#[derive(Drop)]
+pub struct ByteCount {
+    count: u64,
+}
+
+impl Checksum for ByteCount {
+    ghost use Rattle.std.specs.Prelude.{◌∷◌};
+    ghost use Rattle.bitstream_format.specs.Checks.{byte_count};
+
+    ghost state = { λ it. it.count ∷ [] };
+
+    ghost after = { λ bytes. byte_count bytes ∷ [] };
+
+    ghost sum = { byte_count };
+
+    fn start() -> ByteCount {
+        ByteCount { count: 0 }
+    }
+
+    fn take(&mut self, bytes: &[u8]) {
+        self.count = self.count.saturating_add(bytes.len() as u64);
+    }
+
+    fn number(&self) -> u64 {
+        self.count
     }
 }

@@ -1,4 +1,5 @@
-//! Sizes in units, as `./format` prints calls to them: a stored number states how many bytes a part has.
+//! Sizes in units: a stored number states the number of bytes of a part. Code printed by `./format` calls these
+//! functions.
 ghost use Rattle.bitstream_format.specs.Stated.{size_in_units, stated_size, stored_of, stored_size};
 ghost use Rattle.std.specs.Prelude.{◌≡◌, ◌≤◌, ◌∷◌, []};
 ghost use Rattle.bitstream_io.specs.Callers.{WritesAll};
@@ -44,8 +45,8 @@ pub fn stored_size(bytes: u64, unit: u64, plus: u64, less: u64) -> u64
 ///
 /// # Errors
 ///
-/// The errors of the sink, which come first. Otherwise the error of `bits`, or `Checked` if no number of
-/// `width` bits states the size. If so, nothing is written.
+/// `Failed` if the sink has failed before. Otherwise, the error of `bits`, or `Checked` if no number of `width` bits
+/// states the size. After these errors nothing is written. Otherwise, the errors of the sink.
 pub fn write_stored_size<W: BitWrite>(
     writer: &mut W,
     width: u32,

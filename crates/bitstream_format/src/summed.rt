@@ -1,5 +1,5 @@
-//! The checksum of lines of a format, as `./format` prints calls to it: the lines are written to a writer that keeps no
-//! byte, and a checksum takes each byte as it fills.
+//! The checksum of lines of a format. The lines are written to a writer that keeps no byte, and a checksum takes each
+//! byte when it is complete. Code printed by `./format` calls these functions.
 ghost use Rattle.std.specs.Prelude.{◌≡◌, ℕ, ◌<◌, Bool, false, List, [], Some, slice_index};
 ghost use Rattle.bitstream_stream.specs.Writing.Carries.{Carries};
 ghost use Rattle.bitstream_stream.specs.Writing.Writer.{has_failed, new_writer_state, writer_state};
@@ -12,7 +12,7 @@ use std::io;
 
 pub mod taken;
 
-/// A target that keeps no byte: a checksum takes each of them. It refuses no request.
+/// A target that keeps no byte: a checksum takes each byte. No request fails.
 #[derive(Drop)]
 pub struct Summing<C: Checksum> {
     sum: C,
@@ -40,7 +40,7 @@ impl<C: Checksum + Drop> Target for Summing<C> {
     }
 }
 
-/// Returns a new writer that keeps no byte: a checksum takes each of them.
+/// Returns a new writer that keeps no byte: a checksum takes each byte.
 pub fn summing_writer<E: Endianness, C: Checksum + Drop>() -> BitWriter<Summing<C>, E>
     ensures { writer_state ⟦<Summing<C> as Target>⟧.stream result ≡ new_writer_state (Some []) [] }
 {
@@ -65,7 +65,7 @@ pub fn summing_writer<E: Endianness, C: Checksum + Drop>() -> BitWriter<Summing<
 /// writer.write_bytes(b"23456789")?;
 /// assert_eq!(rt; sum_of(writer), 0x0376_e6e7);
 /// ```
-pub fn sum_of<E: Endianness, C: Checksum + Drop>(writer: BitWriter<Summing<C>, E>) -> u32
+pub fn sum_of<E: Endianness, C: Checksum + Drop>(writer: BitWriter<Summing<C>, E>) -> u64
     ensures { (x : List Bool) → has_failed writer ≡ false
         → Carries E.order (new_writer_state (Some []) []) x (writer_state ⟦<Summing<C> as Target>⟧.stream writer)
         → result ≡ C.sum (whole_bytes E.order x) }

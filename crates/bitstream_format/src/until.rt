@@ -1,4 +1,4 @@
-//! Bytes up to a terminator, as `./format` prints calls to them: C strings, and what else ends at a byte of one value.
+//! Bytes up to a terminator, such as C strings. Code printed by `./format` calls these functions.
 ghost use Rattle.bitstream_format.specs.Until.{until_decoder, until_item, until_writes};
 ghost use Rattle.std.specs.Prelude.{◌≡◌};
 ghost use Rattle.bitstream_io.specs.Callers.{WritesAll, result_map};
@@ -8,12 +8,12 @@ use bitstream_io::{BitRead, BitWrite, Error};
 use std::alloc::Global;
 
 /// Reads bytes up to the first `stop`. The terminator is read too, and is not in the `Vec`. No bit after it is
-/// read. The `Vec` grows as the bytes come.
+/// read. The `Vec` grows as the bytes are read.
 ///
 /// # Errors
 ///
-/// `RunTooLong` if `stop` is not among the first 2^32 bytes; the reader has failed then. `OutOfMemory` if an
-/// allocation fails, after the bytes before. Otherwise the errors of the reader.
+/// `RunTooLong` if `stop` is not among the first 2^32 bytes. After it the reader has failed. `OutOfMemory` if an
+/// allocation fails, after the bytes before have been read. Otherwise, the errors of the reader.
 ///
 /// # Examples
 ///
@@ -41,7 +41,7 @@ pub fn read_until<R: BitRead>(reader: &mut R, alloc: Global, stop: u8) -> Result
     Err(Error::RunTooLong)
 }
 
-/// Returns the number that is written for a byte: 256, which 8 bits do not hold, for the terminator.
+/// Returns the number that is written for a byte. For the terminator it is 256, which does not fit 8 bits.
 fn until_item(stop: u8, byte: u8) -> u16
     ensures { result ≡ until_item stop byte }
 {
@@ -55,7 +55,7 @@ fn until_item(stop: u8, byte: u8) -> u16
 ///
 /// # Errors
 ///
-/// `Checked` for a byte that is `stop`. The bytes before it are written then. Otherwise the errors of the sink.
+/// `Checked` for a byte that is `stop`, after the bytes before it have been written. Otherwise, the errors of the sink.
 pub fn write_until<W: BitWrite>(writer: &mut W, bytes: &[u8], stop: u8) -> Result<(), Error>
     ensures { WritesAll W.sink (until_writes W.sink.order stop bytes.now) writer.old result writer.new }
 {

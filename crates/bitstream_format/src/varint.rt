@@ -1,4 +1,4 @@
-//! Numbers of variable length, as QUIC has them (RFC 9000, section 16).
+//! Numbers of variable length, as in QUIC (RFC 9000, section 16).
 //!
 //! A number below 2^62 is written as two bits that state its length, and then as 6, 14, 30 or 62 bits: the
 //! fewest that hold it. A read accepts more bits than needed.
@@ -8,7 +8,7 @@ ghost use Rattle.bitstream_io.specs.Callers.{Done, Order, Reads, WritesAll, writ
 
 use bitstream_io::{BitRead, BitReadExt, BitWrite, BitWriteExt, Bits, Error};
 
-/// Returns the number of bits after the first two.
+/// Returns the number of bits after the first two bits. `length` is the number that the first two bits encode.
 fn varint_width(length: u32) -> u32
     ensures { result ≡ varint_width length }
 {
@@ -20,7 +20,7 @@ fn varint_width(length: u32) -> u32
     }
 }
 
-/// Returns the number of the first two bits before a number.
+/// Returns the number that the first two bits encode before a number.
 fn varint_length(value: u64) -> u32
     ensures { result ≡ varint_length value }
 {
@@ -66,7 +66,7 @@ pub fn read_varint<R: BitRead>(reader: &mut R) -> Result<u64, Error>
 ///
 /// # Errors
 ///
-/// `Checked` for 2^62 or more, before anything is written. Otherwise the errors of the sink.
+/// `Checked` for 2^62 or more. If so, nothing is written. Otherwise, the errors of the sink.
 pub fn write_varint<W: BitWrite>(writer: &mut W, value: u64) -> Result<(), Error>
     ensures { WritesAll W.sink (varint_writes W.sink.order value) writer.old result writer.new }
 {

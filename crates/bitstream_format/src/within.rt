@@ -1,4 +1,4 @@
-//! Functions for parts of a stated size, which the code that `./format` prints calls.
+//! Functions for parts of a stated size. Code printed by `./format` calls them.
 ghost use Rattle.bitstream_format.specs.Within.{is_end, size_of};
 ghost use Rattle.std.specs.Prelude.{◌≡◌, ◌∷◌, []};
 ghost use Rattle.bitstream_io.specs.Callers.{WritesAll};

@@ -124,8 +124,8 @@ impl<'a> Call<'a> {
         matches!(self.form, Form::Seek(Whence::Start | Whence::End))
     }
 
-    /// Returns true if a reader of `bits` bits in memory and a reader over a stream return the same: the
-    /// call does not seek, it seeks to one of these bits or to their end, or it stays where it is.
+    /// Returns true if a reader of `bits` bits in memory and a reader over a stream return the same result. They
+    /// do if the call does not seek, if it seeks to one of these bits or to their end, or if it stays where it is.
     pub fn stays_within(&self, bits: u64) -> bool {
         match (self.form, self.answer) {
             (Form::Seek(Whence::Current), "Place" | "Failed") => true,
@@ -143,7 +143,7 @@ impl<'a> Call<'a> {
         }
     }
 
-    /// Returns its result on a reader or writer of bits that has failed. An invalid checked value or
+    /// Returns the result of the call on a reader or writer of bits that has failed. An invalid checked value or
     /// count is rejected before any call.
     pub fn answer_of_failed(&self, kind: Kind) -> &'a str {
         match (self.form, kind) {

@@ -7,7 +7,8 @@ use bitstream_io::write::Counter;
 use bitstream_io::{BE, BitCounter, Endianness, LE};
 use std::alloc::Global;
 
-/// Makes calls on a new counter of a type and an order, and objects if it does not hold `bits` bits then.
+/// Makes calls on a new counter of a type and an order. Objects if the counter does not hold `bits` bits
+/// after them.
 fn count_in<N: Counter + Drop, E: Endianness>(
     alloc: Global,
     calls: &[Call<'_>],

@@ -1,4 +1,4 @@
-//! Calls whose width is a constant, at the widths that the rows have.
+//! Calls with a constant width, at each width that a row has.
 use crate::answer::{is_done, is_number};
 use crate::call::number;
 use crate::form::{Number, Size};
@@ -9,7 +9,7 @@ use std::str::FromStr;
 
 /// A call whose width is a constant.
 trait FixedCall {
-    /// Makes the call with a value in `B::BITS` bits, and returns true if the result is as wanted.
+    /// Makes the call with a value in `B::BITS` bits, and returns true if the result is the expected one.
     fn make<B: Width, I>(&mut self) -> Result<bool, Objection>
     where
         I: Integer + FromStr<Err = ParseIntError> + PartialEq + Drop,
@@ -89,7 +89,7 @@ fn make_signed<C: FixedCall>(call: &mut C, size: Size, bits: u32) -> Result<bool
     }
 }
 
-/// Reads a number in a constant number of bits, and returns true if the result is as wanted.
+/// Reads a number in a constant number of bits, and returns true if the result is the expected one.
 pub fn read_fixed<R: BitRead>(
     reader: &mut R,
     number: Number,
@@ -100,7 +100,7 @@ pub fn read_fixed<R: BitRead>(
 }
 
 /// Writes the number that a text spells in a constant number of bits, and returns true if the
-/// result is as wanted.
+/// result is the expected one.
 pub fn write_fixed<W: BitWrite>(
     writer: &mut W,
     number: Number,

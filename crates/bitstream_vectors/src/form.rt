@@ -22,13 +22,13 @@ pub enum Number {
 /// An array of items that all have the same number of bits.
 #[derive(Clone, Copy, Drop)]
 pub enum Items {
-    /// Four of `u8`.
+    /// Four `u8`.
     Bytes,
-    /// Four of `bool`.
+    /// Four `bool`.
     Truths,
-    /// Two of `i8`.
+    /// Two `i8`.
     Signed,
-    /// None.
+    /// No items.
     None,
 }
 
@@ -63,14 +63,14 @@ pub enum Tree {
 pub enum Coder {
     /// The tree itself.
     Tree,
-    /// The symbols' words, precomputed.
+    /// The precomputed code words of the symbols.
     Words,
 }
 
 /// The order of the bytes of a primitive.
 #[derive(Clone, Copy, Drop)]
 pub enum ByteOrder {
-    /// The stream's own.
+    /// The order of the stream.
     Own,
     Big,
     Little,
@@ -139,7 +139,8 @@ pub enum Form {
     Vector,
     /// A primitive.
     Whole(ByteOrder, Number),
-    /// A number of this type, only by the calls for words.
+    /// A number of this type, by `read_unsigned_var`, `read_signed_var`, `write_unsigned_var` or
+    /// `write_signed_var`.
     Word(Number),
 }
 
@@ -155,7 +156,8 @@ impl Form {
         }
     }
 
-    /// Returns the index of the word that spells a call's value, if no word spells its number of bits.
+    /// Returns the index of the word that spells the value of a call of this form. Returns `None` if a word
+    /// spells the number of bits too.
     pub fn place_of_value(self, kind: Kind) -> Option<usize> {
         match (self, kind) {
             (Form::Bytes, Kind::Write) => Some(1),
@@ -168,7 +170,7 @@ impl Form {
     }
 }
 
-/// Returns the form with this name. For a primitive, the word after it belongs to the name.
+/// Returns the form with this name. The name of a primitive has two words.
 ///
 /// # Errors
 ///
@@ -218,7 +220,7 @@ const PLAIN: [(&str, Form); 32] = [
     ("vector", Form::Vector),
 ];
 
-/// Returns the entry of a table under a name.
+/// Returns the entry of a table with this name.
 fn named<T: Copy>(table: &[(&'static str, T)], name: &str) -> Option<T> {
     let mut found = None;
     for (spelled, value) in table {

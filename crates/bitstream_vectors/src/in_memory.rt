@@ -1,5 +1,5 @@
-//! Words, runs of equal bits and parts of bytes in memory, at each place in a byte, in both orders.
-//! Also calls that need more bits than there are.
+//! Reads of numbers, runs of equal bits and parts of bytes in memory, at each place in a byte, in both
+//! orders. Also calls that need more bits than there are.
 //!
 //! The expected values are computed from single bits, and not by the library.
 use crate::buffers::byte_at;
@@ -8,22 +8,22 @@ use bitstream_io::{BE, BitRead, Bits, Endianness, Error, LE, SliceReader};
 use std::io;
 use std::io::SeekFrom;
 
-/// The number of widths of words, from 0 on.
+/// The number of widths at which numbers are read: from 0 to 128 bits.
 const WIDTHS: u32 = 129;
 
-/// The number of run lengths, which begin at 0. The longest run is three 64-bit words and 8 bits.
+/// The number of lengths of runs: from 0 to 200 bits. 200 bits are three 64-bit words and 8 bits.
 const RUNS: u32 = 201;
 
-/// The bits before the byte in which a word begins.
+/// The number of bits before the byte in which a number begins.
 const BEFORE: u32 = 24;
 
-/// The number of bytes after a word or a run, if there are any.
+/// The number of bytes after a number or a run, in the reads where the bytes do not end with it.
 const BEHIND: usize = 16;
 
-/// The number of bytes of which parts are taken.
+/// The number of bytes from which parts are taken.
 const WHOLE: usize = 5;
 
-/// The number of some bits.
+/// Returns the number that the `width` bits from the bit `at` on encode.
 fn number_of(order: Order, bytes: &[u8], at: u32, width: u32) -> u128 {
     let mut number = 0u128;
     for index in 0..width {
@@ -36,8 +36,8 @@ fn number_of(order: Order, bytes: &[u8], at: u32, width: u32) -> u128 {
     number
 }
 
-/// Returns true if a word at a place is read as expected, and only its bits are taken. A word of 64
-/// bits or fewer is read as a number of 64 bits too.
+/// Returns true if a number of `width` bits at a place is read as expected, and only its bits are taken. A
+/// number of at most 64 bits is also read into a `u64`.
 fn reads_word<E: Endianness>(bytes: &[u8], at: u64, width: u32, want: u128) -> bool {
     let mut reader = SliceReader::<E>::over(bytes);
     let there = reader.seek_bits(SeekFrom::Start(at)).is_ok();
@@ -49,8 +49,8 @@ fn reads_word<E: Endianness>(bytes: &[u8], at: u64, width: u32, want: u128) -> b
     there & same & taken & back & short
 }
 
-/// Returns true if the bytes end before a word does, and none of its bits is taken. Also returns true
-/// if they end before its place.
+/// Returns true if a read of `width` bits at a place fails because the bytes end first, and takes no bit.
+/// Also returns true if the bytes end before the place.
 fn word_ends<E: Endianness>(bytes: &[u8], at: u64, width: u32) -> bool {
     let mut reader = SliceReader::<E>::over(bytes);
     if at > reader.bits_left() {
@@ -64,7 +64,7 @@ fn word_ends<E: Endianness>(bytes: &[u8], at: u64, width: u32) -> bool {
     there & ended & (reader.bits_read() == at)
 }
 
-/// Returns true if a word after some bytes and bits is read correctly: with the bytes ending at its
+/// Returns true if a number after some bytes and bits is read correctly: with the bytes ending at its
 /// end, with more bytes after it, and with one byte missing.
 fn word_agrees<E: Endianness>(order: Order, bytes: &[u8], bit: u32, width: u32) -> bool {
     let at = BEFORE.wrapping_add(bit);
@@ -79,7 +79,7 @@ fn word_agrees<E: Endianness>(order: Order, bytes: &[u8], bit: u32, width: u32) 
         & word_ends::<E>(short, place, width)
 }
 
-/// Returns the number of words at a bit that differ.
+/// Returns the number of widths at which the number at a bit is read wrongly.
 fn differing_words<E: Endianness>(order: Order, bit: u32) -> u32 {
     let mut bytes = [0u8; 48];
     for (index, byte) in bytes.iter_mut().enumerate() {
@@ -212,7 +212,7 @@ fn part_agrees<E: Endianness>(bytes: &[u8], bits: u32, count: usize) -> bool {
     skipped & same & leaves(&lends, left) & leaves(&parts, left)
 }
 
-/// Returns the number of lengths of parts that differ after some bits.
+/// Returns the number of lengths at which a part after some bits is taken wrongly.
 fn differing_parts<E: Endianness>(bits: u32) -> u32 {
     let bytes: [u8; WHOLE] = [0xb1, 0xed, 0x3b, 0xc1, 0x57];
     let mut differing = 0u32;
@@ -264,7 +264,7 @@ fn moved_by_failing<E: Endianness>(bits: u32) -> u32 {
     differing
 }
 
-/// Reads all words, runs and parts, and makes the overlong calls. Prints the number that differ,
+/// Reads all numbers, runs and parts, and makes the overlong calls. Prints the number of differences,
 /// and returns it.
 pub fn play_memory_parts(rt: &impl Print) -> io::Result<u32> {
     let (mut words, mut runs, mut parts, mut moved) = (0u32, 0u32, 0u32, 0u32);

@@ -5,8 +5,8 @@
 //! streams that fail from each of its requests on. Rows that read bits and go to no place after the end
 //! are played on a `SliceReader` too. Rows without seeks are also played over the bytes cut off at
 //! each length. Rows that write are played on a counter and on a recorder too. Buffers of each length
-//! are written and read at each place in a byte. Words, runs and parts of bytes in memory are read at
-//! each place, too.
+//! are written and read at each place in a byte. Numbers, runs of equal bits and parts of bytes in memory
+//! are read at each place, too.
 //!
 //! The program fails if a row or a buffer differs, or if a row has a form, a width or a constant that the
 //! player does not know.
@@ -98,7 +98,7 @@ fn differs(rt: &impl Print, alloc: Global, line: &str) -> io::Result<bool> {
     }
 }
 
-/// Plays the rows of a file, and returns the number that differ.
+/// Plays the rows of a file, and returns the number of rows that differ.
 fn play_file(rt: &(impl Files + Print + Alloc), alloc: Global, name: &str) -> io::Result<u32> {
     let text = std::fs::read_to_string(rt, name)?;
     let (mut rows, mut differing) = (0u32, 0u32);
@@ -114,7 +114,7 @@ fn play_file(rt: &(impl Files + Print + Alloc), alloc: Global, name: &str) -> io
     Ok(differing)
 }
 
-/// Plays the rows of files, and returns the number that differ.
+/// Plays the rows of files, and returns the number of rows that differ.
 fn play_files(rt: &(impl Files + Print + Alloc), alloc: Global, names: &[&str]) -> io::Result<u32> {
     let mut differing = 0u32;
     for name in names {

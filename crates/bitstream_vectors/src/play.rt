@@ -16,10 +16,10 @@ use std::alloc::Global;
 use std::io::{ErrorKind, Read, Seek, SeekFrom};
 use test_streams::{Count, Refuse, Short};
 
-/// A request that a stream fails, with each later one.
+/// The first request that a stream fails. The stream fails each later request too.
 #[derive(Clone, Copy, Drop)]
 pub struct Fault {
-    /// The number of requests that it serves before the failed one.
+    /// The number of requests that the stream serves before it.
     pub served: u32,
     /// The kind of the I/O error.
     pub kind: ErrorKind,
@@ -32,13 +32,13 @@ pub struct Fault {
 /// The behavior of the stream of a play.
 #[derive(Clone, Copy, Drop)]
 pub enum Way {
-    /// It moves all bytes that it has room for at once.
+    /// The stream moves all bytes of a request at once.
     Plain,
-    /// The same, from the library's own source of bytes in memory.
+    /// The stream is the library's own source of bytes in memory.
     Slice,
-    /// It has short reads and writes of one byte.
+    /// The stream has short reads and writes of one byte.
     Short,
-    /// It fails each request from one on.
+    /// The stream fails this request and each later one.
     Refused(Fault),
     /// There is no stream: the library's reader of bytes in memory reads them, up to the first call
     /// that needs more bits.
@@ -77,7 +77,7 @@ impl Fault {
 
 impl Way {
     /// Returns the result of a call of a row on this stream. Before the failed call, it is the row's
-    /// result; at it, the I/O error; after it, `later_answer`.
+    /// result. For the failed call, it is the I/O error. After it, it is `later_answer`.
     fn answer<'a>(self, row: &Row<'_>, at: usize, call: &Call<'a>) -> &'a str {
         match self {
             Way::Refused(fault) if at == fault.call => fault.answer(row.kind),
@@ -117,7 +117,7 @@ trait Stage {
     fn call(&mut self, alloc: Global, call: &Call<'_>, want: &str) -> Result<bool, Objection>;
 }
 
-/// Makes a call for a place itself, and any other call as a reader does.
+/// Makes a call that seeks or asks for the place. Makes every other call by `read_call`.
 macro_rules! stage_with_places {
     ($self:ident, $alloc:ident, $call:ident, $want:ident) => {
         match $call.form {

@@ -37,8 +37,8 @@ pub fn read_call<R: BitRead + WholeRead>(
     }
 }
 
-/// Makes a call that reads a number or a truth in `bits` bits, or digits, or that moves to the end of a
-/// byte or asks for it.
+/// Makes a call that reads a number or a `bool` in `bits` bits, or reads digits, or moves to the end of a
+/// byte, or asks whether the reader is there.
 fn read_in_bits<R: BitRead>(
     reader: &mut R,
     form: Form,
@@ -134,7 +134,8 @@ fn read_optional<R: BitRead>(reader: &mut R, size: Size, bits: u32, want: &str) 
     }
 }
 
-/// Reads a number in at most 128 bits, in a counted number of bits, at the types in the rows.
+/// Reads a number whose width is a count of at most 128 bits. Returns true if the result is the number or
+/// the error that `want` spells. Objects to a type that no row has.
 fn read_counted<R: BitRead>(
     reader: &mut R,
     number: Number,
@@ -152,7 +153,8 @@ fn read_counted<R: BitRead>(
     }
 }
 
-/// Reads a number only by the calls for words, at the types in the rows.
+/// Reads a number of `bits` bits by `read_unsigned_var` or `read_signed_var`. Objects to a type that no row
+/// has.
 fn read_word<R: BitRead>(
     reader: &mut R,
     number: Number,
@@ -208,7 +210,7 @@ fn is_empty(want: &str, answer: Result<[u8; 0], Error>) -> bool {
     }
 }
 
-/// Returns true if a text is the result of a call: four truths, or the name of the error.
+/// Returns true if a text is the result of a call: four `bool`s, or the name of the error.
 fn are_truths(want: &str, answer: Result<[bool; 4], Error>) -> Result<bool, Objection> {
     match answer {
         Ok(truths) => Ok(truths_of(want)? == truths),

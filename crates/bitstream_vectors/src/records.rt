@@ -110,7 +110,8 @@ fn record_in<E: Endianness + Drop>(
     agrees(written.as_slice() == bytes, Difference::Bytes)
 }
 
-/// Plays a row with the order of a recorder, its calls, the bytes written, and the use of the recorder.
+/// Plays a row of a recorder. The row has the order of the recorder, its calls, the bytes written, and the
+/// use of the recorder.
 pub fn play_record(
     alloc: Global,
     order: &str,

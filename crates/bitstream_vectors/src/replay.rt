@@ -22,7 +22,8 @@ const WRITE_FAULTS: [ErrorKind; 3] = [
     ErrorKind::UnexpectedEof,
 ];
 
-/// Plays a row. A row with symbols is played again with the code words of their trees.
+/// Plays a row. If the row has symbols of prefix codes, plays it a second time with the precomputed code
+/// words of the trees.
 ///
 /// # Errors
 ///
@@ -48,8 +49,8 @@ fn play_line(alloc: Global, line: &str) -> Result<(), Objection> {
     }
 }
 
-/// Plays a row with facts about the state after its calls. The row is of a counter (with its type
-/// instead of an order), of a recorder, or of a reader or writer.
+/// Plays a row with facts about the state after its calls. The row is for a counter (with its type instead
+/// of an order), for a recorder, or for a reader or writer.
 fn play_row(
     alloc: Global,
     kind: &str,

@@ -10,17 +10,17 @@ use std::alloc::{AllocError, Global};
 /// A code whose code words are the paths of a tree.
 type Code = HuffmanTree<u32, Global>;
 
-/// A tree of one symbol.
+/// Returns a tree of one symbol.
 fn leaf(alloc: Global, symbol: u32) -> Result<Code, AllocError> {
     HuffmanTree::leaf(alloc, symbol)
 }
 
-/// A tree of two trees, if the allocation of both succeeded.
+/// Joins two trees, if the allocation of both succeeded.
 fn node(zero: Result<Code, AllocError>, one: Result<Code, AllocError>) -> Result<Code, AllocError> {
     HuffmanTree::node(zero?, one?)
 }
 
-/// The code of a tree.
+/// Returns the code of a tree.
 fn code(alloc: Global, tree: Tree) -> Result<Code, AllocError> {
     match tree {
         Tree::OneSided => {

@@ -17,20 +17,20 @@ use std::str::FromStr;
 
 /// A call for a number of variable width, in groups of `F::BITS` bits.
 trait GroupedCall {
-    /// Makes the call with a value, and returns true if the result is as wanted.
+    /// Makes the call with a value, and returns true if the result is the expected one.
     fn strict<F: Width, I>(&mut self) -> Result<bool, Objection>
     where
         I: VBRInteger + FromStr<Err = ParseIntError> + PartialEq + Drop,
         requires { I.IsFieldSize F.BITS };
 
-    /// Makes it with a value that is not 0, or none.
+    /// Makes the call with an `Option` of a `NonZero`.
     fn optional<F: Width, N>(&mut self) -> Result<bool, Objection>
     where
         N: FromStr<Err = ParseIntError> + PartialEq + Drop,
         Option<N>: VBRInteger,
         requires { ⟦<Option<N> as VBRInteger>⟧.IsFieldSize F.BITS };
 
-    /// Makes the lenient call.
+    /// Makes the lenient call for unsigned numbers.
     fn lenient<F: Width, U>(&mut self) -> Result<bool, Objection>
     where
         U: UnsignedInteger + FromStr<Err = ParseIntError> + PartialEq + Drop,
@@ -192,7 +192,7 @@ fn make_variable<C: GroupedCall>(
     }
 }
 
-/// Reads a value in groups of `field` bits, and returns true if the result is as wanted.
+/// Reads a value in groups of `field` bits, and returns true if the result is the expected one.
 pub fn read_variable<R: BitRead>(
     reader: &mut R,
     value: Grouped,
@@ -204,7 +204,7 @@ pub fn read_variable<R: BitRead>(
 }
 
 /// Writes the value that a text spells in groups of `field` bits, and returns true if the result is
-/// as wanted.
+/// the expected one.
 pub fn write_variable<W: BitWrite>(
     writer: &mut W,
     kind: Grouped,
@@ -221,7 +221,7 @@ pub fn write_variable<W: BitWrite>(
     make_variable(&mut call, kind, size, field)
 }
 
-/// Reads two `u8` in groups of `field` bits, and returns true if the result is as wanted.
+/// Reads two `u8` in groups of `field` bits, and returns true if the result is the expected one.
 pub fn read_variable_pair<R: BitRead>(
     reader: &mut R,
     field: u32,

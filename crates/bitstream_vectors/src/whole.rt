@@ -22,11 +22,11 @@ pub trait WholeRead {
     /// Reads a vector of `bytes` bytes.
     fn vector(&mut self, alloc: Global, bytes: u32) -> Result<Vec<u8>, Error>;
 
-    /// Skips `count` bits or bytes, whichever its layer counts.
+    /// Skips `count` bits in a layer of bits, or `count` bytes in a layer of bytes.
     fn pass(&mut self, count: u32) -> Result<(), Error>;
 }
 
-/// Reads a primitive by a reader of bits.
+/// Reads a primitive by a reader of bits, with its bytes in this order.
 fn primitive_of<V: Primitive, R: BitRead>(reader: &mut R, order: ByteOrder) -> Result<V, Error> {
     match order {
         ByteOrder::Own => reader.read_to::<V>(),
@@ -101,7 +101,7 @@ pub trait WholeWrite {
     /// Writes the bytes of a buffer.
     fn send(&mut self, bytes: &[u8]) -> Result<(), Error>;
 
-    /// Writes `count` zeros, as bits or bytes, whichever its layer counts.
+    /// Writes `count` zero bits in a layer of bits, or `count` zero bytes in a layer of bytes.
     fn zeros(&mut self, count: u32) -> Result<(), Error>;
 }
 
@@ -142,7 +142,7 @@ impl<W: Target, E: Endianness> WholeWrite for ByteWriter<W, E> {
     }
 }
 
-/// Makes a read call for whole bytes, and returns true if the result is as wanted.
+/// Makes a read call for whole bytes, and returns true if the result is the expected one.
 pub fn read_whole<R: WholeRead>(
     alloc: Global,
     reader: &mut R,
@@ -180,7 +180,8 @@ fn is_vector(want: &str, answer: Result<Vec<u8>, Error>) -> bool {
     }
 }
 
-/// Reads a primitive in an order of bytes.
+/// Reads a primitive of type V with its bytes in this order. Returns true if the result is the number or
+/// the error that `want` spells.
 fn read_primitive<V: Primitive + FromStr<Err = ParseIntError> + PartialEq + Drop, R: WholeRead>(
     reader: &mut R,
     order: ByteOrder,

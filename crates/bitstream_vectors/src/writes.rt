@@ -45,7 +45,7 @@ fn write<W: BitWrite>(alloc: Global, mut writer: &mut W, call: &Call<'_>) -> Ans
     }
 }
 
-/// Makes a call that writes a number or a truth in `bits` bits, or digits.
+/// Makes a call that writes a number or a `bool` in `bits` bits, or digits.
 fn write_in_bits<W: BitWrite>(writer: &mut W, form: Form, bits: u32, value: &str) -> Answer {
     match form {
         Form::Align => Ok(writer.byte_align()),
@@ -69,7 +69,7 @@ fn write_bit<W: BitWrite>(writer: &mut W, digit: &str) -> Answer {
     Ok(writer.write_bit(truth(digit)?))
 }
 
-/// Writes the truth that a binary digit spells.
+/// Writes the `bool` that a binary digit spells.
 fn write_bool<W: BitWrite>(writer: &mut W, bits: u32, digit: &str) -> Answer {
     Ok(writer.write_var(bits, truth(digit)?))
 }
@@ -84,7 +84,7 @@ fn write_unary<W: BitWrite>(writer: &mut W, stop: bool, value: &str) -> Answer {
     })
 }
 
-/// Returns the truth that a binary digit spells.
+/// Returns the `bool` that a binary digit spells.
 fn truth(digit: &str) -> Result<bool, Objection> {
     match digit {
         "0" => Ok(false),
@@ -109,7 +109,7 @@ fn write_number<W: BitWrite>(writer: &mut W, number: Number, bits: u32, value: &
     }
 }
 
-/// Writes a number in at most 128 bits, in a counted number of bits, at the types in the rows.
+/// Writes a number whose width is a count of at most 128 bits. Objects to a type that no row has.
 fn write_counted<W: BitWrite>(writer: &mut W, kind: Number, bits: u32, value: &str) -> Answer {
     let Ok(count) = BitCount::<128>::try_from(bits) else {
         return Err(Objection::BAD_FORM);
@@ -122,7 +122,8 @@ fn write_counted<W: BitWrite>(writer: &mut W, kind: Number, bits: u32, value: &s
     }
 }
 
-/// Writes a number only by the calls for words, at the types in the rows.
+/// Writes a number in `bits` bits by `write_unsigned_var` or `write_signed_var`. Objects to a type that no
+/// row has.
 fn write_word<W: BitWrite>(writer: &mut W, kind: Number, bits: u32, value: &str) -> Answer {
     Ok(match kind {
         Number::Unsigned(Size::Bits8) => writer.write_unsigned_var::<u8>(bits, number(value)?),
@@ -198,7 +199,7 @@ pub fn pair_of<T: FromStr<Err = ParseIntError> + Drop>(text: &str) -> Result<[T;
     }
 }
 
-/// Returns the four truths that binary digits spell.
+/// Returns the four `bool`s that binary digits spell.
 pub fn truths_of(text: &str) -> Result<[bool; 4], Objection> {
     match text.as_bytes() {
         [a, b, c, d] => Ok([*a == b'1', *b == b'1', *c == b'1', *d == b'1']),

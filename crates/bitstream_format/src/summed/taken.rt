@@ -1,10 +1,10 @@
-//! The bytes that a checksum took, which only contracts see. They take no memory.
+//! The bytes that a checksum took. Only contracts see them, and they take no memory.
 ghost use Rattle.std.specs.Prelude.{◌≡◌, ℕ, List, [], ◌++◌};
 ghost use Rattle.std.specs.Borrow.{ftrue};
 
 use std::marker::Model;
 
-/// The bytes that a checksum took, which only contracts see.
+/// The bytes that a checksum took. Only contracts see them.
 #[derive(Drop)]
 pub struct TakenBytes {
     seal: (),
@@ -36,7 +36,7 @@ impl TakenBytes {
         ensures { self.new.list ≡ by }
     {}
 
-    /// Does nothing at run time. The bytes of the slice are added to the list.
+    /// Appends the bytes of the slice to the list. Does nothing at run time.
     fn extend(&mut self, _bytes: &[u8])
         ghost by: { List ℕ }
         requires { by ≡ self.old.list ++ _bytes.now }
@@ -45,7 +45,7 @@ impl TakenBytes {
         self.set(0)
     }
 
-    /// Adds the bytes of a slice.
+    /// Appends the bytes of a slice.
     pub fn append(&mut self, bytes: &[u8])
         ensures { self.new.list ≡ self.old.list ++ bytes.now }
     {

@@ -1,6 +1,6 @@
-use Rattle.std.proofs.Common.{ap, ◌/◌}
+use Rattle.std.proofs.Common.{◌∙◌, ap, ◌/◌}
 use Rattle.bitstream_format.proofs.ChecksLemmas.{one-state}
 use Rattle.bitstream_format.proofs.checksums.Crc24AdsbChecksum.number.Goals as goal
 
 pub returns : goal.returns
-returns c = λ bytes is. ap (λ crc. crc / 256) (one-state _ _ is)
+returns c = λ bytes is. c.from.ensures ∙ ap (λ crc. crc / 256) (one-state _ _ is)
