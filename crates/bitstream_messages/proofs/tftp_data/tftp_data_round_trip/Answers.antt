@@ -1,9 +1,0 @@
--- Made by `./format` from formats/tftp_data.fields: edit that file and make this one anew.
-use Rattle.bitstream_messages.proofs.TftpDataLemmas.{tftp_data_goes, tftp_data_packs}
-use Rattle.bitstream_messages.proofs.tftp_data.tftp_data_round_trip.Goals as goal
-
-pub returns-clause-back : goal.returns-clause-back
-returns-clause-back c = λ o value at from more fits. (tftp_data_goes o value fits).back at from more
-
-pub returns-clause-size : goal.returns-clause-size
-returns-clause-size c = λ o value at fits. (tftp_data_packs o value fits).size at

@@ -1,0 +1,6 @@
+-- Made by `./format` from formats/flac_metadata.fields: edit that file and make this one anew.
+use Rattle.bitstream_io.proofs.CallerLemmas.{plainly_written}
+use Rattle.media_messages.proofs.flac_metadata.FlacMetadataToBitStream.to_writer.Goals as goal
+
+pub returns : goal.returns
+returns g c = record { writes = plainly_written _ _ _ _ _ c.write.ensures }

@@ -1,0 +1,17 @@
+pub mod FlacBlock
+pub mod FlacBlockBytes
+pub mod FlacBlockFields
+pub mod FlacInfo
+pub mod FlacMetadata
+pub mod FlacMetadataFields
+pub mod GifComment
+pub mod GifCommentFields
+pub mod TsPat
+pub mod TsPatFields
+pub mod TsPmt
+pub mod TsPmtFields
+pub mod TsProgram
+pub mod TsStream
+pub mod TsStreamFields
+pub mod WavFile
+pub mod WavFileFields

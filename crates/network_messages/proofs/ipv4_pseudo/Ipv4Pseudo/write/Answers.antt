@@ -1,0 +1,32 @@
+-- Made by `./format` from formats/ipv4_pseudo.fields: edit that file and make this one anew.
+use Rattle.bitstream_io.proofs.WriteParts.{all_none}
+use Rattle.bitstream_io.proofs.WriteSteps.{next_call, next_write, stop_call, stop_write}
+use Rattle.network_messages.proofs.ipv4_pseudo.Ipv4Pseudo.write.Goals as goal
+
+pub returns-in_err-write_bytes : goal.returns-in_err-write_bytes
+returns-in_err-write_bytes g c = stop_call _ _ _ _ _ _ _ c.from_residual.ensures.1 c.in_err-write_bytes.ensures.writes
+
+pub returns-in_err-write_bytes-2 : goal.returns-in_err-write_bytes-2
+returns-in_err-write_bytes-2 g c = next_call _ _ _ _ _ _ _ c.in_ok-write_bytes.ensures.writes (stop_call _ _ _ _ _ _ _
+    c.from_residual-in_err-write_bytes-2.ensures.1 c.in_err-write_bytes-2.ensures.writes)
+
+pub returns-in_err-pad : goal.returns-in_err-pad
+returns-in_err-pad g c = next_call _ _ _ _ _ _ _ c.in_ok-write_bytes.ensures.writes (next_call _ _ _ _ _ _ _
+    c.in_ok-write_bytes-2.ensures.writes (stop_call _ _ _ _ _ _ _ c.from_residual-in_err-pad.ensures.1
+    c.in_err-pad.ensures.writes))
+
+pub returns-in_err-write : goal.returns-in_err-write
+returns-in_err-write g c = next_call _ _ _ _ _ _ _ c.in_ok-write_bytes.ensures.writes (next_call _ _ _ _ _ _ _
+    c.in_ok-write_bytes-2.ensures.writes (next_call _ _ _ _ _ _ _ c.in_ok-pad.ensures.writes (stop_write _ _ _ _ _ _ _
+    c.from_residual-in_err-write.ensures.1 c.in_err-write.ensures.writes)))
+
+pub returns-in_err-write-2 : goal.returns-in_err-write-2
+returns-in_err-write-2 g c = next_call _ _ _ _ _ _ _ c.in_ok-write_bytes.ensures.writes (next_call _ _ _ _ _ _ _
+    c.in_ok-write_bytes-2.ensures.writes (next_call _ _ _ _ _ _ _ c.in_ok-pad.ensures.writes (next_write _ _ _ _ _ _ _
+    c.in_ok-write.ensures.writes (stop_write _ _ _ _ _ _ _ c.from_residual-in_err-write-2.ensures.1
+    c.in_err-write-2.ensures.writes))))
+
+pub returns : goal.returns
+returns g c = next_call _ _ _ _ _ _ _ c.in_ok-write_bytes.ensures.writes (next_call _ _ _ _ _ _ _
+    c.in_ok-write_bytes-2.ensures.writes (next_call _ _ _ _ _ _ _ c.in_ok-pad.ensures.writes (next_write _ _ _ _ _ _ _
+    c.in_ok-write.ensures.writes (next_write _ _ _ _ _ _ _ c.in_ok-write-2.ensures.writes (all_none _ _)))))

@@ -1,0 +1,6 @@
+-- Made by `./format` from formats/ipv4_pseudo.fields: edit that file and make this one anew.
+use Rattle.bitstream_io.proofs.CallerLemmas.{plainly_written}
+use Rattle.network_messages.proofs.ipv4_pseudo.Ipv4PseudoToBitStream.to_writer.Goals as goal
+
+pub returns : goal.returns
+returns g c = record { writes = plainly_written _ _ _ _ _ c.write.ensures }

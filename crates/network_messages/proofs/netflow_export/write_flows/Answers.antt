@@ -1,0 +1,21 @@
+-- Made by `./format` from formats/netflow_export.fields: edit that file and make this one anew.
+use Rattle.network_messages.specs.NetflowFlow.{netflow_flow_writes}
+use Rattle.std.proofs.Common.{refl}
+use Rattle.bitstream_io.proofs.CallerLemmas.{written-begin, written-more, written-stop}
+use Rattle.network_messages.proofs.netflow_export.write_flows.Goals as goal
+
+pub loop-item-init : goal.loop-item-init
+loop-item-init g c = let K = g.W.BitWrite.sink in
+    written-begin K (netflow_flow_writes K.order) c.args.items.now _
+
+pub returns-in_err-write : goal.returns-in_err-write
+returns-in_err-write g c =
+    let K = g.W.BitWrite.sink in
+    written-stop K (netflow_flow_writes K.order) c.args.items.now _ _ _ _ _ _ _ _
+    c.loop-item-test.true refl c.loop-item.invariant c.in_err-write.ensures c.from_residual.ensures.1
+
+pub loop-item-preserved : goal.loop-item-preserved
+loop-item-preserved g c =
+    let K = g.W.BitWrite.sink in
+    written-more K (netflow_flow_writes K.order) c.args.items.now _ _ _ _ _ _
+    c.loop-item-test.true refl c.loop-item.invariant c.in_ok-write.ensures

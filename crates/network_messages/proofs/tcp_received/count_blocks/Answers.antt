@@ -1,0 +1,13 @@
+-- Made by `./format` from formats/tcp_received.fields: edit that file and make this one anew.
+use Rattle.bitstream_io.proofs.LengthLemmas.{count_done, count_stopped}
+use Rattle.std.proofs.Common.{refl}
+use Rattle.bitstream_io.proofs.CallerLemmas.{plainly_written}
+use Rattle.network_messages.proofs.tcp_received.count_blocks.Goals as goal
+
+pub returns-in_err-write_blocks : goal.returns-in_err-write_blocks
+returns-in_err-write_blocks c = count_stopped _ 18446744073709551615 (λ x. x) _ _ _ _ _ refl (λ _. refl) (λ _ x. x)
+    c.new-counter.ensures _ _ c.from_residual.ensures.1 (plainly_written _ _ _ _ _ c.in_err-write_blocks.ensures)
+
+pub returns : goal.returns
+returns c = count_done _ 18446744073709551615 (λ x. x) _ _ _ _ _ refl (λ _. refl) (λ _ x. x) c.new-counter.ensures _
+    c.into_written.ensures (plainly_written _ _ _ _ _ c.in_ok-write_blocks.ensures)
