@@ -176,7 +176,7 @@ pub extern "C" fn proved_bits_read_signed_le(reader: &mut BitsReader, width: u32
     read_signed::<LE>(reader, width)
 }
 
-/// Passes over `count` bits.
+/// Skips `count` bits.
 #[unsafe(no_mangle)]
 pub extern "C" fn proved_bits_skip(reader: &mut BitsReader, count: u64) -> i32
     ensures there { HasLeft reader.old count → (result ≡ pos 0) × Advanced count reader.old reader.new }
@@ -189,7 +189,7 @@ pub extern "C" fn proved_bits_skip(reader: &mut BitsReader, count: u64) -> i32
     0
 }
 
-/// Goes on to the next whole byte.
+/// Skips the bits up to the next whole byte.
 #[unsafe(no_mangle)]
 pub extern "C" fn proved_bits_align(reader: &mut BitsReader)
     ensures { reader.old.at ≤ 8 * length reader.old.bytes.now → reader.old.at < 2 ^ 64 - 8
@@ -205,7 +205,7 @@ pub extern "C" fn proved_bits_align(reader: &mut BitsReader)
     reader.at += 8 - over;
 }
 
-/// Goes to a place.
+/// Moves to a place, in bits from the first byte.
 #[unsafe(no_mangle)]
 pub extern "C" fn proved_bits_seek(reader: &mut BitsReader, at: u64) -> i32
     ensures there { at ≤ 8 * length reader.old.bytes.now

@@ -20,6 +20,7 @@ pub mod NtpTimestampLemmas
 pub mod PngStartLemmas
 pub mod QuicLongHeaderLemmas
 pub mod ReportBlockLemmas
+pub mod RtcpReceiverReportLemmas
 pub mod RtcpSenderReportLemmas
 pub mod SocksLoginLemmas
 pub mod TcpHeaderLemmas
@@ -46,6 +47,7 @@ mod NtpTimestampRows
 mod PngStartRows
 mod QuicLongHeaderRows
 mod ReportBlockRows
+mod RtcpReceiverReportRows
 mod RtcpSenderReportRows
 mod SocksLoginRows
 mod TcpHeaderRows

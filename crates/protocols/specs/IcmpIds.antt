@@ -1,4 +1,4 @@
--- Which echo it is.
+-- The numbers that identify an echo.
 use Rattle.protocols.specs.declared.icmp_ids.IcmpIds.{IcmpIds}
 use Rattle.std.proofs.Common.{refl}
 use Rattle.bitstream_format.specs.Format.{◌>>=◌, Plain as PlainFormat, Parts as FormatParts, format, renamed, field, ◌&◌, done}

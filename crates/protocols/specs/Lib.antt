@@ -22,6 +22,8 @@ pub mod PngStart
 pub mod QuicLongHeader
 pub mod QuicLongHeaderFields
 pub mod ReportBlock
+pub mod RtcpReceiverReport
+pub mod RtcpReceiverReportFields
 pub mod RtcpSenderReport
 pub mod SocksLogin
 pub mod SocksLoginFields

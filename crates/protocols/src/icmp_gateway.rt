@@ -24,7 +24,7 @@ use bitstream_io::{
 /// ```
 #[derive(Clone, Copy, Debug, PartialEq)]
 pub struct IcmpGateway {
-    /// Its IPv4 address.
+    /// The IPv4 address of the router.
     pub address: [u8; 4],
 }
 

@@ -28,7 +28,7 @@ use bitstream_io::{
 /// ```
 #[derive(Clone, Copy, Debug, PartialEq)]
 pub struct IcmpHeader {
-    /// The code, which adds to the type.
+    /// The code, which refines the type.
     pub code: u8,
     /// The checksum of the message.
     pub checksum: u16,

@@ -1,4 +1,4 @@
-//! Which echo it is.
+//! The numbers that identify an echo.
 //!
 //! Made by `./format` from formats/icmp_ids.fields: edit that file and make this one anew.
 ghost use Rattle.protocols.specs.IcmpIds.{icmp_ids_decoder, icmp_ids_writes, icmp_ids_bits, icmp_ids_at, Fits};
@@ -13,7 +13,7 @@ use bitstream_io::{
     SliceMut, ToBitStream, pack_into,
 };
 
-/// Which echo it is.
+/// The numbers that identify an echo.
 ///
 /// ```text
 ///  0                   1                   2                   3

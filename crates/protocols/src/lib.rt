@@ -19,7 +19,8 @@
 //! - [`ntp_packet`]: the header of an NTP packet, with [`ntp_timestamp`]: its timestamps
 //! - [`png_start`]: the start of a PNG file, with its first chunk
 //! - [`quic_long_header`]: the start of a long header of QUIC
-//! - [`rtcp_sender_report`]: a sender report of RTCP, with [`report_block`]: a block of one
+//! - [`rtcp_receiver_report`]: a receiver report of RTCP, with [`report_block`]: its blocks
+//! - [`rtcp_sender_report`]: a sender report of RTCP, up to its blocks
 //! - [`socks_login`]: the name and the password of a user of SOCKS
 //! - [`tcp_header`]: the header of a TCP segment without options
 //! - [`ts_header`]: the header of a packet of an MPEG transport stream
@@ -48,6 +49,7 @@ pub mod ntp_timestamp;
 pub mod png_start;
 pub mod quic_long_header;
 pub mod report_block;
+pub mod rtcp_receiver_report;
 pub mod rtcp_sender_report;
 pub mod socks_login;
 pub mod tcp_header;

@@ -23,7 +23,7 @@ extern "C" {
 #define ICMP_GATEWAY_SIZE 4
 
 struct icmp_gateway {
-    /* Its IPv4 address. */
+    /* The IPv4 address of the router. */
     uint8_t address[4];
 };
 

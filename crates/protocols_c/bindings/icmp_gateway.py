@@ -55,7 +55,7 @@ class IcmpGateway:
     """The router of a redirect."""
 
     address: bytes
-    """Its IPv4 address."""
+    """The IPv4 address of the router."""
 
     SIZE: ClassVar[int] = 4
     """The bytes that the fields take."""

@@ -13,7 +13,7 @@
 /// The router of a redirect.
 #[derive(Clone, Copy, Debug, PartialEq, Eq, Hash)]
 pub struct IcmpGateway {
-    /// Its IPv4 address.
+    /// The IPv4 address of the router.
     pub address: [u8; 4],
 }
 

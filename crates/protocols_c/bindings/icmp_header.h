@@ -47,13 +47,13 @@ struct icmp_header_body {
         struct icmp_gateway redirect;
         /* The content of the case `Echo`. */
         struct icmp_ids echo;
-        /* The number of the case `Other`: and of no other case. */
+        /* The number of the case `Other`, and of no other case. */
         uint8_t other;
     } as;
 };
 
 struct icmp_header {
-    /* The code, which adds to the type. */
+    /* The code, which refines the type. */
     uint8_t code;
     /* The checksum of the message. */
     uint16_t checksum;

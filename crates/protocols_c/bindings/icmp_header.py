@@ -134,7 +134,7 @@ class IcmpHeader:
     """The first bytes of an ICMP message (RFC 792)."""
 
     code: int
-    """The code, which adds to the type."""
+    """The code, which refines the type."""
     checksum: int
     """The checksum of the message."""
     body: Body

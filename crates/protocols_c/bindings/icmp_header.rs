@@ -21,7 +21,7 @@ use alloc::vec::Vec;
 /// The first bytes of an ICMP message (RFC 792).
 #[derive(Clone, Copy, Debug, PartialEq, Eq, Hash)]
 pub struct IcmpHeader {
-    /// The code, which adds to the type.
+    /// The code, which refines the type.
     pub code: u8,
     /// The checksum of the message.
     pub checksum: u16,

@@ -1,6 +1,6 @@
 """Made by `./format --c` from ../protocols/formats/icmp_ids.fields: edit that file and make this one anew.
 
-Which echo it is.
+The numbers that identify an echo.
 
  0                   1                   2                   3
  0 1 2 3 4 5 6 7 8 9 0 1 2 3 4 5 6 7 8 9 0 1 2 3 4 5 6 7 8 9 0 1
@@ -53,7 +53,7 @@ class _C(ctypes.Structure):
 
 @dataclass
 class IcmpIds:
-    """Which echo it is."""
+    """The numbers that identify an echo."""
 
     identifier: int
     """The number that a reply shares with its request."""

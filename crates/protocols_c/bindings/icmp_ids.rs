@@ -1,6 +1,6 @@
 //! Made by `./format --c` from ../protocols/formats/icmp_ids.fields: edit that file and make this one anew.
 //!
-//! Which echo it is.
+//! The numbers that identify an echo.
 //!
 //! ```text
 //!  0                   1                   2                   3
@@ -10,7 +10,7 @@
 //! +-+-+-+-+-+-+-+-+-+-+-+-+-+-+-+-+-+-+-+-+-+-+-+-+-+-+-+-+-+-+-+-+
 //! ```
 
-/// Which echo it is.
+/// The numbers that identify an echo.
 #[derive(Clone, Copy, Debug, PartialEq, Eq, Hash)]
 pub struct IcmpIds {
     /// The number that a reply shares with its request.

@@ -5,6 +5,9 @@ pub mod IcmpHeaderLemmas
 pub mod IcmpIdsLemmas
 pub mod ListLemmas
 pub mod MqttHeaderLemmas
+pub mod PartLemmas
+pub mod ReportBlockLemmas
+pub mod RtcpReceiverReportLemmas
 pub mod SharedLemmas
 pub mod SocksLoginLemmas
 pub mod VariedLemmas

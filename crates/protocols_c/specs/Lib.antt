@@ -5,6 +5,9 @@ pub mod IcmpHeader
 pub mod IcmpIds
 pub mod Lists
 pub mod MqttHeader
+pub mod Parts
+pub mod ReportBlock
+pub mod RtcpReceiverReport
 pub mod Shared
 pub mod SocksLogin
 pub mod Varied

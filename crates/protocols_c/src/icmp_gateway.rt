@@ -16,7 +16,7 @@ use protocols::icmp_gateway::IcmpGateway;
 #[repr(C)]
 #[derive(Clone, Copy)]
 pub struct IcmpGatewayC {
-    /// Its IPv4 address.
+    /// The IPv4 address of the router.
     pub address: [u8; 4],
 }
 

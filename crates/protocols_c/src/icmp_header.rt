@@ -18,7 +18,7 @@ use protocols::icmp_header::{Body, IcmpHeader};
 #[repr(C)]
 #[derive(Clone, Copy)]
 pub struct IcmpHeaderC {
-    /// The code, which adds to the type.
+    /// The code, which refines the type.
     pub code: u8,
     /// The checksum of the message.
     pub checksum: u16,
@@ -30,7 +30,7 @@ pub struct IcmpHeaderC {
     pub body_redirect: IcmpGatewayC,
     /// The content of the case `Echo`.
     pub body_echo: IcmpIdsC,
-    /// The number of the case `Other`: and of no other case.
+    /// The number of the case `Other`, and of no other case.
     pub body_other: u8,
 }
 

@@ -1,6 +1,6 @@
-//! What C, Rust and Python call of the library `protocols`, a module for each format.
+//! The functions of the library `protocols` that C, Rust and Python call: a module for each format.
 //!
-//! Each function is proved to do what its contract says, in each call that meets what the header asks for.
+//! Each function is proved to do what its contract says, in each call that meets the conditions in the header.
 #![tactic(auto)]
 
 mod coap_header;
@@ -9,6 +9,8 @@ mod icmp_gateway;
 mod icmp_header;
 mod icmp_ids;
 mod mqtt_header;
+mod report_block;
+mod rtcp_receiver_report;
 mod shared;
 mod socks_login;
 mod status;

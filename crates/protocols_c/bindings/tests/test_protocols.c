@@ -4,13 +4,17 @@
 #include "ethernet_header.h"
 #include "icmp_header.h"
 #include "mqtt_header.h"
+#include "rtcp_receiver_report.h"
 #include "socks_login.h"
 
 #include <stdio.h>
 #include <stdlib.h>
 #include <string.h>
 
-enum { MOST = 64 }; /* the bytes of the longest buffer */
+enum {
+    MOST = 64, /* the bytes of the longest buffer */
+    BLOCKS = 32 /* one more than the most report blocks */
+};
 
 static unsigned long calls;
 
@@ -487,6 +491,187 @@ static void random_socks(void)
         packs(socks_pack, &it, b, 3 + it.name.length + it.password.length, it.name.length < 256);
 }
 
+/* ---- RTCP, with a list of parts */
+
+static int rtcp_pack(const void *it, uint8_t *buffer, size_t length, size_t *written)
+{
+    return rtcp_receiver_report_pack(it, buffer, length, written);
+}
+
+/* Writes a number of 32 bits. */
+static void put_word(uint8_t *b, uint32_t it)
+{
+    for (int i = 0; i < 4; i++)
+        b[i] = (uint8_t)(it >> (24 - 8 * i));
+}
+
+/* The number of 32 bits at a place. */
+static uint32_t word(const uint8_t *b)
+{
+    return (uint32_t)b[0] << 24 | (uint32_t)b[1] << 16 | (uint32_t)b[2] << 8 | b[3];
+}
+
+/* The bytes of fields. */
+static size_t rtcp_bytes(const struct rtcp_receiver_report *it, uint8_t *b)
+{
+    size_t size = 8;
+    b[0] = (uint8_t)(0x80 | it->padding << 5 | (it->reports.length & 31));
+    b[1] = 201;
+    b[2] = (uint8_t)(it->length >> 8);
+    b[3] = (uint8_t)it->length;
+    put_word(b + 4, it->ssrc);
+    for (size_t i = 0; i < it->reports.length; i++, size += 24) {
+        const struct report_block *one = &it->reports.items[i];
+        put_word(b + size, one->ssrc);
+        put_word(b + size + 4, (uint32_t)one->fraction_lost << 24 | ((uint32_t)one->lost & 0xFFFFFF));
+        put_word(b + size + 8, one->highest);
+        put_word(b + size + 12, one->jitter);
+        put_word(b + size + 16, one->last_report);
+        put_word(b + size + 20, one->delay);
+    }
+    return size;
+}
+
+/* Compares a report block with its bytes. */
+static int same_block(const struct report_block *it, const uint8_t *b)
+{
+    int32_t lost = (int32_t)(word(b + 4) & 0xFFFFFF);
+    lost -= lost >> 23 ? 1 << 24 : 0;
+    return it->ssrc == word(b) && it->fraction_lost == b[4] && it->lost == lost && it->highest == word(b + 8)
+        && it->jitter == word(b + 12) && it->last_report == word(b + 16) && it->delay == word(b + 20);
+}
+
+static int block_pack(const void *it, uint8_t *buffer, size_t length, size_t *written)
+{
+    return report_block_pack(it, buffer, length, written);
+}
+
+/* Parses the bytes of a report block. */
+static void block_parses(const uint8_t *bytes, size_t length)
+{
+    struct report_block it, before;
+    uint8_t *part = block(bytes, length);
+    int status = length < REPORT_BLOCK_SIZE ? REPORT_BLOCK_END_OF_INPUT : REPORT_BLOCK_OK;
+    memset(&it, 0xA5, sizeof it);
+    memcpy(&before, &it, sizeof it);
+    HOLDS((int)report_block_parse(part, length, &it) == status);
+    calls++;
+    if (status)
+        HOLDS(!memcmp(&it, &before, sizeof it));
+    else {
+        HOLDS(same_block(&it, bytes));
+        packs(block_pack, &it, bytes, REPORT_BLOCK_SIZE, 1);
+    }
+    free(part);
+}
+
+/* Parses bytes with some room for the report blocks, with the storage at the end of its block. */
+static void rtcp_room(const uint8_t *bytes, size_t length, int status, size_t room)
+{
+    struct rtcp_receiver_report it, before;
+    size_t count = status ? 0 : bytes[0] & 31, taken = 99;
+    uint8_t packed[8 + 24 * BLOCKS], fill[sizeof(struct report_block)], *part = block(bytes, length);
+    struct report_block *storage = calloc(room ? room : 1, sizeof *storage);
+    HOLDS(storage != NULL);
+    memset(fill, 0xEE, sizeof fill);
+    for (size_t i = 0; i < room; i++)
+        memcpy(&storage[i], fill, sizeof fill);
+    memset(&it, 0xA5, sizeof it);
+    it.reports.items = room ? storage : NULL;
+    it.reports.capacity = room;
+    memcpy(&before, &it, sizeof it);
+    HOLDS((int)rtcp_receiver_report_parse(part, length, &it, &taken)
+        == (status ? status : room < count ? RTCP_RECEIVER_REPORT_NO_ROOM_REPORTS : RTCP_RECEIVER_REPORT_OK));
+    HOLDS(taken == (status ? 0 : room < count ? count : 8 + 24 * count));
+    calls++;
+    if (status || room < count)
+        HOLDS(!memcmp(&it, &before, sizeof it));
+    else {
+        HOLDS(it.padding == (bytes[0] >> 5 & 1) && it.length == (bytes[2] << 8 | bytes[3]));
+        HOLDS(it.ssrc == word(bytes + 4) && it.reports.length == count);
+        for (size_t i = 0; i < count; i++)
+            HOLDS(same_block(&storage[i], bytes + 8 + 24 * i));
+        for (size_t i = count; i < room; i++)
+            HOLDS(!memcmp(&storage[i], fill, sizeof fill));
+        HOLDS(rtcp_bytes(&it, packed) == taken && !memcmp(packed, bytes, taken));
+        if (taken <= MOST)
+            packs(rtcp_pack, &it, packed, taken, 1);
+    }
+    free(part);
+    free(storage);
+}
+
+/* Parses bytes with room for fewer report blocks than there are, for just so many, and for one more. */
+static void rtcp_parses(const uint8_t *bytes, size_t length)
+{
+    size_t count = length ? bytes[0] & 31 : 0;
+    int status = length && bytes[0] >> 6 != 2 ? RTCP_RECEIVER_REPORT_OTHER_VERSION
+        : length > 1 && bytes[1] != 201       ? RTCP_RECEIVER_REPORT_OTHER_PACKET
+        : length < 8 + 24 * count             ? RTCP_RECEIVER_REPORT_END_OF_INPUT
+                                              : RTCP_RECEIVER_REPORT_OK;
+    for (size_t room = count > 2 ? count - 2 : 0; room <= count + 1; room++)
+        rtcp_room(bytes, length, status, room);
+}
+
+/* Packs random fields, some of which do not fit, and parses them again; if `all`, with buffers of each length too. */
+static void random_rtcp(int all)
+{
+    struct report_block items[BLOCKS], others[BLOCKS];
+    struct rtcp_receiver_report it, again;
+    uint8_t b[8 + 24 * BLOCKS] = {0}, whole[8 + 24 * BLOCKS];
+    size_t size, n = 99;
+    int fits;
+    it.padding = next() & 1;
+    it.length = (uint16_t)next();
+    it.ssrc = (uint32_t)next();
+    it.reports.items = items;
+    it.reports.length = next() % 8 ? next() % 4 : next() % (BLOCKS + 1);
+    fits = it.reports.length < BLOCKS;
+    for (size_t i = 0; i < it.reports.length; i++) {
+        struct report_block *one = &items[i];
+        one->ssrc = (uint32_t)next();
+        one->fraction_lost = (uint8_t)next();
+        one->lost = (int32_t)(next() & 0xFFFFFF) - (1 << 23);
+        if (next() % 32 == 0)
+            one->lost = next() & 1 ? 1 << 23 : -(1 << 23) - 1;
+        fits = fits && one->lost >= -(1 << 23) && one->lost < 1 << 23;
+        one->highest = (uint32_t)next();
+        one->jitter = (uint32_t)next();
+        one->last_report = (uint32_t)next();
+        one->delay = (uint32_t)next();
+    }
+    size = rtcp_bytes(&it, b);
+    if (all && (!fits || size <= MOST))
+        packs(rtcp_pack, &it, b, size, fits);
+    calls++;
+    if (!fits) {
+        HOLDS(rtcp_receiver_report_pack(&it, whole, sizeof whole, &n) == RTCP_RECEIVER_REPORT_DOES_NOT_FIT && n == 0);
+        return;
+    }
+    HOLDS(rtcp_receiver_report_pack(&it, whole, size - 1, &n) == RTCP_RECEIVER_REPORT_NO_ROOM && n == 0);
+    HOLDS(rtcp_receiver_report_pack(&it, whole, sizeof whole, &n) == RTCP_RECEIVER_REPORT_OK && n == size);
+    HOLDS(!memcmp(whole, b, size));
+    again.reports.items = others;
+    again.reports.capacity = BLOCKS;
+    HOLDS(rtcp_receiver_report_parse(b, sizeof b, &again, &n) == RTCP_RECEIVER_REPORT_OK && n == size);
+    HOLDS(rtcp_bytes(&again, whole) == size && !memcmp(whole, b, size));
+    calls += 2;
+}
+
+/* Null pointers. */
+static void rtcp_nulls(void)
+{
+    struct rtcp_receiver_report it = {0, 7, 1, {NULL, 1, 1}};
+    uint8_t bytes[32] = {0x81, 201, 0, 7};
+    size_t n = 99;
+    HOLDS(rtcp_receiver_report_parse(bytes, 32, &it, &n) == RTCP_RECEIVER_REPORT_NULL && n == 0);
+    HOLDS(rtcp_receiver_report_pack(&it, bytes, 32, &n) == RTCP_RECEIVER_REPORT_NULL && n == 0);
+    it.reports.capacity = it.reports.length = 0;
+    HOLDS(rtcp_receiver_report_parse(bytes, 32, &it, &n) == RTCP_RECEIVER_REPORT_NO_ROOM_REPORTS && n == 1);
+    HOLDS(rtcp_receiver_report_pack(&it, bytes, 32, &n) == RTCP_RECEIVER_REPORT_OK && n == 8 && bytes[0] == 0x80);
+    calls += 4;
+}
+
 /* Null pointers. */
 static void nulls(void)
 {
@@ -508,9 +693,9 @@ static void nulls(void)
 
 int main(void)
 {
-    char line[256];
+    char line[512];
     while (fgets(line, sizeof line, stdin)) {
-        uint8_t bytes[64];
+        uint8_t bytes[200];
         size_t length = 0;
         unsigned one;
         char *at = strchr(line, ' ');
@@ -528,10 +713,14 @@ int main(void)
                 icmp_parses(bytes, part);
             else if (line[0] == 's')
                 socks_parses(bytes, part);
+            else if (!strncmp(line, "rtcp", 4))
+                rtcp_parses(bytes, part);
+            else if (!strncmp(line, "report", 6))
+                block_parses(bytes, part);
         }
     }
     for (unsigned k = 0; k < 10000; k++) {
-        uint8_t bytes[18];
+        uint8_t bytes[18], packet[80];
         for (unsigned i = 0; i < 18; i++)
             bytes[i] = (uint8_t)next();
         mqtt_parses(bytes, next() % 9);
@@ -552,9 +741,18 @@ int main(void)
         bytes[1] %= 16;
         bytes[2 + bytes[1]] %= 32;
         socks_parses(bytes, next() % 19);
+        for (unsigned i = 0; i < sizeof packet; i++)
+            packet[i] = (uint8_t)next();
+        packet[0] = (uint8_t)(k % 8 ? 0x80 | (packet[0] & 0x23) : packet[0]);
+        packet[1] = k % 8 == 1 ? packet[1] : 201;
+        rtcp_parses(packet, next() % (sizeof packet + 1));
+        block_parses(packet, next() % 2 ? 24 : next() % 30);
+        for (int i = 0; i < 10; i++)
+            random_rtcp(i == 0);
     }
     nulls();
     coap_nulls();
+    rtcp_nulls();
     printf("%lu calls\n", calls);
     return 0;
 }

@@ -6,13 +6,16 @@ import random
 import sys
 from typing import Callable
 
-from protocols import coap_header, ethernet_header, icmp_header, mqtt_header, socks_login
+from protocols import coap_header, ethernet_header, icmp_header, mqtt_header, report_block, rtcp_receiver_report
+from protocols import socks_login
 from protocols.coap_header import CoapHeader, Message
 from protocols.ethernet_header import EthernetHeader, EtherType
 from protocols.icmp_gateway import IcmpGateway
 from protocols.icmp_header import Body, BodyEcho, BodyEchoReply, BodyOther, BodyRedirect, IcmpHeader
 from protocols.icmp_ids import IcmpIds
 from protocols.mqtt_header import MqttHeader, Packet
+from protocols.report_block import ReportBlock
+from protocols.rtcp_receiver_report import RtcpReceiverReport
 from protocols.socks_login import SocksLogin
 from protocols.vlan_tag import VlanTag
 
@@ -30,7 +33,9 @@ def parsed(parse: Callable[[bytes], tuple[object, int]], data: bytes) -> Answer:
         return type(it)
 
 
-def packed(it: CoapHeader | MqttHeader | EthernetHeader | IcmpHeader | SocksLogin) -> bytes | type[ValueError]:
+def packed(
+    it: CoapHeader | MqttHeader | EthernetHeader | IcmpHeader | RtcpReceiverReport | SocksLogin,
+) -> bytes | type[ValueError]:
     """Returns the bytes, or the class of the exception."""
     global calls
     calls += 1
@@ -110,8 +115,56 @@ def socks_fields(b: bytes) -> Answer:
     return SocksLogin(b[2:second], b[second + 1 : size]), size
 
 
+def block_fields(b: bytes) -> ReportBlock:
+    """Returns the fields of the bytes of a report block."""
+    words = [int.from_bytes(b[k : k + 4], "big") for k in range(0, 24, 4)]
+    lost = words[1] & 0xFFFFFF
+    return ReportBlock(words[0], words[1] >> 24, lost - (lost >> 23 << 24), *words[2:])
+
+
+def parsed_block(data: bytes) -> ReportBlock | type[ValueError]:
+    """Returns the fields of the bytes of a report block, or the class of the exception."""
+    found = parsed(lambda it: (ReportBlock.parse(it), 24), data)
+    if isinstance(found, tuple):
+        assert isinstance(found[0], ReportBlock)
+        return found[0]
+    return found
+
+
+def rtcp_fields(b: bytes) -> Answer:
+    """Returns what a parse of a receiver report is to return."""
+    if b and b[0] >> 6 != 2:
+        return rtcp_receiver_report.OtherVersion
+    if len(b) > 1 and b[1] != 201:
+        return rtcp_receiver_report.OtherPacket
+    size = 8 + 24 * (b[0] & 31) if b else 8
+    if len(b) < size:
+        return rtcp_receiver_report.EndOfInput
+    reports = [block_fields(b[k : k + 24]) for k in range(8, size, 24)]
+    ssrc = int.from_bytes(b[4:8], "big")
+    return RtcpReceiverReport(bool(b[0] >> 5 & 1), b[2] << 8 | b[3], ssrc, reports), size
+
+
+def rtcp_bytes(it: RtcpReceiverReport) -> bytes:
+    """Returns the bytes of a receiver report."""
+    words = [0x80000000 | it.padding << 29 | len(it.reports) << 24 | 201 << 16 | it.length, it.ssrc]
+    for one in it.reports:
+        lost = one.fraction_lost << 24 | one.lost & 0xFFFFFF
+        words += [one.ssrc, lost, one.highest, one.jitter, one.last_report, one.delay]
+    return b"".join(word.to_bytes(4, "big") for word in words)
+
+
 def check_messages(name: str, data: bytes) -> None:
-    """Parses bytes with a choice or a size, and packs their fields again."""
+    """Parses bytes with a choice, a size or parts, and packs their fields again."""
+    if name == "report_block" and len(data) < ReportBlock.SIZE:
+        assert parsed_block(data) is report_block.EndOfInput, data
+    elif name == "report_block":
+        assert parsed_block(data) == block_fields(data) and block_fields(data).pack() == data[:24], data
+    if name == "rtcp_receiver_report":
+        report = parsed(RtcpReceiverReport.parse, data)
+        assert report == rtcp_fields(data), data
+        if isinstance(report, tuple) and isinstance(report[0], RtcpReceiverReport):
+            assert packed(report[0]) == data[: report[1]], data
     if name == "icmp_header":
         icmp = parsed(IcmpHeader.parse, data)
         assert icmp == icmp_fields(data), data
@@ -189,6 +242,24 @@ def check_icmp() -> None:
         assert isinstance(data, bytes) and parsed(IcmpHeader.parse, data + b"\xff") == (it, len(data)), it
 
 
+def check_rtcp() -> None:
+    """Packs random report blocks, some of which do not fit, and parses them again."""
+    reports = list[ReportBlock]()
+    for _ in range(random.choice([0, 1, 2, random.randint(0, 32)])):
+        lost = random.getrandbits(24) - 2**23
+        if random.random() < 0.02:
+            lost = random.choice([2**23, -(2**23) - 1])
+        words = [random.getrandbits(32) for _ in range(5)]
+        reports.append(ReportBlock(words[0], random.getrandbits(8), lost, *words[1:]))
+    it = RtcpReceiverReport(random.random() < 0.5, random.randint(0, 65535), random.getrandbits(32), reports)
+    data = packed(it)
+    if len(reports) > 31 or any(not -(2**23) <= one.lost < 2**23 for one in reports):
+        assert data is rtcp_receiver_report.DoesNotFit, it
+    else:
+        assert isinstance(data, bytes) and data == rtcp_bytes(it), it
+        assert parsed(RtcpReceiverReport.parse, data + b"\xff") == (it, len(data)), it
+
+
 def check_socks() -> None:
     """Packs random bytes, some of which do not fit, and parses them again."""
     it = SocksLogin(
@@ -220,8 +291,17 @@ for _ in range(10000):
     check("socks_login", login[: random.randint(0, len(login))])
     check_icmp()
     check_socks()
+    head = bytes([random.getrandbits(2) | 0x80 | random.getrandbits(1) << 5, random.choice([201, 201, 201, 200])])
+    check("rtcp_receiver_report", head + random.randbytes(random.randint(0, 79)))
+    check("report_block", random.randbytes(random.choice([24, 25, random.randint(0, 23)])))
+    for _ in range(10):
+        check_rtcp()
 try:
     EthernetHeader(bytes(6), bytes(6), 0x8100, VlanTag(8, True, 1, 1)).pack()
 except ethernet_header.DoesNotFit as it:
     assert str(it) == "tag.priority: 8 is not from 0 to 7"
+try:
+    RtcpReceiverReport(False, 7, 5, [ReportBlock(1, 0, 2**23, 0, 0, 0, 0)]).pack()
+except rtcp_receiver_report.DoesNotFit as it:
+    assert str(it) == "reports[0].lost: 8388608 is not from -8388608 to 8388607"
 print(calls, "calls")

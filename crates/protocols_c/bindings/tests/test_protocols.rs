@@ -7,6 +7,8 @@ use protocols::icmp_gateway::IcmpGateway;
 use protocols::icmp_header::{Body, IcmpHeader, IcmpHeaderError};
 use protocols::icmp_ids::IcmpIds;
 use protocols::mqtt_header::{MqttError, MqttHeader, Packet};
+use protocols::report_block::{ReportBlock, ReportBlockError};
+use protocols::rtcp_receiver_report::{ReceiverReportError, RtcpReceiverReport};
 use protocols::socks_login::{SocksLogin, SocksLoginError};
 use protocols::vlan_tag::VlanTag;
 use std::io::BufRead;
@@ -160,6 +162,56 @@ fn socks_wanted(b: &[u8]) -> Result<(SocksLogin, usize), SocksLoginError> {
     Ok((SocksLogin { name, password }, size))
 }
 
+/// What a parse of a report block is to return.
+fn block_wanted(b: &[u8]) -> Result<ReportBlock, ReportBlockError> {
+    let b = b.get(..24).ok_or(ReportBlockError::EndOfInput)?;
+    let word = |k: usize| u32::from_be_bytes(b[k..k + 4].try_into().unwrap());
+    Ok(ReportBlock {
+        ssrc: word(0),
+        fraction_lost: b[4],
+        lost: (word(4) << 8) as i32 >> 8,
+        highest: word(8),
+        jitter: word(12),
+        last_report: word(16),
+        delay: word(20),
+    })
+}
+
+/// What a parse of a receiver report is to return.
+fn rtcp_wanted(b: &[u8]) -> Result<(RtcpReceiverReport, usize), ReceiverReportError> {
+    let first = *b.first().ok_or(ReceiverReportError::EndOfInput)?;
+    if first >> 6 != 2 {
+        return Err(ReceiverReportError::OtherVersion);
+    }
+    if *b.get(1).ok_or(ReceiverReportError::EndOfInput)? != 201 {
+        return Err(ReceiverReportError::OtherPacket);
+    }
+    let size = 8 + 24 * usize::from(first & 31);
+    let b = b.get(..size).ok_or(ReceiverReportError::EndOfInput)?;
+    let word = |k: usize| u32::from_be_bytes(b[k..k + 4].try_into().unwrap());
+    let it = RtcpReceiverReport {
+        padding: first & 32 != 0,
+        length: u16::from(b[2]) << 8 | u16::from(b[3]),
+        ssrc: word(4),
+        reports: (8..size).step_by(24).map(|k| block_wanted(&b[k..]).unwrap()).collect(),
+    };
+    Ok((it, size))
+}
+
+/// The bytes of a receiver report.
+fn rtcp_bytes(it: &RtcpReceiverReport) -> Vec<u8> {
+    let first = 0x80 | u8::from(it.padding) << 5 | it.reports.len() as u8;
+    let mut bytes = vec![first, 201, (it.length >> 8) as u8, it.length as u8];
+    bytes.extend(it.ssrc.to_be_bytes());
+    for one in &it.reports {
+        let lost = u32::from(one.fraction_lost) << 24 | one.lost as u32 & 0xFF_FFFF;
+        for word in [one.ssrc, lost, one.highest, one.jitter, one.last_report, one.delay] {
+            bytes.extend(word.to_be_bytes());
+        }
+    }
+    bytes
+}
+
 /// Tries a pack into buffers of all lengths up to 64.
 fn packs<E: PartialEq + std::fmt::Debug>(
     pack: impl Fn(&mut [u8]) -> Result<usize, E>,
@@ -213,6 +265,20 @@ fn parses(name: &str, bytes: &[u8]) -> u64 {
             1 + packs(|b| it.pack_into(b), Ok(&bytes[..size]), &IcmpHeaderError::NoRoom)
         });
     }
+    if name == "report_block" {
+        let found = ReportBlock::parse(bytes);
+        assert_eq!(found, block_wanted(bytes));
+        return found.map_or(1, |it| {
+            1 + packs(|b| it.pack_into(b), Ok(&bytes[..24]), &ReportBlockError::NoRoom)
+        });
+    }
+    if name == "rtcp_receiver_report" {
+        let found = RtcpReceiverReport::parse(bytes);
+        assert_eq!(found, rtcp_wanted(bytes));
+        return found.map_or(1, |(it, size)| {
+            1 + packs(|b| it.pack_into(b), Ok(&bytes[..size]), &ReceiverReportError::NoRoom)
+        });
+    }
     if name == "socks_login" {
         let found = SocksLogin::parse(bytes);
         assert_eq!(found, socks_wanted(bytes));
@@ -257,6 +323,33 @@ fn random_fields(random: &mut Random) -> u64 {
         Err(error) => assert!(error == CoapError::DoesNotFit && message.token.len() > 15),
     }
     5 + random_messages(random)
+}
+
+/// Packs random report blocks, some of which do not fit, and parses them again.
+fn random_reports(random: &mut Random) -> u64 {
+    let count = if random.next() % 8 == 0 { random.next() % 33 } else { random.next() % 3 };
+    let reports: Vec<ReportBlock> = (0..count)
+        .map(|_| ReportBlock {
+            ssrc: random.next() as u32,
+            fraction_lost: random.next() as u8,
+            lost: if random.next() % 64 == 0 { 1 << 23 } else { random.next() as i32 >> 8 },
+            highest: random.next() as u32,
+            jitter: random.next() as u32,
+            last_report: random.next() as u32,
+            delay: random.next() as u32,
+        })
+        .collect();
+    let fits = count < 32 && reports.iter().all(|it| it.lost < 1 << 23);
+    let padding = random.next() & 1 == 1;
+    let it = RtcpReceiverReport { padding, length: random.next() as u16, ssrc: random.next() as u32, reports };
+    match it.pack() {
+        Ok(bytes) => {
+            assert!(fits && bytes == rtcp_bytes(&it));
+            assert_eq!(RtcpReceiverReport::parse(&bytes), Ok((it, bytes.len())));
+        }
+        Err(error) => assert!(error == ReceiverReportError::DoesNotFit && !fits),
+    }
+    2
 }
 
 /// Packs random choices and bytes, some of which do not fit, and parses them again.
@@ -313,6 +406,12 @@ fn main() {
         let second = 2 + usize::from(bytes[1]);
         bytes[second] %= 32;
         calls += parses("socks_login", &bytes[..length]);
+        bytes[0] = if k % 8 == 0 { bytes[0] } else { 0x80 | bytes[0] & 0x21 };
+        bytes[1] = if k % 8 == 1 { bytes[1] } else { 201 };
+        let packet = [bytes.as_slice(), bytes.as_slice()].concat();
+        calls += parses("rtcp_receiver_report", &packet[..length % 5 * 12]);
+        calls += parses("report_block", &packet[length..length + length % 3 * 12]);
+        calls += (0..10).map(|_| random_reports(&mut random)).sum::<u64>();
     }
     let error: Box<dyn std::error::Error> = Box::new(MqttError::NoPacket);
     assert_eq!(error.to_string(), "`kind` is not the number of a case of `Packet`");

@@ -1,0 +1,21 @@
+-- Made by `./format` from formats/rtcp_receiver_report.fields: edit that file and make this one anew.
+use Rattle.protocols.specs.ReportBlock.{report_block_writes}
+use Rattle.std.proofs.Common.{refl}
+use Rattle.bitstream_io.proofs.CallerLemmas.{written-begin, written-more, written-stop}
+use Rattle.protocols.proofs.rtcp_receiver_report.write_reports.Goals as goal
+
+pub loop-item-init : goal.loop-item-init
+loop-item-init g c = let K = g.W.BitWrite.sink in
+    written-begin K (report_block_writes K.order) c.args.items.now _
+
+pub returns-in_err-write : goal.returns-in_err-write
+returns-in_err-write g c =
+    let K = g.W.BitWrite.sink in
+    written-stop K (report_block_writes K.order) c.args.items.now _ _ _ _ _ _ _ _
+    c.loop-item-test.true refl c.loop-item.invariant c.in_err-write.ensures c.from_residual.ensures.1
+
+pub loop-item-preserved : goal.loop-item-preserved
+loop-item-preserved g c =
+    let K = g.W.BitWrite.sink in
+    written-more K (report_block_writes K.order) c.args.items.now _ _ _ _ _ _
+    c.loop-item-test.true refl c.loop-item.invariant c.in_ok-write.ensures
