@@ -4,18 +4,19 @@ use Rattle.std.specs.Prelude.{map, MatchResult}
 use Rattle.std.specs.Int.NonZero.{non_zero_u8_get}
 use Rattle.std.specs.List.{All}
 use Rattle.std.proofs.lemmas.Bool.{cases_lt, eq-eqb, eqb-true, le-ltb, ne_eqb}
+use Rattle.std.proofs.Math.Seq.{take-append_seam}
 use Rattle.std.proofs.lemmas.List.{drop_at, length-map, length-take-le, take_all, take_more}
 use Rattle.std.proofs.lemmas.List.Concat.{flat_map-append}
 use Rattle.std.proofs.lemmas.List.Elements.{All-cons, All-drop, All-get_or, All-head, All-map, All-nil, All-tail, All-take, All-weaker}
 use Rattle.bitstream_io.specs.Callers.{bits, sure_answer, result_map, write_sequence, EndOfInput, FitsSignedBits, High, OutOfMemory}
 use Rattle.bitstream_io.proofs.CallerLemmas.{packs-whole}
-use Rattle.bitstream_io.proofs.WordLemmas.{bits-append, length-bits}
+use Rattle.bitstream_io.proofs.WordLemmas.{length-bits}
 use Rattle.flac_codec.specs.Channels.{channel_count}
 use Rattle.flac_codec.specs.Encodable.{IsFormat}
-use Rattle.flac_codec.specs.File.{as_flac, block_at, blocks_at, channel_of, channels_at, channels_of, count_holds, file_at, file_header, has_marker, info_at, is_of_file, metadata_at, metadata_end, sample_count, stream_info_of}
+use Rattle.flac_codec.specs.File.{as_flac, block_at, blocks_at, channel_of, channels_at, channels_of, count_holds, file_at, file_header, has_marker, info_at, is_of_file, metadata_at, metadata_end, sample_count}
 use Rattle.flac_codec.specs.Frame.{after, channels_at as channels_behind, crc16_holds, frame_at, header_at, IsFoundIn}
 use Rattle.flac_codec.specs.StreamInfo.{stream_info_bits, stream_info_decoder, stream_info_writes, Fits}
-use Rattle.flac_codec.specs.Written.{IsBlock, IsMetadata}
+use Rattle.flac_codec.specs.Written.{start_of, IsBlock, IsMetadata}
 use Rattle.flac_codec.specs.declared.error.FlacError.{FlacError}
 use Rattle.flac_codec.specs.declared.error.FlacError.TheVariants.{Reader}
 use Rattle.flac_codec.specs.declared.header.Channels.{Channels}
@@ -164,48 +165,55 @@ both-all P Q xs first second = λ k d less. (first k d less, second k d less)
 
 -- ---- a file that was encoded: its metadata
 
-abbrev pub head : List ℕ
-head = 0x66 ∷ 0x4c ∷ 0x61 ∷ 0x43 ∷ 0x80 ∷ 0 ∷ 0 ∷ 34 ∷ []
-
-abbrev only : Metadata
-only = record { last = true; kind = 0; size = 38 }
+abbrev first_block : Bool → Metadata
+first_block last = record { last = last; kind = 0; size = 38 }
 
 module _ (info : StreamInfo) (packed : List ℕ) (fits : Fits info) (is : bits High packed ≡ stream_info_bits info) where
   word : bits High packed ≡ write_sequence (stream_info_writes High info) 0
   word = is ∙ sym (told info) ∙ packs-whole (stream_info_packs High info fits) refl
 
-  size : length packed ≡ 34
+  pub size : length packed ≡ 34
   size =
       let eight : 8 * length packed ≡ 272 =
       sym (length-bits High packed) ∙ ap length word ∙ (stream_info_packs High info fits).size 0 in
       omega (arith, eight)
 
-  info-back : (more : List ℕ) → stream_info_of (head ++ (packed ++ more)) ≡ Ok info
+  info-back : (more : List ℕ) → as_flac (sure_answer ((stream_info_decoder High).reads 0 (bits High (take 34 (packed ++ more)))))
+      ≡ Ok info
   info-back more =
-      ap (λ b. as_flac (sure_answer ((stream_info_decoder High).reads 0 b)))
-      (bits-append High packed more ∙ ap (λ w. w ++ bits High more) word)
-      ∙ ap (λ p. as_flac (sure_answer p)) ((stream_info_goes High info fits).back 0 0 (bits High more))
+      let taken : take 34 (packed ++ more) ≡ packed =
+      ap (λ n. take n (packed ++ more)) (sym size) ∙ take-append_seam packed more in
+      let whole : bits High (take 34 (packed ++ more)) ≡ write_sequence (stream_info_writes High info) 0 ++ [] =
+      ap (bits High) taken ∙ word ∙ sym (append-nil (write_sequence (stream_info_writes High info) 0)) in
+      ap (λ b. as_flac (sure_answer ((stream_info_decoder High).reads 0 b))) whole
+      ∙ ap (λ p. as_flac (sure_answer p)) ((stream_info_goes High info fits).back 0 0 [])
 
-  marker : (more : List ℕ) → has_marker (head ++ (packed ++ more)) ≡ true
-  marker more =
+  marker : (last : Bool) (more : List ℕ) → has_marker (start_of last ++ (packed ++ more)) ≡ true
+  marker true more =
       let long = length-append packed more in
-      rw (le-ltb (length (head ++ (packed ++ more))) 4 (omega arith)) refl
+      rw (le-ltb (length (start_of true ++ (packed ++ more))) 4 (omega arith)) refl
+  marker false more =
+      let long = length-append packed more in
+      rw (le-ltb (length (start_of false ++ (packed ++ more))) 4 (omega arith)) refl
 
-  block : (more : List ℕ) → Ok only ≡ metadata_at (drop 4 (head ++ (packed ++ more)))
-  block more =
+  block : (last : Bool) (more : List ℕ) → Ok (first_block last) ≡ metadata_at (drop 4 (start_of last ++ (packed ++ more)))
+  block true more =
       let long = length-append packed more in
       let short = size in
-      rw (le-ltb (length (drop 4 (head ++ (packed ++ more)))) 38 (omega (arith, long, short))) refl
+      rw (le-ltb (length (drop 4 (start_of true ++ (packed ++ more)))) 38 (omega (arith, long, short))) refl
+  block false more =
+      let long = length-append packed more in
+      let short = size in
+      rw (le-ltb (length (drop 4 (start_of false ++ (packed ++ more)))) 38 (omega (arith, long, short))) refl
 
-  pub metadata-found : IsMetadata info (head ++ packed)
+  pub info-found : (last : Bool) (more : List ℕ) → Ok (info, last) ≡ info_at (start_of last ++ (packed ++ more))
+  info-found true more = rw (marker true more) (after-ok _ (block true more) (after-ok _ (sym (info-back more)) refl))
+  info-found false more = rw (marker false more) (after-ok _ (block false more) (after-ok _ (sym (info-back more)) refl))
+
+  pub metadata-found : IsMetadata info (start_of true ++ packed)
   metadata-found =
-      let long : length (head ++ packed) ≡ 42 = let short = size in omega (arith, short) in (
-        long,
-        λ more.
-            let whole : Ok (info, true) ≡ info_at (head ++ (packed ++ more)) =
-            rw (marker more) (after-ok _ (block more) (after-ok _ (sym (info-back more)) refl)) in
-            sym whole,
-      )
+      let long : length (start_of true ++ packed) ≡ 42 = let short = size in omega (arith, short) in
+      (long, λ more. sym (info-found true more))
 
 -- ---- a file that was encoded: its frames
 

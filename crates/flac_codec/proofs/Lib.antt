@@ -10,11 +10,13 @@ pub mod CodedLemmas
 pub mod FileLemmas
 pub mod FoundLemmas
 pub mod HeaderLemmas
+pub mod InputLemmas
 pub mod LosslessLemmas
 pub mod PredictLemmas
 pub mod ResidualLemmas
 pub mod ResultLemmas
 pub mod RiceLemmas
+pub mod StartLemmas
 pub mod StereoLemmas
 pub mod StreamInfoLemmas
 pub mod SubframeLemmas

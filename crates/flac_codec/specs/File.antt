@@ -1,6 +1,6 @@
 -- A file (RFC 9639, sections 6, 8 and 9): the marker, blocks of metadata of which the first is STREAMINFO, and frames up to
 -- the end.
-use Rattle.std.specs.Prelude.{ℕ, zero, suc, ◌+◌, ◌*◌, ◌%◌, ◌==◌, ◌&&◌, nat_le, nat_lt, if◌then◌else◌, Bool, true, false, List, [], ◌∷◌, ◌++◌, length, drop, get_or, ℤ, Result, Ok, Err}
+use Rattle.std.specs.Prelude.{ℕ, zero, suc, ◌+◌, ◌*◌, ◌%◌, ◌==◌, ◌&&◌, nat_le, nat_lt, if◌then◌else◌, Bool, true, false, List, [], ◌∷◌, ◌++◌, length, take, drop, get_or, ℤ, Result, Ok, Err}
 use Rattle.std.specs.Int.NonZero.{non_zero_u8_get}
 use Rattle.std.specs.List.{flat_map}
 use Rattle.bitstream_io.specs.Callers.{bits, sure_answer, EndOfInput, Error, High}
@@ -30,24 +30,31 @@ has_marker bytes =
 abbrev pub metadata_size : List ℕ → ℕ
 metadata_size bytes = 4 + 65536 * byte_at bytes 1 + 256 * byte_at bytes 2 + byte_at bytes 3
 
+-- the block of metadata whose header is at the start of bytes
+abbrev pub metadata_head : List ℕ → Metadata
+metadata_head bytes = record {
+  last = nat_le 128 (byte_at bytes 0);
+  kind = byte_at bytes 0 % 128;
+  size = metadata_size bytes;
+}
+
+-- there are n bytes
+abbrev pub bytes_there : ℕ → List ℕ → Result (Unit {0}) FlacError
+bytes_there n bytes = if nat_lt (length bytes) n then Err (Reader EndOfInput) else Ok tt
+
 -- the block of metadata at the start of bytes
 abbrev pub metadata_at : List ℕ → Result Metadata FlacError
 metadata_at bytes =
-    if nat_lt (length bytes) (metadata_size bytes) then Err (Reader EndOfInput)
-    else Ok (record {
-      last = nat_le 128 (byte_at bytes 0);
-      kind = byte_at bytes 0 % 128;
-      size = metadata_size bytes;
-    })
+    if nat_lt (length bytes) (metadata_size bytes) then Err (Reader EndOfInput) else Ok (metadata_head bytes)
 
 -- an error of the reader, as one of the format
 abbrev pub as_flac : {A : Type 0} → Result A Error → Result A FlacError
 as_flac (Ok value) = Ok value
 as_flac (Err error) = Err (Reader error)
 
--- STREAMINFO of a file, after the header of its block
-abbrev pub stream_info_of : List ℕ → Result StreamInfo FlacError
-stream_info_of bytes = as_flac (sure_answer ((stream_info_decoder High).reads 0 (bits High (drop 8 bytes))))
+-- STREAMINFO in the 34 bytes after the header of the block at the start of bytes
+abbrev pub stream_info_in : List ℕ → Result StreamInfo FlacError
+stream_info_in bytes = as_flac (sure_answer ((stream_info_decoder High).reads 0 (bits High (take 34 (drop 4 bytes)))))
 
 -- the first block of metadata is a STREAMINFO of 34 bytes
 abbrev pub is_stream_info : Metadata → Bool
@@ -58,7 +65,7 @@ abbrev pub info_at : List ℕ → Result (StreamInfo × Bool) FlacError
 info_at bytes =
     if has_marker bytes then
     after (metadata_at (drop 4 bytes)) (λ block.
-    if is_stream_info block then after (stream_info_of bytes) (λ info. Ok (info, block.last)) else Err NoStreamInfo)
+    if is_stream_info block then after (stream_info_in (drop 4 bytes)) (λ info. Ok (info, block.last)) else Err NoStreamInfo)
     else Err NoFlac
 
 -- The bytes after the metadata, if the block before was the last one or not. A block has 4 bytes or more, so n is no limit

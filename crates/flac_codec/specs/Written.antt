@@ -1,5 +1,5 @@
 -- What a part of an encoder owes that writes several values, or a part of a file.
-use Rattle.std.specs.Prelude.{◌≡◌, ◌⊎◌, ◌≤◌, ℕ, ℤ, true, List, ◌++◌, length, MatchResult, Result, Ok, Err}
+use Rattle.std.specs.Prelude.{◌≡◌, ◌⊎◌, ◌≤◌, ℕ, ℤ, Bool, true, false, List, [], ◌∷◌, ◌++◌, length, MatchResult, Result, Ok, Err}
 use Rattle.bitstream_io.specs.Callers.{Decoder, Encoder, Error, OutOfMemory, Sink, WritesAll, AllAccepted}
 use Rattle.flac_codec.specs.Encodable.{IsFormat}
 use Rattle.flac_codec.specs.File.{block_at, info_at}
@@ -28,3 +28,8 @@ abbrev pub IsBlock : ℕ → ℕ → List ℕ → List (List ℤ) → Type 0
 IsBlock sample_size count bytes channels =
     (1 ≤ length bytes)
     × ((info : StreamInfo) → IsFormat sample_size count info → IsFoundIn (block_at info) bytes channels)
+
+-- the marker, and the header of STREAMINFO, which is the last block of metadata or not
+abbrev pub start_of : Bool → List ℕ
+start_of true = 0x66 ∷ 0x4c ∷ 0x61 ∷ 0x43 ∷ 0x80 ∷ 0 ∷ 0 ∷ 34 ∷ []
+start_of false = 0x66 ∷ 0x4c ∷ 0x61 ∷ 0x43 ∷ 0 ∷ 0 ∷ 0 ∷ 34 ∷ []

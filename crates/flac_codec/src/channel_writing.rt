@@ -52,7 +52,7 @@ pub(crate) fn write_channels<W: BitWrite>(
     }
 }
 
-/// Writes channels of which each is coded by itself.
+/// Writes independent channels.
 fn write_independent<W: BitWrite>(
     writer: &mut W,
     alloc: Global,
@@ -73,7 +73,7 @@ fn write_independent<W: BitWrite>(
     Ok(())
 }
 
-/// Writes two channels by the left one and the difference.
+/// Writes two channels as the left one and the difference.
 fn write_left_side<W: BitWrite>(
     writer: &mut W,
     alloc: Global,
@@ -95,7 +95,7 @@ fn write_left_side<W: BitWrite>(
     write_subframe(writer, alloc, wide + 1, side.as_slice())
 }
 
-/// Writes two channels by the difference and the right one.
+/// Writes two channels as the difference and the right one.
 fn write_side_right<W: BitWrite>(
     writer: &mut W,
     alloc: Global,
@@ -117,7 +117,7 @@ fn write_side_right<W: BitWrite>(
     write_subframe(writer, alloc, wide, right)
 }
 
-/// Writes two channels by their mean and the difference.
+/// Writes two channels as their mean and the difference.
 fn write_middle_side<W: BitWrite>(
     writer: &mut W,
     alloc: Global,

@@ -37,7 +37,7 @@ pub fn read_channels<R: BitRead>(
     }
 }
 
-/// Reads channels of which each is coded by itself.
+/// Reads independent channels.
 fn read_independent<R: BitRead>(
     reader: &mut R,
     alloc: Global,
@@ -72,7 +72,7 @@ fn read_pair<R: BitRead>(
     joined(alloc, channels, first, second)
 }
 
-/// Returns the bits of a sample of the first of two subframes.
+/// Returns the number of bits of a sample in the first of two subframes.
 fn first_width(channels: Channels, width: u8) -> u32
     ensures { result ≡ first_width channels width }
 {
@@ -82,7 +82,7 @@ fn first_width(channels: Channels, width: u8) -> u32
     }
 }
 
-/// Returns the bits of a sample of the second of two subframes.
+/// Returns the number of bits of a sample in the second of two subframes.
 fn second_width(channels: Channels, width: u8) -> u32
     ensures { result ≡ second_width channels width }
 {
@@ -93,7 +93,7 @@ fn second_width(channels: Channels, width: u8) -> u32
     }
 }
 
-/// Returns the left and the right channel of two subframes.
+/// Returns the left and the right channel that two subframes encode.
 fn joined(
     alloc: Global,
     channels: Channels,

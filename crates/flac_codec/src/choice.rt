@@ -1,4 +1,4 @@
-//! The choice of an encoding for samples. Each choice is right: only the size of what is written depends on it.
+//! The choice of an encoding for samples. Any choice is valid: only the size of what is written depends on it.
 ghost use Rattle.std.specs.Prelude.{◌≡◌, ◌<◌, ◌≤◌, ◌^◌, ℤ, pos, true, length, replicate, get_or};
 ghost use Rattle.std.specs.List.{All};
 ghost use Rattle.bitstream_io.specs.Word.{zig};
@@ -85,22 +85,12 @@ fn difference_sums(samples: &[i64]) -> [u64; 5] {
     sums
 }
 
-/// Returns the parameter, at most `most`, with which Rice numbers are short: the best one of three.
+/// Returns the parameter, at most `most`, with which Rice numbers are expected to be short.
 pub(crate) fn best_parameter(numbers: &[i64], most: u32) -> u32
     requires { most < 32 }
     ensures { result ≤ most }
 {
-    let likely = likely_parameter(sum_of_places(numbers), numbers.len() as u64).min(most);
-    let less = likely.saturating_sub(1);
-    let more = (likely + 1).min(most);
-    let bits = rice_bits(numbers, likely);
-    if rice_bits(numbers, less) < bits {
-        return less;
-    }
-    if rice_bits(numbers, more) < bits {
-        return more;
-    }
-    likely
+    likely_parameter(sum_of_places(numbers), numbers.len() as u64).min(most)
 }
 
 /// Returns the number of bits of Rice numbers with a parameter, modulo 2^64.
@@ -134,27 +124,33 @@ fn place(number: i64) -> u64 {
     }
 }
 
-/// Returns the parameter for which fewest bits are expected for Rice numbers, if their places have this sum.
+/// Returns the parameter for which fewest bits are expected for Rice numbers, if their places have this sum: the logarithm
+/// of a little less than their mean.
 pub(crate) fn likely_parameter(sum: u64, count: u64) -> u32
     ensures { result ≤ 30 }
 {
-    if count == 0 {
-        return 0;
+    let sum = sum - (sum >> 5);
+    let parameter = logarithm(sum).saturating_sub(logarithm(count)).min(30);
+    if count << parameter > sum {
+        parameter.saturating_sub(1)
+    } else {
+        parameter
     }
-    let mean = sum / count;
-    63u32.saturating_sub((mean | 1).leading_zeros()).min(30)
 }
 
-/// Returns the number of bits that is expected for Rice numbers whose places have this sum. The low bits that the high
-/// parts lack are half of them in the mean.
+/// Returns the place of the highest bit of a number that is 1, or 0.
+fn logarithm(number: u64) -> u32
+    ensures { result < 64 }
+{
+    63u32.saturating_sub((number | 1).leading_zeros())
+}
+
+/// Returns the number of bits that is expected for Rice numbers whose places have this sum. The low bits of each are half
+/// of the greatest ones in the mean.
 pub(crate) fn expected_bits(sum: u64, count: u64, parameter: u32) -> u64
     requires { parameter < 64 }
 {
-    let high = sum >> parameter;
-    let high = if parameter > 0 {
-        high.saturating_sub(count / 2)
-    } else {
-        high
-    };
+    let low = (count << parameter).saturating_sub(count) / 2;
+    let high = sum.saturating_sub(low) >> parameter;
     count.wrapping_mul(parameter as u64 + 1).wrapping_add(high)
 }

@@ -1,4 +1,4 @@
-//! Numbers that are coded as UTF-8 codes characters, in up to 36 bits (section 9.1.5).
+//! Numbers of up to 36 bits that are coded as UTF-8 encodes characters (section 9.1.5).
 ghost use Rattle.std.specs.Prelude.{◌≡◌, ◌++◌, ◌+◌, ◌*◌, ◌<◌, ◌≤◌, ◌^◌, ℕ, Bool, List, Ok, length};
 ghost use Rattle.bitstream_io.specs.Callers.{Order, ReadsOwn, WritesAll, Done, write_sequence};
 ghost use Rattle.flac_codec.specs.Coded.{bytes_needed, coded_decoder, coded_writes, least_of, rest_decoder, rest_writes, shortest};
@@ -13,8 +13,8 @@ use bitstream_io::{BitRead, BitReadExt, BitWrite, BitWriteExt, Bits, Error};
 ///
 /// `NotCoded` for a first byte 0b10.., for a later byte that does not begin with 0b10, and for a
 /// run of more than 7 ones: the run is read up to its 0, also after the first byte, so a first byte
-/// 0xff returns `EndOfInput` if no 0 comes. `LongCoded` for a number that fewer bytes code. Else
-/// the errors of the reader. The faulty bits are read.
+/// 0xff returns `EndOfInput` if no 0 comes. `LongCoded` for a number that fewer bytes can code. Else
+/// the errors of the reader. The faulty bits are consumed.
 pub fn read_coded<R: BitRead>(reader: &mut R) -> Result<u64, FlacError>
     ensures { ReadsOwn R.source becomes_flac (coded_decoder R.source.order) reader.old result reader.new }
 {
@@ -46,7 +46,7 @@ fn least_of(bytes: u32) -> u64
     }
 }
 
-/// Returns a number, unless fewer bytes code it.
+/// Returns the number, or `LongCoded` if fewer bytes can code it.
 fn shortest(least: u64, number: u64) -> Result<u64, FlacError>
     ensures { result ≡ shortest least number }
 {
@@ -125,3 +125,10 @@ fn write_rest<W: BitWrite>(writer: &mut W, bytes: u32, number: u64) -> Result<()
     writer.write::<Bits<6>, u64>((number >> (6 * (bytes - 1))) % 64)?;
     write_rest(writer, bytes - 1, number)
 }
+
+/// A coded number is read back as it was written, in either order of bits, at any place.
+pub fn coded_numbers_round_trip()
+    ensures { (o : Order) (number at from : ℕ) (more : List Bool) → number < 2 ^ 36
+        → let word = write_sequence (coded_writes o number) at in
+        (coded_decoder o).reads from (word ++ more) ≡ Done (length word) (Ok (Ok number)) }
+{}

@@ -6,11 +6,13 @@ ghost use Rattle.flac_codec.specs.Decoding.{frame_value, is_cut, next_at, sample
 ghost use Rattle.flac_codec.specs.File.{checked_frame_at};
 ghost use Rattle.flac_codec.specs.Input.{bytes_left, fetched};
 ghost use Rattle.flac_codec.specs.Outside.{IsUnlessFailure};
+ghost use Rattle.flac_codec.specs.Start.{start_at, with_left};
 
 use crate::error::FlacError;
 use crate::file::{decode_block, sample_count};
 use crate::frame::Frame;
 use crate::input::Input;
+use crate::start::MetadataReader;
 use crate::stream_info::StreamInfo;
 use bitstream_io::Error;
 use std::alloc::Global;
@@ -34,6 +36,26 @@ pub struct Decoder<R> {
 }
 
 impl<R: Read> Decoder<R> {
+    /// Reads the start of a file, and returns a decoder of its frames. Blocks of metadata after STREAMINFO are skipped.
+    ///
+    /// # Errors
+    ///
+    /// `NoFlac` if the bytes do not begin with the marker. `NoStreamInfo` if the first block of metadata is not a STREAMINFO
+    /// of 34 bytes. `Reader(EndOfInput)` if the bytes end before the metadata does, `Reader(Stream)` if the reader fails, and
+    /// `Reader(OutOfMemory)` if an allocation fails.
+    pub fn new(alloc: Global, reader: R) -> Result<Decoder<R>, FlacError>
+    where
+        R: Drop,
+        // If the bytes are known, they decide the result, unless an allocation or the reader fails. Those after the metadata
+        // are left.
+        ensures meant { IfSome (R.remaining reader) (λ bytes. IsUnlessFailure
+            (with_left (start_at bytes))
+            (result_map (λ decoder. (decoder.info, bytes_left R.remaining decoder.input)) result)) }
+        ensures samples { IfOk result (λ decoder. decoder.samples ≡ 0) }
+    {
+        MetadataReader::new(alloc, reader)?.into_decoder()
+    }
+
     /// Returns a decoder of the frames of an input, which is after the metadata.
     pub fn over(input: Input<R>, info: StreamInfo) -> Decoder<R>
     where
@@ -55,6 +77,13 @@ impl<R: Read> Decoder<R> {
         ensures { result.now ≡ self.now.info }
     {
         &self.info
+    }
+
+    /// Returns the number of samples of a channel that were decoded, up to 2^64 - 1.
+    pub fn samples_done(&self) -> u64
+        ensures { result ≡ self.now.samples }
+    {
+        self.samples
     }
 
     /// Returns the bytes that were fetched after the last frame that was decoded.

@@ -67,7 +67,7 @@ fn decode_frames(alloc: Global, info: &StreamInfo, bytes: &[u8]) -> Result<File,
 }
 
 /// Returns what STREAMINFO says of all samples.
-fn file_header(info: &StreamInfo) -> FileHeader
+pub(crate) fn file_header(info: &StreamInfo) -> FileHeader
     ensures { result ≡ file_header info.now }
 {
     FileHeader {
@@ -149,7 +149,8 @@ fn check_header(info: &StreamInfo, header: &FrameHeader) -> Result<(), FlacError
     Ok(())
 }
 
-/// Returns the samples of a second of a frame.
+/// Returns the sample rate of a frame. `sample_rate` is the rate of the file, for a header that leaves it to
+/// STREAMINFO.
 fn rate_of(sample_rate: u32, header: &FrameHeader) -> u32
     ensures { result ≡ rate_of sample_rate header.now }
 {
@@ -161,7 +162,7 @@ fn rate_of(sample_rate: u32, header: &FrameHeader) -> u32
 }
 
 /// Returns the first `count` channels of frames, each of all frames.
-fn join_channels(
+pub(crate) fn join_channels(
     alloc: Global,
     blocks: &[Vec<Vec<i64>>],
     count: u8,
@@ -179,7 +180,7 @@ fn join_channels(
     Ok(channels)
 }
 
-/// Returns a channel of all frames.
+/// Returns the samples of a channel in all blocks.
 fn join_channel(
     alloc: Global,
     blocks: &[Vec<Vec<i64>>],
@@ -207,7 +208,7 @@ fn samples_of<'a>(channels: &'a [Vec<i64>], number: usize) -> &'a [i64]
     }
 }
 
-/// Compares the number of samples with STREAMINFO.
+/// Compares the number of samples with STREAMINFO, in which 0 means unknown.
 fn check_count(info: &StreamInfo, channels: &[Vec<i64>]) -> Result<(), FlacError>
     ensures { result ≡ count_holds info.now (map (λ channel. channel.items) channels.now) }
 {

@@ -12,6 +12,7 @@ ghost use Rattle.flac_codec.specs.declared.stream_info.StreamInfo.{StreamInfo};
 
 use crate::error::FlacError;
 use crate::file::{File, FileHeader, decode_file, sample_count};
+use crate::fits::bytes_fit;
 use crate::framing::encode_frame;
 use crate::header::FrameHeader;
 use crate::stereo::best_channels;
@@ -87,11 +88,6 @@ fn stream_info_of(header: &FileHeader, block_size: u16, channels: &[Vec<i64>]) -
         checksum: header.checksum,
     }
 }
-
-/// Each byte is below 2^8.
-fn bytes_fit(bytes: &[u8])
-    ensures { All (λ byte. byte < 2 ^ 8) bytes.now }
-{}
 
 /// Returns a number that is not 0, as such.
 fn non_zero(number: u8) -> NonZero<u8>

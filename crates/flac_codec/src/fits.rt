@@ -1,5 +1,5 @@
 //! The tests of what the encoders of frames and of files require.
-ghost use Rattle.std.specs.Prelude.{◌≡◌, ◌↔◌, ◌≤◌, length, IsTrue};
+ghost use Rattle.std.specs.Prelude.{◌≡◌, ◌↔◌, ◌<◌, ◌≤◌, ◌^◌, length, IsTrue};
 ghost use Rattle.std.specs.List.{All};
 ghost use Rattle.bitstream_io.specs.Callers.{FitsSignedBits};
 ghost use Rattle.flac_codec.specs.Channels.{channel_count};
@@ -40,6 +40,11 @@ pub fn is_file(header: &FileHeader, block_size: u16, channels: &[Vec<i64>]) -> b
         && all_fit(header.sample_size, count, channels)
 }
 
+/// Each byte is below 2^8.
+pub(crate) fn bytes_fit(bytes: &[u8])
+    ensures { All (λ byte. byte < 2 ^ 8) bytes.now }
+{}
+
 /// Returns the number of channels of a coding.
 pub(crate) fn channel_count(channels: Channels) -> u8
     ensures { result ≡ channel_count channels }
@@ -63,14 +68,14 @@ fn is_header(header: &FrameHeader) -> bool
 }
 
 /// Returns true if a header can state this sample rate.
-fn is_sample_rate(rate: u32) -> bool
+pub(crate) fn is_sample_rate(rate: u32) -> bool
     ensures { IsTrue result ↔ IsSampleRate rate }
 {
     rate < 65_536 || (rate % 10 == 0 && rate < 655_360)
 }
 
 /// Returns true if a coding has one to eight channels.
-fn is_channels(channels: Channels) -> bool
+pub(crate) fn is_channels(channels: Channels) -> bool
     ensures { IsTrue result ↔ IsChannels channels }
 {
     match channels {
@@ -80,14 +85,14 @@ fn is_channels(channels: Channels) -> bool
 }
 
 /// Returns true if a header can state this number of bits of a sample.
-fn is_sample_size(size: u8) -> bool
+pub(crate) fn is_sample_size(size: u8) -> bool
     ensures { IsTrue result ↔ IsSampleSize size }
 {
     matches!(size, 0 | 8 | 12 | 16 | 20 | 24 | 32)
 }
 
 /// Returns true if each channel has `size` samples, of `width` bits each.
-fn all_fit(width: u8, size: usize, channels: &[Vec<i64>]) -> bool
+pub(crate) fn all_fit(width: u8, size: usize, channels: &[Vec<i64>]) -> bool
     requires some { 1 ≤ width }
     requires within { width ≤ 32 }
     ensures { IsTrue result ↔ All (λ channel. IsChannel width size channel.items) channels.now }

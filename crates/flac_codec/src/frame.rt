@@ -92,7 +92,8 @@ fn find_header(bytes: &[u8]) -> Result<HeaderAt, FlacError>
     })
 }
 
-/// Returns the bits of a sample of a frame.
+/// Returns the number of bits of a frame's samples. `sample_size` is their number in the file, for a header that leaves
+/// it to STREAMINFO.
 pub(crate) fn width_of(sample_size: u8, header: &FrameHeader) -> u8
     ensures { result ≡ width_of sample_size header.now }
 {

@@ -65,7 +65,7 @@ const SAMPLE_SIZES: [u8; 8] = [0, 8, 12, 0, 16, 20, 24, 32];
 ///
 /// `NoSync` unless the first 15 bits are the sync code, and `ReservedBit` if the last of the first 32 bits is 1.
 /// `ReservedChannels`, `ReservedSampleSize`, `ReservedBlockSize`, `ForbiddenBlockSize` and `ForbiddenSampleRate` for
-/// codes that are reserved or forbidden. `NotCoded` and `LongCoded` for the number. Those of the reader.
+/// codes that are reserved or forbidden. `NotCoded` and `LongCoded` for the number. The errors of the reader.
 pub fn read_header<R: BitRead>(reader: &mut R) -> Result<FrameHeader, FlacError>
     ensures { ReadsOwn R.source becomes_flac (header_decoder R.source.order) reader.old result reader.new }
 {
@@ -102,7 +102,7 @@ fn read_codes<R: BitRead>(reader: &mut R) -> Result<Codes, FlacError>
     })
 }
 
-/// Returns the channels of a code.
+/// Returns the coding of the channels that a code means.
 fn channels_of(code: u8) -> Result<Channels, FlacError>
     ensures { result ≡ channels_of code }
 {
@@ -115,7 +115,7 @@ fn channels_of(code: u8) -> Result<Channels, FlacError>
     }
 }
 
-/// Returns the bits of a sample of a code.
+/// Returns the sample size that a code means, in bits, or 0 if STREAMINFO states it.
 fn sample_size_of(code: u8) -> Result<u8, FlacError>
     requires { code < 8 }
     ensures { result ≡ sample_size_of code }
@@ -151,7 +151,7 @@ fn read_numbers<R: BitRead>(
     })
 }
 
-/// Reads the block size of a code.
+/// Returns the block size that a code means. Reads it if the code is 6 or 7.
 fn read_block_size<R: BitRead>(reader: &mut R, code: u8) -> Result<u32, FlacError>
     requires { code < 16 }
     ensures { ReadsOwn R.source becomes_flac (block_size_decoder R.source.order code) reader.old result reader.new }
@@ -172,7 +172,7 @@ fn read_block_size<R: BitRead>(reader: &mut R, code: u8) -> Result<u32, FlacErro
     Ok(BLOCK_SIZES[code as usize])
 }
 
-/// Reads the sample rate of a code.
+/// Returns the sample rate that a code means. Reads it if the code is 12, 13 or 14.
 fn read_sample_rate<R: BitRead>(reader: &mut R, code: u8) -> Result<u32, FlacError>
     requires { code < 16 }
     ensures { ReadsOwn R.source becomes_flac (sample_rate_decoder R.source.order code) reader.old result reader.new }

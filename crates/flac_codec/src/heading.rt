@@ -35,7 +35,7 @@ fn codes_of(header: &FrameHeader) -> Codes
     }
 }
 
-/// Returns a code of a block size.
+/// Returns a code for a block size.
 fn block_size_code(size: u32) -> u8
     ensures { IsBlockSizeCode size result }
 {
@@ -47,7 +47,7 @@ fn block_size_code(size: u32) -> u8
     if size <= 256 { 6 } else { 7 }
 }
 
-/// Returns a code of a sample rate.
+/// Returns a code for a sample rate.
 fn sample_rate_code(rate: u32) -> u8
     requires { IsSampleRate rate }
     ensures { IsSampleRateCode rate result }
@@ -63,7 +63,7 @@ fn sample_rate_code(rate: u32) -> u8
     if rate < 65536 { 13 } else { 14 }
 }
 
-/// Returns the code of channels.
+/// Returns the code for a coding of the channels.
 fn channels_code(channels: Channels) -> u8
     requires { IsChannels channels }
     ensures code { channels_of result ≡ Ok channels }
@@ -77,7 +77,7 @@ fn channels_code(channels: Channels) -> u8
     }
 }
 
-/// Returns the code of a sample size.
+/// Returns the code for a sample size.
 fn sample_size_code(size: u8) -> u8
     requires { IsSampleSize size }
     ensures code { sample_size_of result ≡ Ok size }

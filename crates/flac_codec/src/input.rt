@@ -1,5 +1,5 @@
 //! The bytes of a reader, fetched in pieces.
-ghost use Rattle.std.specs.Prelude.{◌≡◌, ◌<◌, ◌≤◌, length, drop, false, true, IfErr, IfOk, OnOk};
+ghost use Rattle.std.specs.Prelude.{◌≡◌, ◌+◌, ◌*◌, ◌<◌, ◌≤◌, length, max, drop, false, true, IfErr, IfOk, OnOk};
 ghost use Rattle.std.specs.Io.KnownBytes.{IsAtEnd, Keeps, ReadConsumes};
 ghost use Rattle.flac_codec.specs.Outside.{IsOutside};
 
@@ -56,7 +56,8 @@ impl<R: Read> Input<R> {
     }
 
     /// Fetches bytes until at least `count` of them are there, or the reader ends. Returns true if they are there, and false if
-    /// the fetched bytes are all that are left. Up to twice as many are fetched, and a piece more.
+    /// the fetched bytes are all that are left. Fetches none if they are there; otherwise at most 2 * `count` bytes and one piece
+    /// more are there in the end.
     ///
     /// # Errors
     ///
@@ -66,6 +67,8 @@ impl<R: Read> Input<R> {
         ensures left { Keeps (bytes_left R.remaining self.old) (bytes_left R.remaining self.new) }
         ensures enough { IfOk result (λ there. there ≡ true → count ≤ length (fetched self.new)) }
         ensures few { IfOk result (λ there. there ≡ false → length (fetched self.new) < count) }
+        // The bytes that are there are no more than before, or than twice as many and a piece.
+        ensures most { length (fetched self.new) ≤ max (length (fetched self.old)) (2 * count + 16384) }
         ensures end { IfOk result (λ there. there ≡ false → IsAtEnd (R.remaining self.new.reader)) }
         ensures outside { IfErr result IsOutside }
     {
@@ -86,14 +89,22 @@ impl<R: Read> Input<R> {
         ensures left { Keeps (bytes_left R.remaining self.old) (bytes_left R.remaining self.new) }
         ensures start { self.new.start ≡ self.old.start }
         ensures more { IfOk result (λ there. there ≡ true → length self.old.bytes.items < length self.new.bytes.items) }
+        ensures most { length self.new.bytes.items ≤ length self.old.bytes.items + 16384 }
         ensures end { IfOk result (λ there. there ≡ false → IsAtEnd (R.remaining self.new.reader)) }
         ensures outside { IfErr result IsOutside }
     {
-        self.bytes.reserve(PIECE)?;
-        let mut piece = [0u8; PIECE];
-        let count = read_some(&mut self.reader, &mut piece)?;
-        self.bytes.extend_from_slice(&piece[..count])?;
-        Ok(count > 0)
+        let there = self.bytes.len();
+        self.bytes.resize(there.saturating_add(PIECE), 0)?;
+        match read_some(&mut self.reader, &mut self.bytes[there..]) {
+            Ok(count) => {
+                self.bytes.truncate(there + count);
+                Ok(count > 0)
+            }
+            Err(error) => {
+                self.bytes.truncate(there);
+                Err(error)
+            }
+        }
     }
 
     /// Drops the bytes that are taken.

@@ -1,12 +1,11 @@
-//! The choice of a linear prediction (section 9.2.6). Any weights are right: only the size of what is written depends on
-//! them.
+//! The choice of a linear prediction (section 9.2.6). Any weights are valid: only the size of what is written depends
+//! on them.
 ghost use Rattle.std.specs.Prelude.{◌≡◌, ◌<◌, ◌≤◌, length, true};
 ghost use Rattle.std.specs.List.{All};
 ghost use Rattle.bitstream_io.specs.Callers.{FitsSignedBits};
 ghost use Rattle.flac_codec.specs.Linear.{IsPrediction};
 
-use crate::partitions::{expected_residual_bits, residual_bits};
-use crate::predict::residual_of;
+use crate::partitions::residual_bits;
 use std::alloc::{AllocError, AllocFailed, Global};
 use std::num::{
     nearest_i64_to_f64, nearest_u64_to_f64, nearest_usize_to_f64, saturating_f64_to_i64,
@@ -75,30 +74,6 @@ pub(crate) fn linear_bits(width: u32, prediction: &Prediction, rest: &[i64]) -> 
     residual_bits(rest, prediction.weights.len()).wrapping_add(head_bits(width, prediction))
 }
 
-/// Returns the linear prediction with which samples of `width` bits are shortest, of those that suit the block best, and
-/// its parts.
-pub(crate) fn best_prediction(
-    alloc: Global,
-    width: u32,
-    samples: &[i64],
-) -> Result<Prediction, AllocError>
-    requires { width ≤ 64 }
-{
-    let mut best = likely_prediction(alloc, width, samples, samples.len())?;
-    let mut least = prediction_bits(alloc, width, &best, samples)?;
-    for parts in 2..4usize {
-        for near in samples.chunks(samples.len() / parts + 1) {
-            let next = likely_prediction(alloc, width, near, samples.len())?;
-            let bits = prediction_bits(alloc, width, &next, samples)?;
-            if bits < least {
-                best = next;
-                least = bits;
-            }
-        }
-    }
-    Ok(best)
-}
-
 /// Returns the number of bits of the first samples and the weights of a prediction, with their precision and shift.
 fn head_bits(width: u32, prediction: &Prediction) -> u64 {
     let weight = width as u64 + prediction.precision as u64;
@@ -107,58 +82,115 @@ fn head_bits(width: u32, prediction: &Prediction) -> u64 {
         .wrapping_add(9)
 }
 
-/// Returns the number of bits that is expected for samples with a prediction, or the greatest number if it cannot be written.
-fn prediction_bits(
-    alloc: Global,
-    width: u32,
-    prediction: &Prediction,
-    samples: &[i64],
-) -> Result<u64, AllocError> {
-    if !is_prediction(prediction, samples.len()) {
-        return Ok(u64::MAX);
-    }
-    let rest = residual_of(
-        alloc,
-        samples,
-        prediction.weights.as_slice(),
-        prediction.shift,
-    )?;
-    let bits = expected_residual_bits(rest.as_slice(), prediction.weights.len());
-    Ok(bits.wrapping_add(head_bits(width, prediction)))
-}
-
-/// Returns the linear prediction with which a block of `count` samples is expected to be shortest, if they are like these.
-fn likely_prediction(
+/// Returns the linear prediction with which samples of `width` bits are expected to be shortest.
+pub(crate) fn best_prediction(
     alloc: Global,
     width: u32,
     samples: &[i64],
-    count: usize,
 ) -> Result<Prediction, AllocError>
     requires { width ≤ 64 }
 {
     let windowed = windowed(alloc, samples)?;
     let correlations = correlations(windowed.as_slice());
+    let found = best_of_orders(alloc, &correlations, width, samples.len())?;
+    Ok(found)
+}
+
+/// Returns the prediction for which fewest bits are expected, of the best one of each order. The orders come by the recursion
+/// of Levinson and Durbin.
+fn best_of_orders(
+    alloc: Global,
+    correlations: &[f64; 13],
+    width: u32,
+    count: usize,
+) -> Result<Prediction, AllocFailed<i64>>
+    requires { width ≤ 64 }
+{
     let precision = precision_for(width, count);
-    let errors = solved(&correlations, MOST_ORDER).errors;
-    let order = likely_order(&errors, width + precision as u32, samples.len(), count);
-    let weights = solved(&correlations, order).weights;
-    Ok(quantized(alloc, &weights[..order], precision)?)
+    let mut weights = [0f64; 12];
+    let mut error = correlations[0];
+    let mut best = quantized(alloc, &[], precision)?;
+    let mut least = f64::INFINITY;
+    for order in 1..MOST_ORDER + 1 {
+        let next = next_weight(correlations, &weights, order - 1, error);
+        weights = longer(&weights, order - 1, next);
+        error *= 1.0 - next * next;
+        let prediction = quantized(alloc, &weights[..order], precision)?;
+        let bits = expected_bits(correlations, width, count, &prediction);
+        if bits < least {
+            best = prediction;
+            least = bits;
+        }
+    }
+    Ok(best)
+}
+
+/// Returns the number of bits that is expected for `count` samples of `width` bits with these correlations: for each sample
+/// half the logarithm of the variance of its difference from the prediction, but not below 0.
+fn expected_bits(
+    correlations: &[f64; 13],
+    width: u32,
+    count: usize,
+    prediction: &Prediction,
+) -> f64 {
+    let count = nearest_usize_to_f64(count);
+    let variance = error_of(correlations, prediction).max(0.0) / count;
+    let head = nearest_u64_to_f64(head_bits(width, prediction));
+    0.5 * count * log2(1.0 + 4.0 * variance) + head
+}
+
+/// Returns the sum of the squared differences from a prediction that is expected for samples with these correlations. It counts
+/// what the weights lost when they were rounded.
+fn error_of(correlations: &[f64; 13], prediction: &Prediction) -> f64 {
+    let scale = 1.0 / f64::from(1u32 << prediction.shift.min(15));
+    let mut weights = [0f64; 12];
+    for (to, weight) in weights.iter_mut().zip(prediction.weights.iter()) {
+        *to = as_float(*weight) * scale;
+    }
+    let mut error = correlations[0];
+    for i in 0..prediction.weights.len().min(12) {
+        error += weights[i] * (reach(correlations, &weights, i) - 2.0 * correlations[i + 1]);
+    }
+    error
+}
+
+/// Returns the sum of the weights times the correlations of the sample of each with that of a weight.
+fn reach(correlations: &[f64; 13], weights: &[f64; 12], at: usize) -> f64
+    requires { at < 12 }
+{
+    let mut sum = 0f64;
+    for j in 0..12usize {
+        sum += weights[j] * correlations[at.abs_diff(j)];
+    }
+    sum
 }
 
 /// Returns zeros, one for each lag, and then the samples. The first and the last quarter of them rise and fall.
-fn windowed(alloc: Global, samples: &[i64]) -> Result<Vec<f64>, AllocFailed<f64>> {
-    let mut found = Vec::new(alloc);
+fn windowed(alloc: Global, samples: &[i64]) -> Result<Vec<f64>, AllocError> {
+    let count = samples.len();
+    let mut found = Vec::with_capacity(alloc, count.saturating_add(LAGS))?;
     for _ in 1..LAGS {
         found.push(0.0)?;
     }
-    let count = samples.len();
-    let edge = nearest_usize_to_f64(count / 4 + 1);
+    let edge = count / 4 + 1;
+    let step = 1.0 / nearest_usize_to_f64(edge);
     for (at, sample) in samples.iter().enumerate() {
-        let inside = nearest_usize_to_f64(at.min(count.saturating_sub(at)));
-        let rise = (inside / edge).min(1.0);
-        found.push(nearest_i64_to_f64(*sample) * rise * rise * (3.0 - 2.0 * rise))?;
+        let number = as_float(*sample);
+        let inside = at.min(count.saturating_sub(at));
+        if inside < edge {
+            let rise = f64::from(inside.min(0xffff_ffff) as u32) * step;
+            found.push(number * rise * rise * (3.0 - 2.0 * rise))?;
+        } else {
+            found.push(number)?;
+        }
     }
     Ok(found)
+}
+
+/// Returns a sample as a floating-point number. Of more than 32 bits it becomes the nearest sample of 32 bits.
+#[inline(always)]
+fn as_float(sample: i64) -> f64 {
+    f64::from(sample.max(-0x8000_0000).min(0x7fff_ffff) as i32)
 }
 
 /// Returns the sums of products of samples with those before them, for each lag. The first samples are zeros.
@@ -170,29 +202,6 @@ fn correlations(samples: &[f64]) -> [f64; 13] {
         }
     }
     sums
-}
-
-/// The weights of a linear prediction, and the error of the prediction of each lower order.
-#[derive(Clone, Copy)]
-struct Recursion {
-    weights: [f64; 12],
-    errors: [f64; 12],
-}
-
-/// Returns the best weights of an order, by the recursion of Levinson and Durbin.
-fn solved(correlations: &[f64; 13], order: usize) -> Recursion
-    requires { order ≤ 12 }
-{
-    let mut weights = [0f64; 12];
-    let mut errors = [0f64; 12];
-    let mut error = correlations[0];
-    for i in 0..order {
-        let next = next_weight(correlations, &weights, i, error);
-        weights = longer(&weights, i, next);
-        error *= 1.0 - next * next;
-        errors[i] = error;
-    }
-    Recursion { weights, errors }
 }
 
 /// Returns the weight that follows the first `count` ones.
@@ -209,7 +218,7 @@ fn next_weight(correlations: &[f64; 13], weights: &[f64; 12], count: usize, erro
     rest / error
 }
 
-/// Returns the weights of the next order, after the first `count` ones.
+/// Returns the weights of order `count` + 1, from the weights of order `count` and the next weight.
 fn longer(weights: &[f64; 12], count: usize, next: f64) -> [f64; 12]
     requires { count < 12 }
 {
@@ -219,25 +228,6 @@ fn longer(weights: &[f64; 12], count: usize, next: f64) -> [f64; 12]
     }
     found[count] = next;
     found
-}
-
-/// Returns the order for which fewest bits are expected. Each weight costs `cost` bits, with the sample that it replaces.
-fn likely_order(errors: &[f64; 12], cost: u32, samples: usize, count: usize) -> usize
-    ensures { result ≤ 12 }
-{
-    let scale = 0.5 / nearest_usize_to_f64(samples);
-    let mut best = 1usize;
-    let mut least = f64::INFINITY;
-    for order in 1..MOST_ORDER + 1 {
-        let bits = log2((errors[order - 1] * scale).max(1.0)) * 0.5;
-        let total = bits * nearest_usize_to_f64(count)
-            + nearest_usize_to_f64(order.wrapping_mul(cost as usize));
-        if total < least {
-            best = order;
-            least = total;
-        }
-    }
-    best.min(MOST_ORDER)
 }
 
 /// Returns a number near the binary logarithm of a number from 1 to 2^64.
@@ -261,7 +251,8 @@ fn precision_for(width: u32, samples: usize) -> u8
     if samples > 576 { 10 } else { 8 }
 }
 
-/// Returns weights of `precision` bits, with their shift. What one loses is added to the next one.
+/// Returns the weights rounded to `precision` bits, with their shift. The rounding error of each is added to the next
+/// one.
 fn quantized(alloc: Global, weights: &[f64], precision: u8) -> Result<Prediction, AllocFailed<i64>>
     requires some { 1 ≤ precision }
     requires most { precision ≤ 15 }
@@ -286,7 +277,7 @@ fn quantized(alloc: Global, weights: &[f64], precision: u8) -> Result<Prediction
     })
 }
 
-/// Returns the greatest of numbers without their signs.
+/// Returns the greatest absolute value.
 fn greatest(numbers: &[f64]) -> f64 {
     let mut found = 0f64;
     for number in numbers {
@@ -295,7 +286,7 @@ fn greatest(numbers: &[f64]) -> f64 {
     found
 }
 
-/// Returns the greatest shift for which a shifted number is below a limit, at most 15.
+/// Returns the greatest shift, at most 15, for which `number`, shifted left, is below `limit`; or 0.
 fn shift_for(number: f64, limit: f64) -> u32
     ensures { result ≤ 15 }
 {

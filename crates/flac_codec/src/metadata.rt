@@ -1,21 +1,21 @@
 //! The metadata of a file (section 8): blocks, of which the first is STREAMINFO.
 ghost use Rattle.std.specs.Prelude.{◌≡◌, ◌≤◌, length, true, IfOk};
 ghost use Rattle.bitstream_io.specs.Callers.{result_map};
-ghost use Rattle.flac_codec.specs.File.{has_marker, info_at, is_stream_info, metadata_at, metadata_end};
+ghost use Rattle.flac_codec.specs.File.{has_marker, info_at, is_stream_info, metadata_at, metadata_end, metadata_head};
 
 use crate::error::FlacError;
 use crate::stream_info::StreamInfo;
 use bitstream_io::Error;
 
-// A block of metadata at the start of bytes.
-#[derive(Clone, Copy)]
-pub(crate) struct Metadata {
-    // True for the last block.
-    pub(crate) last: bool,
-    // The type, below 128: 0 for STREAMINFO.
-    pub(crate) kind: u8,
-    // The number of bytes, with the 4 bytes of the header.
-    pub(crate) size: usize,
+/// The header of a block of metadata.
+#[derive(Clone, Copy, Debug, PartialEq, Eq)]
+pub struct Metadata {
+    /// True for the last block.
+    pub last: bool,
+    /// The type, below 128: 0 for STREAMINFO.
+    pub kind: u8,
+    /// The number of bytes, with the 4 bytes of the header.
+    pub size: usize,
 }
 
 // STREAMINFO of a file.
@@ -38,7 +38,7 @@ pub(crate) fn info_at(bytes: &[u8]) -> Result<InfoAt, FlacError>
     if !is_stream_info(block) {
         return Err(FlacError::NoStreamInfo);
     }
-    let info = StreamInfo::parse(&bytes[8..])?;
+    let info = StreamInfo::parse(&bytes[8..42])?;
     Ok(InfoAt {
         info,
         last: block.last,
@@ -60,7 +60,7 @@ pub(crate) fn metadata_end(last: bool, bytes: &[u8]) -> Result<&[u8], FlacError>
 }
 
 /// Returns true if the first bytes are `fLaC`.
-fn has_marker(bytes: &[u8]) -> bool
+pub(crate) fn has_marker(bytes: &[u8]) -> bool
     ensures test { result ≡ has_marker bytes.now }
     ensures within { result ≡ true → 4 ≤ length bytes.now }
 {
@@ -75,19 +75,28 @@ fn metadata_at(bytes: &[u8]) -> Result<Metadata, FlacError>
     if bytes.len() < 4 {
         return Err(FlacError::Reader(Error::EndOfInput));
     }
-    let size = 4 + 65536 * bytes[1] as usize + 256 * bytes[2] as usize + bytes[3] as usize;
-    if bytes.len() < size {
+    let block = metadata_head(bytes);
+    if bytes.len() < block.size {
         return Err(FlacError::Reader(Error::EndOfInput));
     }
-    Ok(Metadata {
+    Ok(block)
+}
+
+/// Returns the block of metadata whose header is at the start of bytes.
+pub(crate) fn metadata_head(bytes: &[u8]) -> Metadata
+    requires { 4 ≤ length bytes.now }
+    ensures found { result ≡ metadata_head bytes.now }
+    ensures some { 4 ≤ result.size }
+{
+    Metadata {
         last: bytes[0] >= 128,
         kind: bytes[0] % 128,
-        size,
-    })
+        size: 4 + 65536 * bytes[1] as usize + 256 * bytes[2] as usize + bytes[3] as usize,
+    }
 }
 
 /// Returns true if a block is a STREAMINFO of 34 bytes.
-fn is_stream_info(block: Metadata) -> bool
+pub(crate) fn is_stream_info(block: Metadata) -> bool
     ensures { result ≡ is_stream_info block }
 {
     block.kind == 0 && block.size == 38

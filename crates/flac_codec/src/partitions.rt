@@ -1,4 +1,4 @@
-//! The choice of the partitions of a residual. Each choice is right: only the size of what is written depends on it.
+//! The choice of the partitions of a residual. Any choice is valid: only the size of what is written depends on it.
 ghost use Rattle.std.specs.Prelude.{◌≡◌, ◌+◌, ◌-◌, ◌/◌, ◌%◌, ◌^◌, ◌<◌, ◌≤◌, true, length};
 
 use crate::choice::{best_parameter, expected_bits, likely_parameter, rice_bits, sum_of_places};
@@ -15,7 +15,8 @@ pub(crate) struct Partitions {
 /// The greatest order of partitions that is tried.
 const MOST_ORDER: u32 = 8;
 
-/// Returns the partitions that make the residual of a block after its first `order` samples short.
+/// Returns the partitions that are expected to make a block's residual shortest. `numbers` is the residual, and `order`
+/// the number of samples before it.
 pub(crate) fn best_partitions(numbers: &[i64], order: usize) -> Partitions
     requires { order ≤ 32 }
     ensures coding { result.coding ≤ 1 }
@@ -32,13 +33,6 @@ pub(crate) fn best_partitions(numbers: &[i64], order: usize) -> Partitions
         };
     }
     Partitions { order: 0, coding }
-}
-
-/// Returns the number of bits that is expected for the residual of a block after its first `order` samples.
-pub(crate) fn expected_residual_bits(numbers: &[i64], order: usize) -> u64
-    requires { order ≤ 32 }
-{
-    shortest_partitions(numbers, order).size
 }
 
 /// Returns the number of bits of the residual of a block after its first `order` samples, in the partitions that are
@@ -66,7 +60,7 @@ fn partition_bits(numbers: &[i64], bits: u32) -> u64
     rice_bits(numbers, parameter).wrapping_add(bits as u64)
 }
 
-/// Returns the greatest parameter of `bits` bits. One more stands for numbers that are not coded.
+/// Returns the greatest parameter of `bits` bits. One more means that the numbers are not coded.
 pub(crate) fn greatest_parameter(bits: u32) -> u32
     requires some { 1 ≤ bits }
     requires most { bits ≤ 5 }

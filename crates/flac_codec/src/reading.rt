@@ -54,7 +54,7 @@ fn read_typed<R: BitRead>(
     read_kind(reader, alloc, width, block_size, kind)
 }
 
-/// Reads a subframe of a type with wasted bits, after its header.
+/// Reads the number of wasted bits, and the rest of a subframe of the type `kind`.
 fn read_wasted<R: BitRead>(
     reader: &mut R,
     alloc: Global,
@@ -77,7 +77,7 @@ fn read_wasted<R: BitRead>(
     Ok(widened(alloc, samples.as_slice(), wasted)?)
 }
 
-/// Returns samples with their wasted bits.
+/// Returns the samples, followed by `wasted` zero bits each.
 fn widened(alloc: Global, samples: &[i64], wasted: u32) -> Result<Vec<i64>, AllocFailed<i64>>
     requires { wasted < 64 }
     ensures { IfOk result (λ found. found.items ≡ map (widened wasted) samples.now) }
@@ -89,7 +89,7 @@ fn widened(alloc: Global, samples: &[i64], wasted: u32) -> Result<Vec<i64>, Allo
     Ok(found)
 }
 
-/// Reads a subframe of a type after its header.
+/// Reads a subframe of the type `kind`, after its header.
 fn read_kind<R: BitRead>(
     reader: &mut R,
     alloc: Global,

@@ -74,7 +74,7 @@ fn read_partitions<R: BitRead>(
     Ok(numbers)
 }
 
-/// Reads a partition of `count` numbers. The greatest parameter stands for numbers that are not coded.
+/// Reads a partition of `count` numbers. A parameter of only ones means that the numbers are not coded.
 fn read_partition<R: BitRead>(
     reader: &mut R,
     alloc: Global,
@@ -92,7 +92,7 @@ fn read_partition<R: BitRead>(
     Ok(read_numbers(reader, alloc, parameter, count)?)
 }
 
-/// Reads `count` numbers that are not coded, after their width. The width 0 stands for zeros.
+/// Reads the width of `count` numbers that are not coded, and the numbers. The width 0 means zeros.
 fn read_escaped<R: BitRead>(
     reader: &mut R,
     alloc: Global,

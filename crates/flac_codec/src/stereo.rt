@@ -1,4 +1,4 @@
-//! The choice of the coding of channels. Each choice is right: only the size of what is written depends on it.
+//! The choice of the coding of channels. Any choice is valid: only the size of what is written depends on it.
 ghost use Rattle.std.specs.Prelude.{◌≡◌, ◌≤◌};
 ghost use Rattle.flac_codec.specs.Channels.{channel_count};
 ghost use Rattle.flac_codec.specs.Header.{IsChannels};
@@ -42,7 +42,7 @@ fn best_stereo(left: &[i64], right: &[i64]) -> Channels
     }
 }
 
-/// Returns the sums of the changes of slope, without their signs, of two channels, of their mean and of their difference.
+/// Returns the sums of the absolute changes of slope: of both channels, of their mean and of their difference.
 fn slope_changes(left: &[i64], right: &[i64]) -> [u64; 4] {
     let mut sums = [0u64; 4];
     let mut last = [0i64; 4];

@@ -1,7 +1,7 @@
 use Rattle.std.proofs.Common.{◌∙◌, refl}
 use Rattle.flac_codec.specs.Predict.{predicted}
 use Rattle.flac_codec.proofs.PredictLemmas.{residual-step, residual-end}
-use Rattle.flac_codec.proofs.predict.residual_of.Goals as goal
+use Rattle.flac_codec.proofs.predict.residual_by.Goals as goal
 
 pub loop-at-init : goal.loop-at-init
 loop-at-init c = rw c.new-residual.ensures.items refl

@@ -1,7 +1,7 @@
 use Rattle.std.proofs.Common.{◌∙◌, refl}
 use Rattle.flac_codec.specs.Predict.{predicted}
 use Rattle.flac_codec.proofs.PredictLemmas.{restored-step, restored-end, one_longer}
-use Rattle.flac_codec.proofs.predict.restore.Goals as goal
+use Rattle.flac_codec.proofs.predict.restore_by.Goals as goal
 
 pub loop-difference-init : goal.loop-difference-init
 loop-difference-init c = (refl, c.requires.enough)

@@ -1,6 +1,6 @@
 use Rattle.std.proofs.Common.{◌≡◌, ◌≤◌, length, drop}
 use Rattle.flac_codec.specs.Predict.{predicted, restored}
-use Rattle.flac_codec.proofs.predict.restore.Given as goal
+use Rattle.flac_codec.proofs.predict.restore_by.Given as goal
 
 -- what is still to be restored makes the same samples
 abbrev pub invariant-loop-difference : goal.invariant-loop-difference

@@ -1,6 +1,6 @@
 use Rattle.std.proofs.Common.{◌≡◌, ◌++◌, length, take, drop}
 use Rattle.flac_codec.specs.Predict.{predicted, residual}
-use Rattle.flac_codec.proofs.predict.residual_of.Given as goal
+use Rattle.flac_codec.proofs.predict.residual_by.Given as goal
 
 -- what is left so far, and then what is still to come
 abbrev pub invariant-loop-at : goal.invariant-loop-at
