@@ -6,8 +6,10 @@ mod pcm;
 mod place;
 mod sum;
 mod summed;
+mod tag;
 
 pub use decoder::Decoder;
 pub use error::FlacError;
 pub use pcm::append_pcm;
 pub use summed::{encode_with_md5, has_md5};
+pub use tag::AfterTag;

@@ -98,7 +98,7 @@ impl<'a> Packets<'a> {
 
 type Packet<'r, 'a, 'b> = Syntax<'r, 'a, 'b, BE>;
 
-/// The facts of a packet's header that the read of its payload needs.
+/// The fields of a packet's header that reading its payload needs.
 #[derive(Clone, Copy)]
 struct Header {
     id: u32,

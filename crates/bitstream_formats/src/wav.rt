@@ -9,7 +9,7 @@ use bitstream_io::Error;
 pub struct Wav<'a> {
     /// The format of the samples.
     pub format: WavFormat,
-    /// The bytes of the samples, those of all channels in turn, the lowest byte of a sample first. Samples of 8 bits
+    /// The bytes of the samples: one sample of each channel in turn, the lowest byte first. Samples of 8 bits
     /// have no sign.
     pub data: &'a [u8],
 }

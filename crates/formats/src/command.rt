@@ -9,6 +9,7 @@ use crate::readers::containers::{OggUnits, TsUnits};
 use crate::readers::h265::H265Units;
 use crate::readers::video::{Av1Units, H264Units};
 use crate::report::Report;
+use crate::settings::{ByteOrder, Encoding};
 use crate::status::Status;
 use crate::unit::{ReadUnits, Step, Unit};
 use anyhow::Error;
@@ -19,10 +20,10 @@ use std::io::Write;
 /// A command over a file.
 #[derive(Clone, Copy, Debug, PartialEq, Eq)]
 pub enum Command {
-    /// Writes the samples of a FLAC file.
-    Flac,
-    /// Encodes the samples of a WAV file as FLAC.
-    FlacEncode,
+    /// Writes the samples of a FLAC file, their bytes in this order.
+    Flac(ByteOrder),
+    /// Encodes the samples of a file as FLAC.
+    FlacEncode(Encoding),
     /// Checks the frames of a FLAC file, and writes nothing.
     FlacTest,
     /// Writes the samples of a FLAC file as WAV.
@@ -48,11 +49,11 @@ pub enum Command {
 }
 
 impl Command {
-    /// Returns the command that a word names.
+    /// Returns the command with this name.
     pub fn of(word: &str) -> Option<Command> {
         match word {
-            "flac" => Some(Command::Flac),
-            "flac-encode" => Some(Command::FlacEncode),
+            "flac" => Some(Command::Flac(ByteOrder::Little)),
+            "flac-encode" => Some(Command::FlacEncode(Encoding::DEFAULT)),
             "flac-test" => Some(Command::FlacTest),
             "flac-wav" => Some(Command::FlacWav),
             "flac-headers" => Some(Command::FlacHeaders),
@@ -71,8 +72,8 @@ impl Command {
     /// Returns true if the command writes bytes or samples, and prints no elements.
     pub fn decodes(self) -> bool {
         match self {
-            Command::Flac | Command::FlacTest | Command::FlacWav => true,
-            Command::FlacEncode | Command::Gunzip => true,
+            Command::Flac(_) | Command::FlacTest | Command::FlacWav => true,
+            Command::FlacEncode(_) | Command::Gunzip => true,
             _ => false,
         }
     }
@@ -89,8 +90,8 @@ pub fn play<W: Write, P: Write>(
     report: &mut Report<P>,
 ) -> Result<Status, Error> {
     match command {
-        Command::Flac => {
-            let mut units = FlacUnits::over(alloc, file, Output::Samples);
+        Command::Flac(order) => {
+            let mut units = FlacUnits::over(alloc, file, Output::Samples(order));
             decode(alloc, name, &mut units, out, report)
         }
         Command::FlacTest => {
@@ -101,7 +102,7 @@ pub fn play<W: Write, P: Write>(
             let mut units = FlacUnits::over(alloc, file, Output::Wav);
             decode(alloc, name, &mut units, out, report)
         }
-        Command::FlacEncode => encode(alloc, name, file, out, report),
+        Command::FlacEncode(encoding) => encode(alloc, encoding, name, file, out, report),
         Command::Gunzip => {
             let mut units = GzipUnits::over(alloc, file)?;
             decode(alloc, name, &mut units, out, report)
@@ -111,7 +112,7 @@ pub fn play<W: Write, P: Write>(
             show(alloc, name, &mut units, printer, out, report)
         }
         Command::FlacHeaders => {
-            let mut units = FlacUnits::over(alloc, file, Output::Nothing);
+            let mut units = FlacUnits::over(alloc, file, Output::Headers);
             show(alloc, name, &mut units, printer, out, report)
         }
         Command::H264 => {
@@ -153,7 +154,7 @@ struct Tally {
 }
 
 impl Tally {
-    /// Returns the outcome of a file. A file with no unit is refused.
+    /// Returns the outcome of a file, which is `Refused` if the file has no unit.
     fn end(self) -> Status {
         if self.count > 0 {
             self.status
@@ -169,7 +170,7 @@ impl Tally {
     }
 }
 
-/// Prints the units of a file, and reports the refused ones.
+/// Prints the units of a file, and reports the rejected ones.
 pub fn show<U: ReadUnits, W: Write, P: Write>(
     alloc: Global,
     name: &str,
@@ -214,7 +215,7 @@ pub fn show<U: ReadUnits, W: Write, P: Write>(
     Ok(tally.end())
 }
 
-/// Writes the contents of the units of a file, and reports the refused units.
+/// Writes the contents of the units of a file, and reports the rejected units.
 pub fn decode<U: ReadUnits, W: Write, P: Write>(
     alloc: Global,
     name: &str,

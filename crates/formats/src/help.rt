@@ -21,13 +21,14 @@ usage: formats COMMAND [OPTION..] FILE..     FILE is - for standard input
   flac           writes the samples of FLAC, as whole bytes with a sign, the lowest byte first
   flac-wav       writes the samples of FLAC as a WAV file
   flac-test      checks FLAC, and writes nothing
-  flac-encode    writes the samples of a WAV file as FLAC
+  flac-encode    writes the samples of a WAV file, or samples without a header, as FLAC
   gunzip         writes the bytes of gzip
 
   --json         prints a JSON object for each unit, on a line of its own
   --table        prints a heading for each unit, and its elements in columns
   --only NAME    prints the elements of this name alone; several names are allowed
   --errors       prints errors alone; a FILE may be a directory, whose files are read in the order of their names
+  -o FILE        writes FILE, and not standard output; one file is read then
   --             ends the options
 
 With no option a line has an element: its place in bits, its name and its value. A unit that is refused is reported
@@ -101,10 +102,11 @@ Reads gzip in constant memory. A unit is a member: its header and its trailer, w
 are unpacked and checked, and not written.
 e.g.   formats gzip-headers --json FILE | jq .elements.ISIZE
 ",
-        Command::Flac => "\
-usage: formats flac FILE..
+        Command::Flac(_) => "\
+usage: formats flac [--order little | --order big] [-o FILE] FILE..
 
-Writes the samples of FLAC to standard output, as whole bytes with a sign, the lowest byte first.
+Writes the samples of FLAC, as whole bytes with a sign. The lowest byte is first, or the highest one (`--order big`).
+A tag of ID3v2 before the file is skipped.
 ",
         Command::FlacTest => "\
 usage: formats flac-test FILE..
@@ -112,21 +114,33 @@ usage: formats flac-test FILE..
 Decodes FLAC, and compares all checksums, the number of samples and their MD5. Nothing is written.
 ",
         Command::FlacWav => "\
-usage: formats flac-wav FILE..
+usage: formats flac-wav [-o FILE] FILE..
 
-Writes the samples of FLAC to standard output as a WAV file. A sample of other than whole bytes fills its highest bits.
+Writes the samples of FLAC as a WAV file. A sample of other than whole bytes fills its highest bits.
 ",
-        Command::FlacEncode => "\
-usage: formats flac-encode FILE..
+        Command::FlacEncode(_) => "\
+usage: formats flac-encode [OPTION..] [-o FILE] FILE..
 
-Writes the samples of a WAV file, of one to eight channels and at most 32 bits, to standard output as FLAC. The encoder
-of its frames is proved lossless.
-e.g.   formats flac-encode sound.wav > sound.flac && flac -t sound.flac
+Writes the samples of a WAV file, of one to eight channels and at most 32 bits, as FLAC, with their MD5. The encoder of
+its frames is proved lossless.
+
+  -0 .. -8, --level N   0 to 2: blocks of 1152 samples, 3 to 8: of 4096. 0 and 3: each channel is coded by itself;
+                        6 to 8: two channels are coded in all four ways, and the shortest is kept; the others: in the
+                        way that seems shortest. The predictions are the same at each level. Without a level: 5
+  --block-size N        blocks of N samples, 16 to 65535
+  --padding N           N empty bytes for tags, 0 to 16777215; without the option: 8192
+  --raw                 FILE has samples and no header: whole bytes with a sign, of all channels in turn. It needs:
+    --channels N        1 to 8
+    --bits N            bits of a sample, 4 to 32
+    --rate N            samples per second, 1 to 1048575
+    --order ORDER       `little` (the lowest byte first; without the option) or `big`
+
+e.g.   formats flac-encode -8 -o sound.flac sound.wav && flac -t sound.flac
 ",
         Command::Gunzip => "\
-usage: formats gunzip FILE..
+usage: formats gunzip [-o FILE] FILE..
 
-Writes the bytes of gzip to standard output, of all members, in constant memory. Zeros after the last member are
+Writes the bytes of gzip, of all members, in constant memory. Zeros after the last member are
 ignored; other bytes too, with status 4. Of a member that is cut the bytes that are there are written.
 ",
     }

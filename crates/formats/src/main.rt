@@ -11,6 +11,7 @@ mod readers;
 mod report;
 mod rows;
 mod run;
+mod settings;
 mod status;
 mod unit;
 mod walk;

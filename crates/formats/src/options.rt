@@ -1,6 +1,7 @@
 //! The program's arguments.
 
 use crate::command::Command;
+use crate::settings::{ByteOrder, Encoding, Raw};
 use std::alloc::{AllocError, Global};
 
 /// The styles in which units are printed.
@@ -16,13 +17,15 @@ pub enum Style {
     Errors,
 }
 
-/// The choices for printing the units of files.
+/// The choices for the output of files.
 #[derive(Drop)]
 pub struct Options {
-    /// The style.
+    /// The style in which units are printed.
     pub style: Style,
     /// The names of the elements to print. All elements are printed if there are no names.
     pub only: Vec<String>,
+    /// The file that is written, or `None` for standard output.
+    pub output: Option<String>,
 }
 
 impl Options {
@@ -31,6 +34,7 @@ impl Options {
         Options {
             style,
             only: Vec::new(alloc),
+            output: None,
         }
     }
 
@@ -65,7 +69,7 @@ pub enum Call {
     Damaged(Command, String),
 }
 
-/// The reasons that the arguments are refused.
+/// The reasons that the arguments are rejected.
 #[derive(Debug, Drop)]
 pub enum Usage {
     /// There is no command of this name.
@@ -74,9 +78,26 @@ pub enum Usage {
     NoOption(String),
     /// An option has no value after it.
     NoValue(String),
-    /// No file is named, or the wrong number of files.
+    /// An option has another value than it can have.
+    BadValue {
+        /// The option.
+        option: String,
+        /// The value.
+        value: String,
+        /// The values that it can have.
+        wanted: &'static str,
+    },
+    /// The command does not have this option.
+    NotOfCommand(String),
+    /// Samples without a header lack a property.
+    NoForm,
+    /// An option describes samples without a header, which the command does not read.
+    NoRaw(String),
+    /// No file is named, or the wrong number of files is.
     NoFile,
-    /// A command that writes the contents of a file prints no elements, and takes no option.
+    /// An output is named for several files.
+    OneOutput,
+    /// A command that writes the contents of a file prints no elements, and has no option for them.
     NoElements,
     /// An allocation failed.
     NoMemory,
@@ -94,7 +115,7 @@ impl<T: Drop> From<std::alloc::AllocFailed<T>> for Usage {
     }
 }
 
-/// Returns true if a word asks for help.
+/// Returns true if an argument asks for help.
 fn is_help(word: &str) -> bool {
     matches!(word, "--help" | "-h" | "help")
 }
@@ -124,39 +145,265 @@ pub fn parse(alloc: Global, words: &[String]) -> Result<Call, Usage> {
 }
 
 /// Parses the arguments after a command.
-fn parse_command(alloc: Global, command: Command, words: &[String]) -> Result<Call, Usage> {
-    let mut options = Options::of(alloc, Style::Rows);
-    let mut files = Vec::new(alloc);
-    let mut is_name = false;
-    let mut only_files = false;
+pub fn parse_command(alloc: Global, command: Command, words: &[String]) -> Result<Call, Usage> {
+    let mut arguments = Arguments::new(alloc, command);
     for word in words {
-        let text = word.as_str();
-        if is_name {
-            options.only.push(word.clone()?)?;
-            is_name = false;
-        } else if only_files || text == "-" || !text.starts_with('-') {
-            files.push(word.clone()?)?;
-        } else {
-            match text {
-                "--help" | "-h" => return Ok(Call::HelpOf(command)),
-                "--version" | "-V" => return Ok(Call::Version),
-                "--json" => options.style = Style::Json,
-                "--table" => options.style = Style::Table,
-                "--errors" => options.style = Style::Errors,
-                "--only" => is_name = true,
-                "--" => only_files = true,
-                _ => return Err(Usage::NoOption(word.clone()?)),
-            }
+        if let Some(call) = arguments.add(word)? {
+            return Ok(call);
         }
     }
-    if is_name {
-        return Err(Usage::NoValue(String::from_str(alloc, "--only")?));
+    arguments.end()
+}
+
+/// The arguments after a command, as far as they were parsed.
+#[derive(Drop)]
+struct Arguments {
+    command: Command,
+    options: Options,
+    files: Vec<String>,
+    // The option whose value follows.
+    waiting: Option<String>,
+    // True after `--`.
+    only_files: bool,
+    // An option of an encoder.
+    of_encoder: Option<String>,
+    // The settings of the encoder.
+    encoding: Encoding,
+    // True after `--raw`.
+    is_raw: bool,
+    // An option that describes samples without a header.
+    of_raw: Option<String>,
+    // The form of these samples. A number is 0 if it is not known.
+    raw: Raw,
+    // An option for the order of bytes.
+    of_order: Option<String>,
+}
+
+impl Arguments {
+    /// Returns the arguments before the first one.
+    fn new(alloc: Global, command: Command) -> Arguments {
+        Arguments {
+            command,
+            options: Options::of(alloc, Style::Rows),
+            files: Vec::new(alloc),
+            waiting: None,
+            only_files: false,
+            of_encoder: None,
+            encoding: Encoding::DEFAULT,
+            is_raw: false,
+            of_raw: None,
+            raw: Raw {
+                channels: 0,
+                bits: 0,
+                rate: 0,
+                order: ByteOrder::Little,
+            },
+            of_order: None,
+        }
     }
-    if command.decodes() && (options.style != Style::Rows || !options.only.is_empty()) {
-        return Err(Usage::NoElements);
+
+    /// Adds an argument. Returns the call if it asks for help or for the version.
+    fn add(&mut self, word: &String) -> Result<Option<Call>, Usage> {
+        let text = word.as_str();
+        if let Some(option) = self.waiting.take() {
+            self.set(&option, word)?;
+        } else if self.only_files || text == "-" || !text.starts_with('-') {
+            self.files.push(word.clone()?)?;
+        } else {
+            match text {
+                "--help" | "-h" => return Ok(Some(Call::HelpOf(self.command))),
+                "--version" | "-V" => return Ok(Some(Call::Version)),
+                _ => self.add_option(word)?,
+            }
+        }
+        Ok(None)
     }
-    if files.is_empty() {
-        return Err(Usage::NoFile);
+
+    /// Adds an option.
+    fn add_option(&mut self, word: &String) -> Result<(), Usage> {
+        match word.as_str() {
+            "--json" => self.options.style = Style::Json,
+            "--table" => self.options.style = Style::Table,
+            "--errors" => self.options.style = Style::Errors,
+            "--" => self.only_files = true,
+            "--raw" => {
+                self.is_raw = true;
+                self.of_encoder = Some(word.clone()?);
+            }
+            "--only"
+            | "-o"
+            | "--output"
+            | "--level"
+            | "--block-size"
+            | "--padding"
+            | "--channels"
+            | "--bits"
+            | "--rate"
+            | "--order" => self.waiting = Some(word.clone()?),
+            text => {
+                let Some(level) = level_of(text) else {
+                    return Err(Usage::NoOption(word.clone()?));
+                };
+                self.encoding.set_level(level);
+                self.of_encoder = Some(word.clone()?);
+            }
+        }
+        Ok(())
     }
-    Ok(Call::Read(command, options, files))
+
+    /// Sets the value of an option.
+    fn set(&mut self, option: &String, value: &String) -> Result<(), Usage> {
+        match option.as_str() {
+            "--only" => self.options.only.push(value.clone()?)?,
+            "-o" | "--output" => self.options.output = Some(value.clone()?),
+            "--order" => {
+                let order = ByteOrder::of(value.as_str());
+                self.raw.order = wanted(order, option, value, "`little` or `big`")?;
+                self.of_order = Some(option.clone()?);
+            }
+            "--level" | "--block-size" | "--padding" => {
+                self.set_encoding(option, value)?;
+                self.of_encoder = Some(option.clone()?);
+            }
+            _ => {
+                self.set_raw(option, value)?;
+                self.of_raw = Some(option.clone()?);
+            }
+        }
+        Ok(())
+    }
+
+    /// Sets the value of an option of the encoder.
+    fn set_encoding(&mut self, option: &String, value: &String) -> Result<(), Usage> {
+        match option.as_str() {
+            "--level" => {
+                let level = number(value, 0, 8);
+                self.encoding
+                    .set_level(wanted(level, option, value, "0 to 8")?);
+            }
+            "--block-size" => {
+                let size = number(value, 16, 65_535);
+                self.encoding.block_size = wanted(size, option, value, "16 to 65535")?.min(
+                    65_535,
+                ) as u16;
+            }
+            _ => {
+                let padding = number(value, 0, 0xff_ffff);
+                self.encoding.padding = wanted(padding, option, value, "0 to 16777215")?;
+            }
+        }
+        Ok(())
+    }
+
+    /// Sets a property of samples without a header.
+    fn set_raw(&mut self, option: &String, value: &String) -> Result<(), Usage> {
+        match option.as_str() {
+            "--channels" => {
+                let channels = number(value, 1, 8);
+                self.raw.channels = wanted(channels, option, value, "1 to 8")?.min(8) as u8;
+            }
+            "--bits" => {
+                let bits = number(value, 4, 32);
+                self.raw.bits = wanted(bits, option, value, "4 to 32")?.min(32) as u8;
+            }
+            _ => {
+                let rate = number(value, 1, 0xf_ffff);
+                self.raw.rate = wanted(rate, option, value, "1 to 1048575")?;
+            }
+        }
+        Ok(())
+    }
+
+    /// Returns the call of all arguments.
+    fn end(self) -> Result<Call, Usage> {
+        let mut arguments = self;
+        if let Some(option) = arguments.waiting.take() {
+            return Err(Usage::NoValue(option));
+        }
+        if arguments.command.decodes()
+            && (arguments.options.style != Style::Rows || !arguments.options.only.is_empty())
+        {
+            return Err(Usage::NoElements);
+        }
+        let command = arguments.command()?;
+        if arguments.files.is_empty() {
+            return Err(Usage::NoFile);
+        }
+        if arguments.options.output.is_some() && arguments.files.len() > 1 {
+            return Err(Usage::OneOutput);
+        }
+        Ok(Call::Read(command, arguments.options, arguments.files))
+    }
+
+    /// Returns the command with its settings.
+    fn command(&mut self) -> Result<Command, Usage> {
+        if let Command::FlacEncode(_) = self.command {
+            return self.encoder();
+        }
+        if let Some(option) = self.of_encoder.take() {
+            return Err(Usage::NotOfCommand(option));
+        }
+        if let Some(option) = self.of_raw.take() {
+            return Err(Usage::NotOfCommand(option));
+        }
+        if let Command::Flac(_) = self.command {
+            return Ok(Command::Flac(self.raw.order));
+        }
+        match self.of_order.take() {
+            Some(option) => Err(Usage::NotOfCommand(option)),
+            None => Ok(self.command),
+        }
+    }
+
+    /// Returns the command that encodes with the settings.
+    fn encoder(&mut self) -> Result<Command, Usage> {
+        let mut encoding = self.encoding;
+        if self.is_raw {
+            if self.raw.channels == 0 || self.raw.bits == 0 || self.raw.rate == 0 {
+                return Err(Usage::NoForm);
+            }
+            encoding.raw = Some(self.raw);
+            return Ok(Command::FlacEncode(encoding));
+        }
+        if let Some(option) = self.of_raw.take() {
+            return Err(Usage::NoRaw(option));
+        }
+        match self.of_order.take() {
+            Some(option) => Err(Usage::NoRaw(option)),
+            None => Ok(Command::FlacEncode(encoding)),
+        }
+    }
+}
+
+/// Returns the level of an option from `-0` to `-8`.
+fn level_of(option: &str) -> Option<u32> {
+    match option.as_bytes() {
+        [b'-', digit] if *digit >= b'0' && *digit <= b'8' => Some((*digit - b'0') as u32),
+        _ => None,
+    }
+}
+
+/// Returns the number that a value spells, if it is from `low` to `high`.
+fn number(value: &String, low: u32, high: u32) -> Option<u32> {
+    match value.as_str().parse::<u32>() {
+        Ok(number) if number >= low && number <= high => Some(number),
+        _ => None,
+    }
+}
+
+/// Returns the value that was found, or else the error of an option with another value.
+fn wanted<T: Copy>(
+    found: Option<T>,
+    option: &String,
+    value: &String,
+    wanted: &'static str,
+) -> Result<T, Usage> {
+    match found {
+        Some(found) => Ok(found),
+        None => Err(Usage::BadValue {
+            option: option.clone()?,
+            value: value.clone()?,
+            wanted,
+        }),
+    }
 }

@@ -38,6 +38,11 @@ impl Printer {
         self.options.style
     }
 
+    /// Returns true if the output is a file, and not standard output.
+    pub fn has_file(&self) -> bool {
+        self.options.output.is_some()
+    }
+
     /// Prints a unit of a file, with the fault for which it was refused.
     pub fn print<W: Write>(
         &mut self,

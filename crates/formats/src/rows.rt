@@ -2,10 +2,11 @@
 
 use crate::command::{Command, play};
 use crate::damaged::play_damaged;
-use crate::options::{Options, Style};
+use crate::options::{Call, Options, Style, parse_command};
 use crate::print::Printer;
 use crate::report::{Extent, Report};
 use crate::run::read_directory;
+use crate::settings::ByteOrder;
 use crate::status::Status;
 use anyhow::{Error, anyhow, bail};
 use bitstream_formats::flac::{encode_with_md5, has_md5};
@@ -107,7 +108,7 @@ fn compare_rows(alloc: Global, written: &str, rows: &str) -> Result<u64, Error> 
     Ok(count)
 }
 
-/// The comparison of a file of a list.
+/// The way in which a file of a list is compared.
 #[derive(Clone, Copy, Debug, PartialEq, Eq)]
 struct Case {
     /// True if the file has an error, which is printed.
@@ -116,42 +117,99 @@ struct Case {
     style: Style,
 }
 
-/// Compares the results of reading each file of a list. A line has a command, a file, and a file of
-/// rows or of bytes. After the word `json`, the units are printed as JSON. After the word `refused`,
+/// Compares the results of reading each file of a list. A line has a command, a file, a file of
+/// rows or of bytes, and options. After the word `json`, the units are printed as JSON. After the word `refused`,
 /// the file has an error, which is printed. After the word `errors`, the line has a command, a
 /// directory, and a file of the errors of the directory's files. After the word `damaged`, the line has
-/// a command, and a file whose damaged copies are counted. After the word `encoded`, the line has a WAV file that is
-/// encoded as FLAC, and a file of the samples that are then decoded. After the word `summed`, the line has a FLAC file with the
-/// MD5 of its samples, and a file of the same samples with another MD5.
+/// a command, and a file whose damaged copies are counted. After the word `encoded`, the line has a file that is
+/// encoded as FLAC, a file of the samples that are then decoded, and options of the encoder. After the word `summed`, the
+/// line has a FLAC file with the MD5 of its samples, and a file of the same samples with another MD5.
 pub fn play_rows(rt: &HostRuntime, list: &str) -> Result<(), Error> {
     let text = fs::read_to_string(rt, list)?;
     for line in text.as_str().lines() {
-        let mut words = line.split(' ');
-        let mut word = words.next().unwrap_or("");
+        let words = words_of(rt.alloc(), line)?;
         let mut case = Case {
             refused: false,
             style: Style::Rows,
         };
-        if word == "refused" {
+        let mut left = words.as_slice();
+        if let Some(rest) = after_word(left, "refused") {
             case.refused = true;
-            word = words.next().unwrap_or("");
+            left = rest;
         }
-        if word == "json" {
+        if let Some(rest) = after_word(left, "json") {
             case.style = Style::Json;
-            word = words.next().unwrap_or("");
+            left = rest;
         }
-        let (Some(path), Some(other)) = (words.next(), words.next()) else {
+        let [word, path, other, options @ ..] = left else {
             bail!("{list}: {line}");
         };
-        match (word, words.next()) {
-            ("encoded", _) => compare_encoded(rt, path, other)?,
-            ("summed", _) => compare_sums(rt, path, other)?,
-            ("damaged", _) => play_damaged(rt, command_of(path)?, other)?,
-            ("errors", Some(rows)) => compare_errors(rt, command_of(path)?, other, rows)?,
-            _ => compare(rt, command_of(word)?, path, other, case)?,
-        }
+        play_line(
+            rt,
+            case,
+            word.as_str(),
+            path.as_str(),
+            other.as_str(),
+            options,
+        )?;
     }
     Ok(())
+}
+
+/// Compares what a line of a list names, after the words for its case.
+fn play_line(
+    rt: &HostRuntime,
+    case: Case,
+    word: &str,
+    path: &str,
+    other: &str,
+    options: &[String],
+) -> Result<(), Error> {
+    match (word, options) {
+        ("encoded", _) => {
+            let command = command_with(rt.alloc(), "flac-encode", options)?;
+            compare_encoded(rt, command, path, other)
+        }
+        ("summed", _) => compare_sums(rt, path, other),
+        ("damaged", _) => play_damaged(rt, command_of(path)?, other),
+        ("errors", [rows, ..]) => compare_errors(rt, command_of(path)?, other, rows.as_str()),
+        _ => {
+            let command = command_with(rt.alloc(), word, options)?;
+            compare(rt, command, path, other, case)
+        }
+    }
+}
+
+/// Returns the words of a line.
+fn words_of(alloc: Global, line: &str) -> Result<Vec<String>, AllocError> {
+    let mut words = Vec::new(alloc);
+    for word in line.split(' ') {
+        words.push(String::from_str(alloc, word)?)?;
+    }
+    Ok(words)
+}
+
+/// Returns the words after a first word, or `None` if another word is the first one.
+fn after_word<'a>(words: &'a [String], first: &str) -> Option<&'a [String]> {
+    let (word, rest) = words.split_first()?;
+    if word.as_str() == first {
+        Some(rest)
+    } else {
+        None
+    }
+}
+
+/// Returns the command with this name and these options.
+fn command_with(alloc: Global, word: &str, options: &[String]) -> Result<Command, Error> {
+    let mut words = Vec::new(alloc);
+    for option in options {
+        words.push(option.clone()?)?;
+    }
+    words.push(String::from_str(alloc, "-")?)?;
+    match parse_command(alloc, command_of(word)?, words.as_slice()) {
+        Ok(Call::Read(command, _, _)) => Ok(command),
+        _ => Err(anyhow!("the options of {word}")),
+    }
 }
 
 /// Returns the command with this name.
@@ -199,16 +257,22 @@ fn compare(
     Ok(())
 }
 
-/// Encodes a WAV file as FLAC, and compares what is decoded with a file of samples.
-fn compare_encoded(rt: &HostRuntime, path: &str, other: &str) -> Result<(), Error> {
+/// Encodes a file as FLAC, and compares what is decoded with a file of samples.
+fn compare_encoded(
+    rt: &HostRuntime,
+    command: Command,
+    path: &str,
+    other: &str,
+) -> Result<(), Error> {
     let file = fs::read(rt, path)?;
     let wanted = fs::read(rt, other)?;
     let alloc = rt.alloc();
-    let encoded = outcome_of(alloc, Command::FlacEncode, Style::Rows, file.as_slice())?;
+    let encoded = outcome_of(alloc, command, Style::Rows, file.as_slice())?;
     if encoded.status != Status::Read {
         bail!("{path}: {:?}: {}", encoded.status, encoded.first_error());
     }
-    let decoded = outcome_of(alloc, Command::Flac, Style::Rows, encoded.out.as_slice())?;
+    let decoder = Command::Flac(ByteOrder::Little);
+    let decoded = outcome_of(alloc, decoder, Style::Rows, encoded.out.as_slice())?;
     if decoded.status != Status::Read || decoded.out.as_slice() != wanted.as_slice() {
         bail!("{path}: the samples are not those of {other}");
     }

@@ -14,6 +14,7 @@ use crate::walk::{Unread, Walk};
 use anyhow::{Error, anyhow};
 use std::fs::File;
 use std::io::{BufWriter, ErrorKind, IsTerminal, Read, Write};
+use std::os::unix::fs::MetadataExt;
 use std::{env, fs, io};
 
 /// The number of bytes written at once.
@@ -45,9 +46,27 @@ fn refuse(rt: &HostRuntime, usage: Usage) -> io::Result<()> {
     match usage {
         Usage::NoCommand(word) => eprintln!(rt; "formats: no command {}", word.as_str())?,
         Usage::NoOption(word) => eprintln!(rt; "formats: no option {}", word.as_str())?,
-        Usage::NoValue(word) => eprintln!(rt; "formats: no name after {}", word.as_str())?,
+        Usage::NoValue(word) => eprintln!(rt; "formats: no value after {}", word.as_str())?,
+        Usage::BadValue {
+            option,
+            value,
+            wanted,
+        } => {
+            let (option, value) = (option.as_str(), value.as_str());
+            eprintln!(rt; "formats: {option} {value}: it can be {wanted}")?;
+        }
+        Usage::NotOfCommand(word) => {
+            eprintln!(rt; "formats: this command has no option {}", word.as_str())?;
+        }
+        Usage::NoForm => eprintln!(rt; "formats: --raw needs --channels, --bits and --rate")?,
+        Usage::NoRaw(word) => eprintln!(rt; "formats: {} needs --raw", word.as_str())?,
         Usage::NoFile => eprintln!(rt; "formats: no file is named, or too many are")?,
-        Usage::NoElements => eprintln!(rt; "formats: this command has no options")?,
+        Usage::OneOutput => eprintln!(rt; "formats: an output is named, and several files are")?,
+        Usage::NoElements => {
+            eprintln!(rt;
+                "formats: this command prints no elements, so it has no options for them"
+            )?;
+        }
         Usage::NoMemory => eprintln!(rt; "formats: out of memory")?,
     }
     eprintln!(rt; "formats: `formats --help` prints how it is called")
@@ -86,8 +105,53 @@ fn read_files(
     options: Options,
     files: &[String],
 ) -> io::Result<u8> {
+    let alloc = rt.alloc();
+    let Some(path) = &options.output else {
+        let out = BufWriter::with_capacity(alloc, OUT, io::writer(rt))?;
+        return write_files(rt, command, options, files, out);
+    };
+    let path = path.as_str();
+    let file = match create(rt, path, files) {
+        Ok(file) => file,
+        Err(error) => {
+            eprintln!(rt; "formats: {path}: {error}")?;
+            return Ok(Status::Failed.code());
+        }
+    };
+    let out = BufWriter::with_capacity(alloc, OUT, file)?;
+    write_files(rt, command, options, files, out)
+}
+
+/// Creates a file for the output of the first of some files, if that one exists and is another file.
+fn create(rt: &HostRuntime, path: &str, files: &[String]) -> Result<File, Error> {
+    let Some(name) = files.first() else {
+        return Err(anyhow!("no file is read"));
+    };
+    let name = name.as_str();
+    if name != "-" {
+        let read = match fs::metadata(rt, name) {
+            Ok(read) => read,
+            Err(error) => return Err(anyhow!("not written, since {name} is not read: {error}")),
+        };
+        if let Ok(written) = fs::metadata(rt, path) {
+            if written.is_file() && written.dev() == read.dev() && written.ino() == read.ino() {
+                return Err(anyhow!("not written, since it is the file that is read"));
+            }
+        }
+    }
+    Ok(File::create(rt, path)?)
+}
+
+/// Runs a command on files, writes its output, and returns the worst exit status.
+fn write_files<W: Write + Drop>(
+    rt: &HostRuntime,
+    command: Command,
+    options: Options,
+    files: &[String],
+    out: W,
+) -> io::Result<u8> {
     let mut printer = Printer::new(rt.alloc(), options);
-    let mut out = BufWriter::with_capacity(rt.alloc(), OUT, io::writer(rt))?;
+    let mut out = out;
     let mut status = Status::Read;
     for file in files {
         match read_path(rt, command, file.as_str(), &mut printer, &mut out) {
@@ -199,7 +263,8 @@ fn read_from<R: Read + Drop, W: Write>(
     out: &mut W,
 ) -> Result<Status, Error> {
     let alloc = rt.alloc();
-    let shown = rt.stderr().is_terminal() && !rt.stdout().is_terminal();
+    let is_free = printer.has_file() || !rt.stdout().is_terminal();
+    let shown = rt.stderr().is_terminal() && is_free;
     let mut report = Report::new(rt.stderr(), shown, extent);
     let mut reader = Watched::new(reader, Report::new(rt.stderr(), shown, extent));
     let done = match command {
@@ -211,8 +276,8 @@ fn read_from<R: Read + Drop, W: Write>(
             let mut units = GzipUnits::over(alloc, reader)?;
             show(alloc, name, &mut units, printer, out, &mut report)
         }
-        Command::Flac => {
-            let mut units = FlacUnits::over(alloc, reader, Output::Samples);
+        Command::Flac(order) => {
+            let mut units = FlacUnits::over(alloc, reader, Output::Samples(order));
             decode(alloc, name, &mut units, out, &mut report)
         }
         Command::FlacTest => {
@@ -224,7 +289,7 @@ fn read_from<R: Read + Drop, W: Write>(
             decode(alloc, name, &mut units, out, &mut report)
         }
         Command::FlacHeaders => {
-            let mut units = FlacUnits::over(alloc, reader, Output::Nothing);
+            let mut units = FlacUnits::over(alloc, reader, Output::Headers);
             show(alloc, name, &mut units, printer, out, &mut report)
         }
         _ => {

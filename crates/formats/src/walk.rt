@@ -10,7 +10,7 @@ struct Place {
     kind: Kind,
 }
 
-/// The kinds of a place.
+/// The kinds of places.
 #[derive(Debug, Drop, PartialEq, Eq, PartialOrd, Ord)]
 enum Kind {
     /// A directory whose files are read.

@@ -4,15 +4,15 @@ use super::error::FlacError;
 use super::place::bits_before;
 use super::sum::SampleSum;
 use crate::at::At;
+use flac_codec::Frame;
 use flac_codec::stream_info::StreamInfo;
-use flac_codec::{Frame, Input};
 use std::alloc::Global;
 use std::io::Read;
 
 /// A file that is decoded frame by frame from any reader, by the decoder of `flac_codec`.
 ///
-/// The memory that it allocates does not grow with the file: it is that of
-/// [`flac_codec::Decoder`], and for the bytes of one frame's samples, if it computes their MD5.
+/// The memory that it allocates does not grow with the file: it is the memory of
+/// [`flac_codec::Decoder`] and, if it computes the MD5, the bytes of one frame's samples.
 #[derive(Drop)]
 pub struct Decoder<R: Read> {
     frames: flac_codec::Decoder<R>,
@@ -23,26 +23,27 @@ pub struct Decoder<R: Read> {
 }
 
 impl<R: Read> Decoder<R> {
-    /// Returns a decoder of the frames of an input, which is after the metadata. The MD5 of the samples is not computed.
-    pub fn over(input: Input<R>, info: StreamInfo) -> Decoder<R>
+    /// Returns a decoder of the frames that a decoder of `flac_codec` decodes. The MD5 of the samples is not computed.
+    pub fn over(frames: flac_codec::Decoder<R>) -> Decoder<R>
     where
         R: Drop,
     {
         Decoder {
-            frames: flac_codec::Decoder::over(input, info),
+            frames,
             done: 0,
             sum: None,
         }
     }
 
-    /// Returns the same, but computes the MD5 of the samples as they are decoded. At the end of the file, this MD5 is
-    /// compared with the one in STREAMINFO, unless that one is 0, which means unknown.
-    pub fn with_md5(alloc: Global, input: Input<R>, info: StreamInfo) -> Decoder<R>
+    /// Returns the decoder that [`Decoder::over`] returns, but it computes the MD5 of the samples as they are decoded.
+    /// At the end of the file, this MD5 is compared with the one in STREAMINFO, unless that one is 0, which means
+    /// unknown.
+    pub fn with_md5(alloc: Global, frames: flac_codec::Decoder<R>) -> Decoder<R>
     where
         R: Drop,
     {
-        let is_known = info.checksum != [0; 16];
-        let mut decoder = Decoder::over(input, info);
+        let is_known = frames.stream_info().checksum != [0; 16];
+        let mut decoder = Decoder::over(frames);
         if is_known {
             decoder.sum = Some(SampleSum::new(alloc));
         }

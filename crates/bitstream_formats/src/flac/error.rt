@@ -6,7 +6,7 @@ use std::alloc::AllocError;
 /// The reasons that a file is not decoded.
 #[derive(Debug, Drop, thiserror::Error)]
 pub enum FlacError {
-    /// The codec refuses it.
+    /// The error of the decoder of `flac_codec`.
     #[error("{0}")]
     Codec(flac_codec::FlacError),
     /// The MD5 of the samples differs from STREAMINFO.
@@ -15,11 +15,11 @@ pub enum FlacError {
 }
 
 impl FlacError {
-    /// Returns true for an error of the reader, which is no fault of the file.
+    /// Returns true for an error of the reader and for a failed allocation, which are no fault of the file.
     pub fn is_from_outside(&self) -> bool {
         matches!(
             self,
-            FlacError::Codec(flac_codec::FlacError::Reader(Error::Stream(_)))
+            FlacError::Codec(flac_codec::FlacError::Reader(Error::Stream(_) | Error::OutOfMemory))
         )
     }
 }

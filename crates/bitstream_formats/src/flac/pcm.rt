@@ -30,12 +30,29 @@ fn append_low<const N: usize>(channels: &[Vec<i64>], bytes: &mut Vec<u8>) -> Res
         Some(channel) => channel.len(),
         None => 0,
     };
-    for at in 0..count {
-        for channel in channels {
-            let sample = channel.as_slice().get(at).copied().unwrap_or(0);
-            let whole = sample.to_le_bytes();
-            bytes.extend_from_slice(&whole[..N])?;
+    let start = bytes.len();
+    let step = channels.len().saturating_mul(N);
+    bytes.resize(start.saturating_add(step.saturating_mul(count)), 0)?;
+    write_channels::<N>(&mut bytes[start..], step, channels);
+    Ok(())
+}
+
+/// Writes the lowest N bytes of each sample. Each `step` bytes have the samples of all channels at one time.
+fn write_channels<const N: usize>(bytes: &mut [u8], step: usize, channels: &[Vec<i64>])
+    requires { N ≤ 8 }
+{
+    for (at, channel) in channels.iter().enumerate() {
+        write_channel::<N>(bytes, at.saturating_mul(N), step, channel.as_slice());
+    }
+}
+
+/// Writes the lowest N bytes of each sample, each after the first `first` ones of the next `step` bytes.
+fn write_channel<const N: usize>(bytes: &mut [u8], first: usize, step: usize, samples: &[i64])
+    requires { N ≤ 8 }
+{
+    for (place, sample) in bytes.chunks_exact_mut(step.max(1)).zip(samples.iter()) {
+        if let Some(to) = place.get_mut(first..first.saturating_add(N)) {
+            to.copy_from_slice(&sample.to_le_bytes()[..N]);
         }
     }
-    Ok(())
 }

@@ -36,7 +36,7 @@ pub fn encode_with_md5(
     encode_file(alloc, &with_md5, block_size, channels)
 }
 
-/// Returns true if the MD5 of a file is that of its samples, or is not known.
+/// Returns true if the file's MD5 is the MD5 of its samples, or is 0, which means unknown.
 ///
 /// # Errors
 ///

@@ -69,7 +69,7 @@ pub struct ParameterSets {
 }
 
 impl ParameterSets {
-    /// Returns no set.
+    /// Returns a collection without sets.
     pub fn new() -> ParameterSets {
         ParameterSets {
             sequences: [None; 32],
@@ -77,7 +77,7 @@ impl ParameterSets {
         }
     }
 
-    /// Returns the sequence parameter set of a number, or `None` if none was read.
+    /// Returns the sequence parameter set with this number, or `None` if none was read.
     pub fn sequence(&self, number: u32) -> Option<SequenceSet> {
         match self.sequences.as_slice().get(number as usize) {
             Some(set) => *set,
@@ -85,7 +85,7 @@ impl ParameterSets {
         }
     }
 
-    /// Returns the picture parameter set of a number, or `None` if none was read.
+    /// Returns the picture parameter set with this number, or `None` if none was read.
     pub fn picture(&self, number: u32) -> Option<PictureSet> {
         match self.pictures.as_slice().get(number as usize) {
             Some(set) => *set,

@@ -26,7 +26,7 @@ enum Kind {
 }
 
 impl Kind {
-    /// Returns the kind that a number, `slice_type`, stands for.
+    /// Returns the kind of a slice whose `slice_type` is `number`.
     fn of(number: u32) -> Option<Kind> {
         match number {
             0 | 5 => Some(Kind::P),

@@ -106,7 +106,7 @@ impl Profiles {
         }
     }
 
-    /// Returns true if one of some profiles was added.
+    /// Returns true if one of these profiles was added.
     fn has_any(&self, profiles: &[usize]) -> bool {
         for profile in profiles {
             if let Some(true) = self.flags.as_slice().get(*profile) {
@@ -182,7 +182,7 @@ fn read_sub_layers(
     Ok(())
 }
 
-/// Reads the profile of a stream, or of the sub-layer of a number.
+/// Reads the profile of the stream, or of the sub-layer with this number.
 fn read_profile(
     syntax: &mut Nal<'_, '_, '_>,
     names: &'static Names,

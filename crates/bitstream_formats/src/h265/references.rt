@@ -12,7 +12,7 @@ struct Distances {
 }
 
 impl Distances {
-    /// Returns no distance.
+    /// Returns a list without distances.
     fn new() -> Distances {
         Distances {
             values: [0; 16],
@@ -46,7 +46,7 @@ struct ReferenceSet {
 }
 
 impl ReferenceSet {
-    /// Returns no picture.
+    /// Returns a set without pictures.
     fn new() -> ReferenceSet {
         ReferenceSet {
             before: Distances::new(),
@@ -88,7 +88,7 @@ impl Prediction {
         self.moved(&[0], 0, self.set.count())
     }
 
-    /// Returns a distance plus the added number, if the picture of an index is used.
+    /// Returns the distance at the index `at` plus the added number, if the picture `number` is used.
     fn moved(&self, distances: &[i64], at: usize, number: usize) -> Option<i64> {
         let distance = distances.get(at)?;
         match self.used.as_slice().get(number) {

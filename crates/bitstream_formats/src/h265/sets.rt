@@ -15,12 +15,12 @@ pub struct ParameterSets {
 }
 
 impl ParameterSets {
-    /// Returns no set.
+    /// Returns a collection without sets.
     pub fn new() -> ParameterSets {
         ParameterSets { videos: [None; 16] }
     }
 
-    /// Returns the video parameter set of a number, or `None` if none was read.
+    /// Returns the video parameter set with this number, or `None` if none was read.
     pub fn video(&self, number: u32) -> Option<VideoSet> {
         match self.videos.as_slice().get(number as usize) {
             Some(set) => *set,

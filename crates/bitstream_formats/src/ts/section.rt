@@ -92,8 +92,8 @@ impl Section {
         }
     }
 
-    /// Takes the missing bytes from the start of some bytes, which are at a bit of the stream, and
-    /// returns the remaining bytes.
+    /// Takes the missing bytes from the start of `bytes`, which begin at the bit `place` of the stream.
+    /// Returns the bytes after them.
     pub(super) fn take<'a>(&mut self, bytes: &'a [u8], place: u64) -> Result<&'a [u8], AllocError> {
         let count = self.missing().min(bytes.len());
         let (taken, rest) = bytes.split_at(count);

@@ -189,7 +189,7 @@ impl Tables {
     }
 }
 
-/// The bytes of a packet after its header, at a bit of the stream.
+/// The bytes of a packet after its header, and the bit of the stream at which they begin.
 #[derive(Clone, Copy)]
 struct Payload<'a> {
     bytes: &'a [u8],
@@ -197,7 +197,7 @@ struct Payload<'a> {
 }
 
 impl<'a> Payload<'a> {
-    /// Returns the last bytes.
+    /// Returns `bytes`, which are the last of these bytes, with their place.
     fn rest(&self, bytes: &'a [u8]) -> Payload<'a> {
         let before = self.bytes.len().saturating_sub(bytes.len()) as u64;
         Payload {

@@ -1,14 +1,15 @@
 //! The frames of ADTS, and the blocks and frames of FLAC.
 
+use crate::settings::ByteOrder;
 use crate::unit::{Fault, ReadUnits, Step, Unit};
 use anyhow::{Error, anyhow};
 use bitstream_formats::adts;
 use bitstream_formats::at::At;
-use bitstream_formats::flac::{Decoder, append_pcm};
+use bitstream_formats::flac::{AfterTag, Decoder, FlacError, append_pcm};
 use bitstream_formats::wav::wav_start;
 use bitstream_formats::wav_format::{Coding, WavFormat};
 use flac_codec::stream_info::StreamInfo;
-use flac_codec::{Channels, FlacError, Frame, Input};
+use flac_codec::{Channels, Frame, Metadata, MetadataReader};
 use std::alloc::{AllocError, Global};
 use std::fmt::Display;
 use std::io::{Read, Write};
@@ -109,13 +110,18 @@ impl ReadUnits for AdtsUnits<'_> {
     }
 }
 
-/// The output that the frames of a FLAC file become.
+/// The error of a FLAC stream in Ogg.
+const OGG: &str = "an Ogg file: FLAC in Ogg is not decoded";
+
+/// The kinds of output for a FLAC file.
 #[derive(Clone, Copy, Debug, PartialEq, Eq)]
 pub enum Output {
     /// Nothing: the file is only checked.
     Nothing,
-    /// The samples, as whole bytes with a sign, the lowest byte first.
-    Samples,
+    /// The elements of the blocks of metadata, and of the headers of the frames, which are also checked.
+    Headers,
+    /// The samples, as whole bytes with a sign.
+    Samples(ByteOrder),
     /// A WAV file.
     Wav,
 }
@@ -126,93 +132,103 @@ pub struct FlacUnits<R: Read> {
     output: Output,
     // The place of the next unit, in bytes.
     at: u64,
-    // The bytes of the blocks of metadata, up to the frames.
-    input: Option<Input<R>>,
-    // STREAMINFO, if the first block is one.
-    info: Option<StreamInfo>,
-    // True after the last block.
-    is_last: bool,
-    decoder: Option<Decoder<R>>,
+    // The file, up to its start.
+    reader: Option<R>,
+    // The blocks of metadata, up to the frames.
+    metadata: Option<MetadataReader<AfterTag<R>>>,
+    // The frames.
+    decoder: Option<Decoder<AfterTag<R>>>,
     // The samples of a frame, as bytes. This memory is used for each frame.
     bytes: Vec<u8>,
 }
 
 impl<R: Read + Drop> FlacUnits<R> {
-    /// Returns the units of a reader, of which `output` is written.
+    /// Returns the units of a reader. Reading them writes `output`.
     pub fn over(alloc: Global, reader: R, output: Output) -> FlacUnits<R> {
         FlacUnits {
             output,
             at: 0,
-            input: Some(Input::new(alloc, reader)),
-            info: None,
-            is_last: false,
+            reader: Some(reader),
+            metadata: None,
             decoder: None,
             bytes: Vec::new(alloc),
         }
     }
 
-    /// Refuses a unit, after which no other is found.
+    /// Returns the step for a rejected unit, after which no other is found.
     fn refuse<E: Display + Drop>(
         &mut self,
         alloc: Global,
         bit: u64,
         error: E,
     ) -> Result<Step, Error> {
-        self.input = None;
+        self.metadata = None;
         self.decoder = None;
         Ok(Step::Refused(Fault::of(alloc, bit, error)?))
     }
 
-    /// Starts at the metadata blocks.
-    fn begin(&mut self, alloc: Global, unit: &mut Unit) -> Result<Step, Error> {
-        unit.begin("file", 0);
-        let Some(input) = &mut self.input else {
-            return Ok(Step::End);
-        };
-        let there = input.fill(4)?;
-        if input.bytes().is_empty() {
-            return Ok(Step::End);
+    /// Returns the step for metadata that is rejected.
+    ///
+    /// # Errors
+    ///
+    /// The error, if it is one of the reader, or an allocation failed.
+    fn refuse_metadata(
+        &mut self,
+        alloc: Global,
+        error: flac_codec::FlacError,
+    ) -> Result<Step, Error> {
+        let error = FlacError::Codec(error);
+        if error.is_from_outside() {
+            return Err(anyhow!("{error}"));
         }
-        if !there {
-            return self.refuse(alloc, 0, "end of input");
-        }
-        if !input.bytes().starts_with(b"fLaC".as_slice()) {
-            return self.refuse(alloc, 0, FlacError::NoFlac);
-        }
-        input.take(4);
-        self.at = 4;
-        self.read_block(alloc, unit)
+        self.refuse(alloc, 0, error)
     }
 
-    /// Reads a block of metadata.
-    fn read_block(&mut self, alloc: Global, unit: &mut Unit) -> Result<Step, Error> {
+    /// Reads the start of a file: a tag of ID3v2, the marker, and STREAMINFO.
+    fn begin(&mut self, alloc: Global, unit: &mut Unit, reader: R) -> Result<Step, Error> {
+        unit.begin("file", 0);
+        let reader = AfterTag::new(alloc, reader)?;
+        self.at = reader.tag_size();
+        if self.at == 0 && reader.head().is_empty() {
+            return Ok(Step::End);
+        }
+        unit.begin("file", self.at);
+        if reader.head().starts_with(b"OggS".as_slice()) {
+            return self.refuse(alloc, 0, OGG);
+        }
+        match MetadataReader::new(alloc, reader) {
+            Ok(metadata) => {
+                let place = self.at.saturating_add(4);
+                self.at = self.at.saturating_add(42);
+                unit.begin("STREAMINFO", place);
+                note_head(unit, 0, 34)?;
+                note_stream_info(alloc, unit, metadata.stream_info())?;
+                self.metadata = Some(metadata);
+                Ok(Step::Read)
+            }
+            Err(error) => self.refuse_metadata(alloc, error),
+        }
+    }
+
+    /// Reads a block of metadata. After the last one, decodes the first frame.
+    fn read_block<W: Write>(
+        &mut self,
+        alloc: Global,
+        unit: &mut Unit,
+        out: &mut W,
+    ) -> Result<Step, Error> {
         unit.begin("block", self.at);
-        let Some(input) = &mut self.input else {
+        let Some(metadata) = &mut self.metadata else {
             return Ok(Step::End);
         };
-        input.fill(4)?;
-        let Some(head) = input.bytes().first_chunk::<4>().copied() else {
-            let bit = if input.bytes().is_empty() { 0 } else { 8 };
-            return self.refuse(alloc, bit, "end of input");
-        };
-        let [kind, a, b, c] = head;
-        let size = (u32::from_be_bytes([0, a, b, c]) as usize).saturating_add(4);
-        input.fill(size)?;
-        let Some(bytes) = input.bytes().get(4..size) else {
-            return self.refuse(alloc, 32, "end of input");
-        };
-        if self.at == 4 && kind & 0x7f == 0 && bytes.len() == 34 {
-            self.info = StreamInfo::parse(bytes).ok();
+        match take_block(alloc, unit, metadata, self.output) {
+            Ok(Some(block)) => {
+                self.at = self.at.saturating_add(block.size as u64);
+                Ok(Step::Read)
+            }
+            Ok(None) => self.begin_frames(alloc, unit, out),
+            Err(error) => self.refuse_metadata(alloc, error),
         }
-        let block = Block {
-            kind: kind & 0x7f,
-            bytes,
-        };
-        note_block(alloc, unit, self.at, block)?;
-        input.take(size);
-        self.at = self.at.saturating_add(size as u64);
-        self.is_last = kind >= 0x80;
-        Ok(Step::Read)
     }
 
     /// Begins the frames, and decodes the first one.
@@ -222,14 +238,16 @@ impl<R: Read + Drop> FlacUnits<R> {
         unit: &mut Unit,
         out: &mut W,
     ) -> Result<Step, Error> {
-        unit.begin("block", self.at);
-        let (Some(input), Some(info)) = (self.input.take(), self.info) else {
-            return self.refuse(alloc, 0, FlacError::NoStreamInfo);
+        let Some(metadata) = self.metadata.take() else {
+            return Ok(Step::End);
         };
         if self.output == Output::Wav {
-            out.write_all(&start_of(&info)?)?;
+            out.write_all(&start_of(metadata.stream_info())?)?;
         }
-        self.decoder = Some(Decoder::with_md5(alloc, input, info));
+        match metadata.into_decoder() {
+            Ok(frames) => self.decoder = Some(Decoder::with_md5(alloc, frames)),
+            Err(error) => return self.refuse_metadata(alloc, error),
+        }
         self.read_frame(alloc, unit, out)
     }
 
@@ -249,11 +267,9 @@ impl<R: Read + Drop> FlacUnits<R> {
             Ok(Some(mut frame)) => {
                 note_frame(alloc, unit, self.at.saturating_mul(8), &frame)?;
                 self.at = self.at.saturating_add(frame.size as u64);
-                if self.output != Output::Nothing {
-                    self.bytes.clear();
-                    append_bytes(&mut frame, sample_size, self.output, &mut self.bytes)?;
-                    out.write_all(self.bytes.as_slice())?;
-                }
+                self.bytes.clear();
+                append_bytes(&mut frame, sample_size, self.output, &mut self.bytes)?;
+                out.write_all(self.bytes.as_slice())?;
                 Ok(Step::Read)
             }
             Ok(None) => {
@@ -273,14 +289,12 @@ impl<R: Read + Drop> ReadUnits for FlacUnits<R> {
         unit: &mut Unit,
         out: &mut W,
     ) -> Result<Step, Error> {
-        if self.decoder.is_some() {
-            self.read_frame(alloc, unit, out)
-        } else if self.is_last && self.input.is_some() {
-            self.begin_frames(alloc, unit, out)
-        } else if self.at == 0 {
-            self.begin(alloc, unit)
+        if let Some(reader) = self.reader.take() {
+            self.begin(alloc, unit, reader)
+        } else if self.metadata.is_some() {
+            self.read_block(alloc, unit, out)
         } else {
-            self.read_block(alloc, unit)
+            self.read_frame(alloc, unit, out)
         }
     }
 
@@ -307,16 +321,28 @@ fn start_of(info: &StreamInfo) -> Result<[u8; 44], Error> {
     Ok(wav_start(&format, if is_known { size as u32 } else { u32::MAX })?)
 }
 
-/// Appends the samples of a frame as bytes. In WAV, a sample fills the highest bits of its bytes, and a single byte has no
-/// sign.
+/// Appends the samples of a frame as bytes, if they are written.
 fn append_bytes(
     frame: &mut Frame,
     sample_size: u8,
     output: Output,
     bytes: &mut Vec<u8>,
 ) -> Result<(), AllocError> {
+    match output {
+        Output::Nothing | Output::Headers => Ok(()),
+        Output::Samples(order) => {
+            append_pcm(sample_size, frame.channels.as_slice(), bytes)?;
+            order.turn(sample_size, bytes.as_mut_slice());
+            Ok(())
+        }
+        Output::Wav => append_wav(frame, sample_size, bytes),
+    }
+}
+
+/// Appends the samples of a frame as in WAV: a sample fills the highest bits of its bytes, and a single byte has no sign.
+fn append_wav(frame: &mut Frame, sample_size: u8, bytes: &mut Vec<u8>) -> Result<(), AllocError> {
     let more = 7 - (sample_size as u32 + 7) % 8;
-    if output == Output::Wav && more > 0 {
+    if more > 0 {
         for channel in &mut frame.channels {
             for sample in channel {
                 *sample = sample.wrapping_shl(more);
@@ -324,7 +350,7 @@ fn append_bytes(
         }
     }
     append_pcm(sample_size, frame.channels.as_slice(), bytes)?;
-    if output == Output::Wav && sample_size <= 8 {
+    if sample_size <= 8 {
         for byte in bytes {
             *byte ^= 0x80;
         }
@@ -349,77 +375,60 @@ fn length_at(bytes: &[u8], at: usize) -> usize {
     }
 }
 
-/// A block of metadata.
-#[derive(Clone, Copy)]
-struct Block<'a> {
-    // The type: 0 for STREAMINFO.
-    kind: u8,
-    // The bytes after the header.
-    bytes: &'a [u8],
-}
-
-/// Adds to the unit the elements of a metadata block that begins at a byte.
-fn note_block(
+/// Takes the next block of metadata. If its elements are printed, adds them to the unit.
+fn take_block<R: Read>(
     alloc: Global,
     unit: &mut Unit,
-    start: u64,
-    block: Block<'_>,
-) -> Result<(), AllocError> {
-    let place = start.saturating_mul(8);
-    unit.push(place.saturating_add(1), "block_type", block.kind as i64)?;
-    unit.push(
-        place.saturating_add(8),
-        "block_length",
-        block.bytes.len() as i64,
-    )?;
-    let place = place.saturating_add(32);
-    match block.kind {
-        0 => {
-            unit.kind = "STREAMINFO";
-            note_stream_info(alloc, unit, place, block.bytes)
+    metadata: &mut MetadataReader<R>,
+    output: Output,
+) -> Result<Option<Metadata>, flac_codec::FlacError> {
+    if output == Output::Headers {
+        if let Some(block) = metadata.fetch_block()? {
+            let bytes = metadata.bytes().get(4..block.size).unwrap_or(&[]);
+            note_block(alloc, unit, block.kind, bytes)?;
         }
-        1 => {
-            unit.kind = "PADDING";
-            Ok(())
-        }
-        2 => {
-            unit.kind = "APPLICATION";
-            unit.push(
-                place,
-                "application_id",
-                big(block.bytes, 0, 4).cast_signed(),
-            )
-        }
-        3 => {
-            unit.kind = "SEEKTABLE";
-            note_seek_points(unit, place, block.bytes)
-        }
-        4 => {
-            unit.kind = "VORBIS_COMMENT";
-            note_comments(alloc, unit, block.bytes)
-        }
-        5 => {
-            unit.kind = "CUESHEET";
-            Ok(())
-        }
-        6 => {
-            unit.kind = "PICTURE";
-            note_picture(alloc, unit, place, block.bytes)
-        }
+    }
+    metadata.next_block()
+}
+
+/// Adds the header of a block of metadata to the unit: the block's type, and the number of bytes after its header.
+fn note_head(unit: &mut Unit, kind: u8, length: i64) -> Result<(), AllocError> {
+    let place = unit.byte.saturating_mul(8);
+    unit.push(place.saturating_add(1), "block_type", kind as i64)?;
+    unit.push(place.saturating_add(8), "block_length", length)
+}
+
+/// Adds the elements of a metadata block of a type to the unit. `bytes` are those after its header.
+fn note_block(alloc: Global, unit: &mut Unit, kind: u8, bytes: &[u8]) -> Result<(), AllocError> {
+    note_head(unit, kind, bytes.len() as i64)?;
+    let place = unit.byte.saturating_mul(8).saturating_add(32);
+    unit.kind = kind_of(kind);
+    match kind {
+        2 => unit.push(place, "application_id", big(bytes, 0, 4).cast_signed()),
+        3 => note_seek_points(unit, place, bytes),
+        4 => note_comments(alloc, unit, bytes),
+        6 => note_picture(alloc, unit, place, bytes),
         _ => Ok(()),
     }
 }
 
+/// Returns the name of a type of metadata blocks.
+fn kind_of(kind: u8) -> &'static str {
+    match kind {
+        0 => "STREAMINFO",
+        1 => "PADDING",
+        2 => "APPLICATION",
+        3 => "SEEKTABLE",
+        4 => "VORBIS_COMMENT",
+        5 => "CUESHEET",
+        6 => "PICTURE",
+        _ => "block",
+    }
+}
+
 /// Adds the fields of STREAMINFO to the unit.
-fn note_stream_info(
-    alloc: Global,
-    unit: &mut Unit,
-    place: u64,
-    bytes: &[u8],
-) -> Result<(), AllocError> {
-    let Ok(info) = StreamInfo::parse(bytes) else {
-        return Ok(());
-    };
+fn note_stream_info(alloc: Global, unit: &mut Unit, info: &StreamInfo) -> Result<(), AllocError> {
+    let place = unit.byte.saturating_mul(8).saturating_add(32);
     let fields = [
         (0, "minimum_block_size", info.minimum_block_size as i64),
         (16, "maximum_block_size", info.maximum_block_size as i64),
