@@ -29,7 +29,7 @@ pub enum Reason {
     BitsEnded,
     /// A constant's bits hold another number.
     ConstantDiffers,
-    /// A variable-width word or a unary run passes its limit.
+    /// A variable-width or unary number passes its limit.
     LimitPassed,
     /// Bits of a padding or an alignment are not all 0. Only repacking checks that.
     PaddingNotZero,

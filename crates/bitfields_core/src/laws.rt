@@ -64,7 +64,7 @@ pub fn packing_is_a_write_sequence()
         → All (λ r. r ≡ None) (write_refusals (field_writes o fields vs ++ align ∷ []) at) }
 {}
 
-/// Packing writes as many bits as the size, and then zeros up to the next byte boundary. Values
+/// Packing writes `size` bits, and then zeros up to the next byte boundary. Values
 /// that fit have one size in both orders of bits, and at most 2^40 bits.
 pub fn packed_values_have_their_size()
     ensures bits { (o : Order) (fields : List Field) (vs : List FieldValue)
@@ -86,7 +86,7 @@ pub fn unpacking_is_a_read_sequence()
         ≡ unpack_answers k fields at (read_sequence (map (field_read o) fields) at bits) }
 {}
 
-/// The packed bits are the words of the fields, one after the other, with zeros up to the next byte
+/// The packed bits are the fields' encodings, one after the other, with zeros up to the next byte
 /// boundary at the end.
 pub fn packing_goes_by_fields()
     ensures word { (o : Order) (f : Field) (fields : List Field) (vs : List FieldValue) (at : ℕ)
@@ -103,10 +103,10 @@ pub fn packing_goes_by_fields()
     ensures end { (o : Order) (at : ℕ) → packed_bits o [] [] at ≡ replicate (to_boundary at) false }
 {}
 
-/// The value of a field is the value of its word, which its read call returns. If the call returns
-/// an error, the fault has the reason for that error. If it returns a reason, the fault has that
-/// reason. If too few bits are left, the reason is `BitsEnded`. The number of a field is the number
-/// of its word. The bits of an alignment may have any value. The bits of a constant must hold its
+/// Unpacking the encoding of a field gives its value, which its read call returns. If the call
+/// returns an error, the fault has the reason for that error. If it returns a reason, the fault has
+/// that reason. If too few bits are left, the reason is `BitsEnded`. An unsigned field is the number
+/// that its bits encode. The bits of an alignment may have any value. The bits of a constant must hold its
 /// number.
 pub fn unpacking_goes_by_fields()
     ensures word { (o : Order) (k : ℕ) (f : Field) (fields : List Field) (vs : List FieldValue) (at : ℕ)
@@ -151,7 +151,7 @@ pub fn unpacking_goes_by_fields()
         → unpack_bits o k (Field.Constant n v ∷ fields) at bits ≡ Stops (fault k Reason.BitsEnded) }
 {}
 
-/// If the values of a layout have one word each, repacking accepts exactly the bytes that packing
+/// If the values of a layout have one encoding each, repacking accepts exactly the bytes that packing
 /// writes for some input.
 pub fn repacked_bytes_are_packed()
     ensures packed { (o : Order) (fields : List Field) (bytes : List ℕ) (vs : List FieldValue)

@@ -1,4 +1,4 @@
-//! Packing: writes the words of an input's values, and a last alignment.
+//! Packing: writes the encodings of an input's values, and aligns at the end.
 
 ghost use Rattle.std.specs.Prelude.{◌≡◌, false, None, [], ◌∷◌, ◌++◌};
 ghost use Rattle.bitstream_io.specs.Sink.{Writes, WritesAll};
@@ -15,8 +15,8 @@ use crate::values::{behind_value, values};
 use bitstream_io::{BitWrite, BitWriter, Bits, Endianness, Error, Lent, Target};
 use std::alloc::Global;
 
-/// Packs the values that an input spells for a layout: writes the bytes of the fields' words, and
-/// fills the last byte with zeros.
+/// Packs the values that an input spells for a layout: writes the fields' encodings, and fills the
+/// last byte with zeros.
 ///
 /// # Errors
 ///
@@ -39,8 +39,7 @@ pub fn pack<E: Endianness, W: Target>(
     pack_values::<E, W>(layout, &values, output)
 }
 
-/// Packs values that fit a layout: writes the bytes of the fields' words, and fills the last byte
-/// with zeros.
+/// Packs values that fit a layout: writes the fields' encodings, and fills the last byte with zeros.
 ///
 /// # Errors
 ///

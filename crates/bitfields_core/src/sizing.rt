@@ -11,7 +11,7 @@ use bitstream_io::BitsWritten;
 use std::alloc::Global;
 
 /// Returns the number of bits of the values that an input spells for a layout: the sum of the
-/// lengths of the fields' words, without the last alignment. The number is the same in both orders
+/// lengths of the fields' encodings, without the last alignment. The number is the same in both orders
 /// of bits. Writes nothing.
 ///
 /// # Errors

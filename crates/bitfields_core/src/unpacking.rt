@@ -157,7 +157,7 @@ fn read_groups<R: BitRead>(size: GroupSize, reader: &mut R) -> Result<u64, Error
     }
 }
 
-/// Reads a number in groups of this size, which may end in groups of 0.
+/// Reads a number in groups of this size. Its last groups may be 0.
 fn read_any_groups<R: BitRead>(size: GroupSize, reader: &mut R) -> Result<u64, Error>
     ensures { Reads R.source (any_vbr_decoder R.source.order (group_bits size) 64 (2 ^ 64))
         reader.old result reader.new }

@@ -71,7 +71,7 @@ const READ: [usize; 9] = [0, 2, 4, 7, 10, 13, 14, 18, 34];
 
 const WRITTEN: [usize; 9] = [0, 2, 4, 7, 10, 12, 13, 18, 34];
 
-/// A stream with short reads and writes, which refuses after `served` requests.
+/// Returns a stream with short reads and writes, which fails each request after `served` of them.
 fn stream<S>(inner: S, served: usize) -> Refuse<Short<S>> {
     Refuse {
         inner: Short { inner, short: true },
@@ -81,13 +81,13 @@ fn stream<S>(inner: S, served: usize) -> Refuse<Short<S>> {
     }
 }
 
-/// Returns true if a result is the refusal of this stream.
+/// Returns true if a result is the error of this stream.
 fn refused<T: Drop>(answer: Result<T, Error>) -> bool {
     matches!(answer, Err(Error::Stream(ErrorKind::ConnectionReset)))
 }
 
 /// Returns true if a block is parsed when each request is served, or else the result is the
-/// refusal, and the reader fails.
+/// stream's error, and the reader has failed.
 fn parses<R: BitRead>(reader: &mut R, block: &StreamInfo, served: bool) -> bool {
     let answer: Result<StreamInfo, Error> = reader.parse();
     if served {
@@ -97,8 +97,8 @@ fn parses<R: BitRead>(reader: &mut R, block: &StreamInfo, served: bool) -> bool 
     }
 }
 
-/// Returns true if a block is built when each request is served, or else the result is the refusal,
-/// and the writer fails.
+/// Returns true if a block is built when each request is served, or else the result is the stream's
+/// error, and the writer has failed.
 fn builds<W: BitWrite>(writer: &mut W, block: &StreamInfo, served: bool) -> bool {
     let answer = writer.build(block);
     if served {
@@ -274,7 +274,7 @@ fn serves_while_memory_is_left(rt: HostRuntime) {
     each_holds(&rt, &answers);
 }
 
-/// Returns true if a sample is refused for want of room.
+/// Returns true if a sample is not written for lack of room.
 fn lacks_room(buffer: &mut [u8]) -> bool {
     matches!(
         SAMPLE.pack_into(buffer),
@@ -287,7 +287,7 @@ fn tells_that_a_buffer_is_too_short(rt: HostRuntime) {
     holds(&rt, lacks_room(&mut [0; 5]));
 }
 
-/// Returns true if a block's header has 32 bits, even by a counter.
+/// Returns true if `bits`, `bits_len` and a counter count 32 bits for a block's header.
 fn has_32_bits(header: &BlockHeader) -> bool {
     let mut counter = BitsWritten::<u8>::new();
     gives(header.bits::<u8>(), 32)
@@ -393,7 +393,7 @@ fn builds_packet<W: ByteWrite>(writer: &mut W, header: &PacketHeader) -> bool {
     writer.build(header).is_ok() & gives(header.bytes::<u8>(), 3)
 }
 
-/// Returns true if a packet's header is parsed, and one of another version after it is refused.
+/// Returns true if a packet's header is parsed, and a header of another version after it is rejected.
 fn parses_packets<R: ByteRead>(reader: &mut R, header: PacketHeader) -> bool {
     let first: Result<PacketHeader, PacketError> = reader.parse();
     let other: Result<PacketHeader, PacketError> = reader.parse();

@@ -3,8 +3,8 @@
 use crate::asserts::holds;
 use bitstream_io::Error;
 use flac_codec::{
-    Channels, FileHeader, FlacError, FrameHeader, decode_file, decode_frame, encode_file,
-    encode_frame, is_file, is_frame,
+    Channels, Decoder, FileHeader, FlacError, FrameHeader, MetadataReader, decode_file,
+    decode_frame, encode_file, encode_frame, is_file, is_frame,
 };
 use std::alloc::Global;
 
@@ -123,6 +123,43 @@ fn is_channel(channels: &[Vec<i64>], at: usize, wanted: &[i64]) -> bool {
         Some(channel) => channel.as_slice() == wanted,
         None => false,
     }
+}
+
+/// Returns true if the metadata of [`FILE`] is STREAMINFO and a comment of 44 bytes, and is followed by two frames.
+fn metadata_is_read(alloc: Global) -> Result<bool, FlacError> {
+    let mut metadata = MetadataReader::new(alloc, FILE)?;
+    let is_info = metadata.stream_info().sample_rate == 44_100;
+    let is_comment = match metadata.next_block()? {
+        Some(block) => block.last & (block.kind == 4) & (block.size == 44),
+        None => false,
+    };
+    let is_end = metadata.next_block()?.is_none();
+    let mut decoder = metadata.into_decoder()?;
+    Ok(is_info & is_comment & is_end & has_two_frames(alloc, &mut decoder)?)
+}
+
+/// Returns true if two frames are left, the second with the left samples of [`VERBATIM`].
+fn has_two_frames(alloc: Global, decoder: &mut Decoder<&[u8]>) -> Result<bool, FlacError> {
+    let is_first = decoder.next_frame(alloc)?.is_some();
+    let is_second = match decoder.next_frame(alloc)? {
+        Some(frame) => is_channel(frame.channels.as_slice(), 0, &[-15486, -15349, -16054]),
+        None => false,
+    };
+    Ok(is_first & is_second & decoder.next_frame(alloc)?.is_none())
+}
+
+/// Returns true if a decoder of [`FILE`] begins at its first frame.
+fn start_is_skipped(alloc: Global) -> Result<bool, FlacError> {
+    let mut decoder = Decoder::new(alloc, FILE)?;
+    let is_info = decoder.stream_info().total_samples == 19;
+    Ok(is_info & has_two_frames(alloc, &mut decoder)?)
+}
+
+#[test]
+fn the_start_of_a_file_is_read(rt: HostRuntime) {
+    let alloc = rt.alloc();
+    holds(&rt, matches!(metadata_is_read(alloc), Ok(true)));
+    holds(&rt, matches!(start_is_skipped(alloc), Ok(true)));
 }
 
 #[test]

@@ -121,7 +121,7 @@ fn words_made_once_are_those_of_the_tree(rt: HostRuntime) {
     }
 }
 
-/// Bytes of seven code words of a chain, big-endian: those of 0, 1, 2, 3, 20, 0 and 5, and then ten bits 0.
+/// Bytes of the code words of 0, 1, 2, 3, 20, 0 and 5 in a chain, big-endian, and then ten bits 0.
 const CHAINED: [u8; 6] = [0x5b, 0xbf, 0xff, 0xfc, 0xf8, 0x00];
 
 #[test]

@@ -101,6 +101,20 @@ fn example_of_read_varint(rt: HostRuntime) {
 }
 
 #[test]
+fn example_of_buffered(rt: HostRuntime) {
+    use bitstream_io::{BE, BitRead, BitReader, Buffered};
+    use std::io::BufReader;
+
+    let file = BufReader::new(rt.alloc(), [0xb1, 0xed].as_slice()).expect(&rt, "no error");
+    let mut reader = BitReader::<_, BE>::new(Buffered::new(file));
+    same(
+        &rt,
+        reader.read_unsigned_var::<u16>(12).expect(&rt, "no error"),
+        0xb1e,
+    );
+}
+
+#[test]
 fn example_of_bit_read2(rt: HostRuntime) {
     use bitstream_io::{BE, BitRead2, BitReader, Error};
 

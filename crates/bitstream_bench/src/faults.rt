@@ -1,11 +1,11 @@
 //! Readers and writers after a failed request.
 use crate::asserts::{are, each_holds, ended, failed, gives, holds, same};
 use bitstream_io::{
-    BE, BitRead, BitReadExt, BitReader, BitWrite, BitWriteExt, BitWriter, Bits, ByteRead,
+    BE, BitRead, BitReadExt, BitReader, BitWrite, BitWriteExt, BitWriter, Bits, Buffered, ByteRead,
     ByteReader, Error, Slice, SliceReader,
 };
 use std::alloc::Global;
-use std::io::ErrorKind;
+use std::io::{BufReader, ErrorKind};
 use test_streams::{Count, Endless, Refuse};
 
 /// Returns true if a call returns an I/O error of this kind.
@@ -28,6 +28,43 @@ fn fails_to_read<R: BitRead>(alloc: Global, reader: &mut R) -> bool {
         & refused(reader.read::<Bits<8>, u8>(), ErrorKind::ConnectionReset)
         & !reader.byte_aligned()
         & failed(reader.read_to_vec(alloc, 0))
+}
+
+/// Reads four bytes by blocks of two, from a stream that fails once, at the second block: with a kind that std
+/// asks again for if `retried` is true, and otherwise with another one. Returns true if the bits are those of the
+/// bytes up to there.
+fn reads_blocks(alloc: Global, retried: bool) -> bool {
+    let stream = Refuse {
+        inner: [0xb1, 0xed, 0x3b, 0xc1].as_slice(),
+        left: Some(1),
+        once: true,
+        kind: if retried {
+            ErrorKind::Interrupted
+        } else {
+            ErrorKind::ConnectionReset
+        },
+    };
+    let Ok(file) = BufReader::with_capacity(alloc, 2, stream) else {
+        return false;
+    };
+    let mut reader = BitReader::<_, BE>::new(Buffered::new(file));
+    let first = gives(reader.read::<Bits<12>, u16>(), 0xb1e);
+    let across = reader.read::<Bits<12>, u16>();
+    if retried {
+        first
+            & gives(across, 0xd3b)
+            & gives(reader.read::<Bits<8>, u8>(), 0xc1)
+            & ended(reader.read_bit())
+    } else {
+        first & refused(across, ErrorKind::ConnectionReset) & failed(reader.read_bit())
+    }
+}
+
+/// A buffered stream is read across its blocks, and reports its errors.
+#[test]
+fn buffered_streams_are_read_by_blocks(rt: HostRuntime) {
+    holds(&rt, reads_blocks(rt.alloc(), true));
+    holds(&rt, reads_blocks(rt.alloc(), false));
 }
 
 /// A failed writer no longer lends its stream, but still returns it.

@@ -20,8 +20,7 @@ fn counted<S>(inner: S) -> Count<S> {
     }
 }
 
-/// Takes a reader by value, and returns true if it reads this number in `bits` bits, and fills a
-/// buffer.
+/// Takes a reader by value. Returns true if it reads `number` in `bits` bits and then fills `buf`.
 fn reads<R: BitRead + Drop>(mut reader: R, bits: u32, number: u8, buf: &mut [u8]) -> bool {
     gives(reader.read_unsigned_var(bits), number) & reader.read_bytes(buf).is_ok()
 }
@@ -41,8 +40,7 @@ fn lent_readers_read(rt: HostRuntime) {
     are(&rt, &many, &MANY);
 }
 
-/// Takes a writer by value, and returns true if it writes this number in `bits` bits, and these
-/// bytes.
+/// Takes a writer by value. Returns true if it writes `number` in `bits` bits and then `bytes`.
 fn writes<W: BitWrite + Drop>(mut writer: W, bits: u32, number: u8, bytes: &[u8]) -> bool {
     writer.write_unsigned_var(bits, number).is_ok() & writer.write_bytes(bytes).is_ok()
 }
@@ -62,12 +60,12 @@ fn lent_writers_write(rt: HostRuntime) {
     are(&rt, &stream.inner, &MANY);
 }
 
-/// Takes a reader of bytes by value, and returns true if it reads this byte, and fills a buffer.
+/// Takes a reader of bytes by value. Returns true if it reads `byte` and then fills `buf`.
 fn reads_whole<R: ByteRead + Drop>(mut reader: R, byte: u8, buf: &mut [u8]) -> bool {
     gives(reader.read(), byte) & reader.read_bytes(buf).is_ok()
 }
 
-/// Takes a writer of bytes by value, and returns true if it writes this byte, and then these bytes.
+/// Takes a writer of bytes by value. Returns true if it writes `byte` and then `bytes`.
 fn writes_whole<W: ByteWrite + Drop>(mut writer: W, byte: u8, bytes: &[u8]) -> bool {
     writer.write(byte).is_ok() & writer.write_bytes(bytes).is_ok()
 }

@@ -127,7 +127,7 @@ fn a_parameter_set_is_read(rt: HostRuntime) {
 const PICTURE: &[u8] =
     b"\0\0\0\x03\0\0\0\x09image/png\0\0\0\x05Cover\0\0\0\x10\0\0\0\x20\0\0\0\x18\0\0\0\0\0\0\0\x04\x89PNG";
 
-/// Reads the picture that bytes begin with.
+/// Reads the picture at the start of the bytes.
 fn picture(alloc: Global, bytes: &[u8]) -> Result<Picture, Error> {
     BitReader::<_, BE>::over(bytes).parse_using(alloc)
 }
@@ -204,7 +204,7 @@ fn parses_headers_with_lists(rt: HostRuntime) {
     );
 }
 
-/// Returns true if an RTP packet of any other version is refused as such.
+/// Returns true if an RTP packet of any other version is rejected for its version.
 fn refuses_versions(alloc: Global) -> bool {
     let mut all = true;
     for first in [0x00, 0x40, 0xc0] {

@@ -41,7 +41,7 @@ struct Ended {
 /// The text on the stream for faults before a call.
 const BEFORE: &str = "before\n";
 
-/// Returns the words of a text, or fewer if an allocation fails.
+/// Returns the arguments in a text, separated by spaces, or fewer if an allocation fails.
 fn split(alloc: Global, text: &str) -> Vec<String> {
     let mut words = Vec::new(alloc);
     for word in text.split(' ') {

@@ -1,5 +1,5 @@
-//! Words of each width and type, after each number of queued bits. They are compared with the same
-//! words written and read bit by bit.
+//! Words (numbers of some bits) of each width and type, after each number of queued bits. They are
+//! compared with the same words written and read bit by bit.
 use crate::asserts::{gives, same};
 use bitstream_io::{
     BE, BitRead, BitReadExt, BitReader, BitWrite, BitWriteExt, BitWriter, Endianness, Integer, LE,
@@ -18,7 +18,7 @@ const FRONT: u8 = 0x5b;
 struct Shape {
     /// True if the highest bit of a word comes first.
     high_first: bool,
-    /// The number of bits before it.
+    /// The number of bits before the word.
     queued: u32,
     /// The number of bits of the word.
     width: u32,
