@@ -8,7 +8,7 @@ from describing import model as m
 from describing import reserved
 from describing.model import Position, Refused
 from describing.names import TAKEN
-from describing.parse import beside, parsed
+from describing.parse import ONLY_PARTS, beside, parsed
 
 CLAUSES = ("there", "short", "answer", "back")
 
@@ -23,9 +23,9 @@ def described(text: str, path: str, module: str, names: bool = True) -> m.Descri
 def check(it: m.Description, names: bool = True) -> None:
     """Refuses what does not go checks."""
     if not it.name:
-        raise Refused("no line `struct NAME`")
+        raise Refused("no line `struct NAME`: it is the first one", Position(1, 1))
     if it.order not in ("BE", "LE"):
-        raise Refused("the order is BE or LE", it.heads["order"])
+        raise Refused(f"the order is BE or LE, and not `{it.order}`", it.heads["order"])
     check_lines(it, names)
     check_types(it, names)
     if it.error and not any(m.error(kind) for kind in it.kinds):
@@ -33,9 +33,14 @@ def check(it: m.Description, names: bool = True) -> None:
         raise Refused(why, it.heads["error"])
     if it.whole and it.bits is not None and it.bits % 8:
         ends = f"end with `any {-it.bits % 8}`, or with `align`"
-        raise Refused(f"the fields have {it.bits} bits, which are no whole bytes: {ends}")
+        raise Refused(f"the fields have {it.bits} bits, which are no whole bytes: {ends}", last_line(it))
     if not it.fields:
-        raise Refused("no field")
+        raise Refused("no field: it is a line `NAME TYPE BITS`, for example", last_line(it))
+
+
+def last_line(it: m.Description) -> Position:
+    """Returns the position of the last line that describes bits, or of the line `struct`."""
+    return max((kind.at for kind in it.kinds), key=lambda at: at.line, default=it.heads["struct"])
 
 
 def check_lines(it: m.Description, own: bool) -> None:
@@ -46,6 +51,7 @@ def check_lines(it: m.Description, own: bool) -> None:
         check_name(name, kind.at)
         check_sum_name(it, kind)
         check_target(it, index, kind)
+        check_given(it, kind)
         if own and name in reserved.WORDS:
             raise Refused(f"`{name}` is a word of the language: take another name", kind.at)
         if name and name in names:
@@ -56,26 +62,53 @@ def check_lines(it: m.Description, own: bool) -> None:
 
 def check_name(name: str, at: Position) -> None:
     """Refuses a name that Rust does not allow."""
-    if name and not re.fullmatch(r"[A-Za-z_][A-Za-z0-9_]*", name):
-        raise Refused(f"`{name}` is no name: take letters, digits and `_`", at)
+    if name and not re.fullmatch(r"_*[A-Za-z][A-Za-z0-9_]*", name):
+        raise Refused(f"`{name}` is no name: take letters, digits and `_`, a letter first", at)
+
+
+def check_type_name(name: str, at: Position) -> None:
+    """Refuses a name of a type or a case that code or proofs cannot have."""
+    if name in reserved.TYPE_WORDS:
+        raise Refused(f"`{name}` is a word of the language: take another name", at)
+    if name and not name[0].isupper():
+        upper = "".join(it[:1].upper() + it[1:] for it in name.split("_"))
+        raise Refused(f"`{name}` is a type or a case, which begins with a capital letter: take `{upper}`", at)
 
 
 def check_sum_name(it: m.Description, kind: m.Kind) -> None:
     """Refuses a field with a name that code has for a checksum, or for the number of bytes of the rest."""
     sums = [one.word for one in it.kinds if isinstance(one, m.Check)]
-    rests = [f"{one.name}_bytes" for one in it.kinds if isinstance(one, m.Rest)]
+    rests = [name for one in it.kinds if isinstance(one, m.Rest) for name in (f"{one.name}_bytes", "all_bytes")]
     words = [it.format(one) for one in sums for it in ("{}", "is_{}", "{}_sum", "{}_writes")]
+    words += [one.called for one in it.kinds if isinstance(one, m.Computed)]
     if m.is_field(kind) and kind.name in words:
         raise Refused(f"`{kind.name}` is the name of the checksum: take another name", kind.at)
     if m.is_field(kind) and kind.name in rests:
         raise Refused(f"`{kind.name}` is the number of bytes of the rest: take another name", kind.at)
 
 
+def check_given(it: m.Description, kind: m.Kind) -> None:
+    """Refuses a given part that no checksum covers, or whose values may not fit, and a part that is given others."""
+    for use in m.uses(kind):
+        if m.given(use.description):
+            raise Refused(f"`{use.module}` is given a part, so it is no part of others", kind.at)
+    if not isinstance(kind, m.Given):
+        return
+    covers = [one for check in it.kinds if isinstance(check, m.Check) for one in m.covered(it.kinds, check)]
+    if kind not in covers:
+        raise Refused(f"no checksum covers `{kind.name}`, so it is not asked for", kind.at)
+    if not all(map(m.is_any, kind.use.description.kinds)) or (kind.use.description.bits or 1) % 8:
+        raise Refused("a given part has whole bytes, and numbers that have all bits of their types", kind.at)
+
+
 def check_error(it: m.Description, kind: m.Kind) -> None:
     """Refuses a case of an error that is not declared, or has the name of a clause."""
     errors = [case for case, _ in m.refusals(kind)]
     if errors and not it.error:
-        raise Refused("this line refuses bits, and the description has no line `error NAME`", kind.at)
+        item = m.held_item(kind)
+        enum = isinstance(item, m.EnumType) or isinstance(kind, m.Choose) and bool(kind.unknown)
+        case = f": add it, or a case `.. Other` for the other numbers" * enum
+        raise Refused(f"this line refuses bits, and the description has no line `error NAME`{case}", kind.at)
     if any(m.snake(case) in CLAUSES for case in errors):
         why = "`There`, `Short`, `Answer` and `Back` are names of the contract: take other ones"
         raise Refused(why, kind.at)
@@ -97,12 +130,20 @@ def check_target(it: m.Description, index: int, kind: m.Kind) -> None:
         case _:
             return
     if not found:
-        raise Refused(f"no `{word} {name}` after it", kind.at)
+        parts = [
+            one for one in later if isinstance(one, m.Optional | m.If | m.Sized | m.Fill | m.List) and one.name == name
+        ]
+        if parts and isinstance(kind, m.Flag | m.Size):
+            raise Refused(f"no `{word} {name}` after it, and {ONLY_PARTS}", kind.at)
+        others = f", `fill {name}` or `choose {name} TYPE sized ERROR`" * isinstance(kind, m.Size)
+        raise Refused(f"no `{word} {name}`{others} after it", kind.at)
 
 
 def fits_words(kind: m.Kind) -> list[tuple[str, set[str]]]:
     """Returns the clauses of `Fits` for a line, each with the words in it that a field may not be called."""
     match kind:
+        case m.Number(limit=int()):
+            return [(kind.name, {"value"}), (f"{kind.name}_most", {"value"})]
         case m.Number() | m.Unary() | m.Groups() | m.Varint():
             return [(kind.name, {"value"})]
         case m.Golomb(signed=signed):
@@ -111,6 +152,8 @@ def fits_words(kind: m.Kind) -> list[tuple[str, set[str]]]:
             return [(kind.name, {"value", f"non_zero_{kind.integer.base}_get"})]
         case m.MaybeNonZero():
             return [(kind.name, {"value", "number_or_zero", f"non_zero_{kind.integer.base}_get"})]
+        case m.Computed():
+            return [(m.label(kind), {"value", "stored_size", f"{kind.word}_sum", kind.called})]
         case m.Until() | m.Blocks():
             return [(kind.name, {"value"}), (f"{kind.name}_most", {"value", "length"})]
         case m.UpToLast():
@@ -125,20 +168,23 @@ def fits_words(kind: m.Kind) -> list[tuple[str, set[str]]]:
                 (f"{kind.name}_again", {"value", f"{s}_of", f"{s}_number"}),
             ]
         case m.Count() | m.Size():
-            return [(m.label(kind), {"value", "length"})]
+            name, words = m.label(kind), {"value", "length"}
+            return [(name, words)] + [(f"{name}_most", words)] * m.is_limited(kind)
         case m.If():
-            return [(kind.name, {"value"}), (f"{kind.name}_there", {"value", "is_some", "not", "nat_lt", "nat_le"})]
+            there = {"value", "is_some", "not", "nat_lt", "nat_le", f"{kind.name}_due"}
+            return [(kind.name, {"value"}), (f"{kind.name}_there", there)]
         case m.Choose():
             s = m.snake(kind.type)
             return [(kind.name, {"value", f"{s}_fits"}), (f"{kind.name}_tag", {"value", f"{s}_number"})]
-        case m.Part() | m.Optional() | m.Sized():
+        case m.Part() | m.Optional() | m.Sized() | m.Given():
             return [(kind.name, {"value"})]
     return []
 
 
 def many_words(kind: m.Array | m.List | m.Rest | m.Fill) -> list[tuple[str, set[str]]]:
     """Returns the clauses of `Fits` for an array or a list."""
-    found = [(f"{kind.name}_count", {"value", "length"})] * isinstance(kind, m.Array)
+    counted = isinstance(kind, m.Array) or isinstance(kind, m.List) and kind.power
+    found = [(f"{kind.name}_count", {"value", "length", "power_count", "true"})] * bool(counted)
     item = m.held_item(kind)
     if not isinstance(item, m.EnumType):
         return [*found, (kind.name, {"value"})]
@@ -178,6 +224,8 @@ def check_types(it: m.Description, own: bool) -> None:
     errors = [(kind.at, case) for kind in it.kinds for case, _ in m.refusals(kind)]
     for at, name in [*types, *errors, *cases]:
         check_name(name, at)
+        if own:
+            check_type_name(name, at)
     for index, (at, name) in enumerate(types):
         if name and (name in [one for _, one in types[:index]] or name in parts):
             raise Refused(f"two types have one name, `{name}`", at)

@@ -1,13 +1,13 @@
 """The `example` lines: the fields that a line names, compared with the fields that its bytes have, both ways."""
 from __future__ import annotations
 
-from typing import Iterator, NoReturn
+from typing import Iterator, TypeAlias
 
 from describing import model as m
 from describing import checks
 from describing.model import Refused
-from describing.input import Input, ReadError, Value
-from describing.read import record_reader, value_of
+from describing.input import Input, ReadError, Value, place_text
+from describing.read import Node, record_reader, value_of
 from describing.write import Bits, put_record
 
 
@@ -25,13 +25,30 @@ def described(text: str, path: str, module: str, names: bool = True) -> m.Descri
     return found
 
 
-def vectors(description: m.Description) -> list[tuple[bytes, dict[str, Value] | str]]:
-    """Returns the bytes of each example, with its values or the case of its error."""
-    found: list[tuple[bytes, dict[str, Value] | str]] = []
+Said: TypeAlias = dict[str, Value] | str
+
+
+def vectors(description: m.Description) -> list[tuple[bytes, Said, dict[str, Value]]]:
+    """Returns the bytes of each example, with its values or the case of its error, and with the parts that are given."""
+    found: list[tuple[bytes, Said, dict[str, Value]]] = []
     for it in description.examples:
-        data = bytes.fromhex(it.digits)
-        found.append((data, fields(description, it.answer) if "=" in it.answer else it.answer))
+        said, parts = answered(description, it.answer)
+        found.append((bytes.fromhex(it.digits), said, parts))
     return found
+
+
+def answered(description: m.Description, answer: str) -> tuple[Said, dict[str, Value]]:
+    """Returns the values that an example says, or the case of its error, and the parts that are given."""
+    kinds = {it.name: it for it in m.given(description)}
+    words = apart(answer, ",")
+    named = [it for it in words if it.partition(" = ")[0] in kinds]
+    parts = {name: given(kinds[name], said) for name, _, said in (it.partition(" = ") for it in named)}
+    others = [it for it in words if it not in named]
+    if len(others) == 1 and "=" not in others[0]:
+        if len(parts) < len(kinds):
+            raise Refused("an example of an error says what is given: `example BYTES: NAME = (..), ERROR`")
+        return others[0], parts
+    return (fields(description, answer) if "=" in answer else answer), parts
 
 
 def apart(text: str, at: str) -> list[str]:
@@ -51,7 +68,8 @@ def whole(name: str, said: str) -> int:
     try:
         return int(said, 0)
     except ValueError:
-        raise Refused(f"`{name} = {said}`: a number is `10`, `-10` or `0x0A`") from None
+        comma = ", and a comma stands between two fields" * ("=" in said)
+        raise Refused(f"`{name} = {said}`: a number is `10`, `-10` or `0x0A`{comma}") from None
 
 
 def not_zero(name: str, said: str) -> int:
@@ -126,7 +144,7 @@ def given(kind: m.Described, said: str) -> Value:
             return None if said == "None" else not_zero(name, said)
         case m.Enum():
             return case(name, kind.enum, said)
-        case m.Part():
+        case m.Part() | m.Given():
             return part(name, kind.use, said)
         case m.Optional() | m.If():
             return None if said == "None" else part(name, kind.use, said, "Some")
@@ -185,12 +203,13 @@ def fields(description: m.Description, said: str) -> dict[str, Value]:
 def reader_errors(description: m.Description) -> Iterator[str]:
     """Returns the errors of the reader that a format may return."""
     yield "EndOfInput"
-    for kind in description.kinds:
+    for line in description.kinds:
+        kind = m.grouped(line)
         if isinstance(kind, m.Groups | m.Golomb):
             yield "VariableWidthOverflow"
         if isinstance(kind, m.Groups) and not kind.any:
             yield "RedundantGroup"
-        for use in m.uses(kind):
+        for use in m.uses(line):
             yield from reader_errors(use.description)
 
 
@@ -206,17 +225,18 @@ def held(description: m.Description, answer: str) -> bool:
 
 def check(description: m.Description, example: m.Example) -> None:
     """Refuses an example whose bytes have other values, or are not the bytes that are written for its values."""
-    answer = example.answer
-    said: dict[str, Value] | str = fields(description, answer) if "=" in answer else answer
-    if answer and isinstance(said, str) and held(description, answer) and not names_own(description, answer):
-        raise Refused(f"`{answer}` holds an error of the part: give the example in its description")
-    if isinstance(said, str) and answer not in [*reader_errors(description), *errors_of(description)]:
-        raise Refused(f"an example answers `{answer}`, which is no case of the error")
+    said, parts = answered(description, example.answer)
+    if not example.answer:
+        raise Refused("an example has its fields, or its error, after a colon: `example 10 FF: FIELD = VALUE, ..`")
+    if said and isinstance(said, str) and held(description, said) and not names_own(description, said):
+        raise Refused(f"`{said}` holds an error of the part: give the example in its description")
+    if isinstance(said, str) and said not in [*reader_errors(description), *errors_of(description)]:
+        raise Refused(f"an example answers `{said}`, which is no case of the error")
     try:
         data = bytes.fromhex(example.digits)
     except ValueError:
         raise Refused(f"`{example.digits}` are no bytes: they are hex, `10 FF`") from None
-    compare(description, data, said)
+    compare(description, data, said, parts)
 
 
 def names_own(description: m.Description, answer: str) -> bool:
@@ -224,11 +244,11 @@ def names_own(description: m.Description, answer: str) -> bool:
     return any(case == answer and not inside for kind in description.kinds for case, inside in m.refusals(kind))
 
 
-def compare(description: m.Description, data: bytes, said: dict[str, Value] | str) -> None:
+def compare(description: m.Description, data: bytes, said: Said, parts: dict[str, Value]) -> None:
     """Refuses bytes that have other values, or another error, than an example says."""
     row = Input(data, description.order)
     try:
-        found = value_of(record_reader(description)(row))
+        found = value_of(record_reader(description, parts)(row))
     except ReadError as it:
         raise_unless(said, it.answer)
         return
@@ -240,7 +260,7 @@ def compare(description: m.Description, data: bytes, said: dict[str, Value] | st
     written(description, data, said, row.at)
 
 
-def raise_unless(said: dict[str, Value] | str, answer: str) -> None:
+def raise_unless(said: Said, answer: str) -> None:
     """Refuses an example that does not name this error."""
     if said != answer:
         raise Refused(f"example: the bytes answer `{answer}`{f', not `{said}`' if isinstance(said, str) else ''}")
@@ -249,31 +269,57 @@ def raise_unless(said: dict[str, Value] | str, answer: str) -> None:
 def written(description: m.Description, data: bytes, said: dict[str, Value], at: int) -> None:
     """Refuses bytes other than the bytes that are written for the values."""
     if len(data) > -(-at // 8):
-        raise Refused("example: more bytes than the fields have")
+        raise Refused(f"example: more bytes than the fields have, which end with byte {-(-at // 8) - 1}")
     bits = Bits(description.order)
     put_record(bits, description, said)
     if bits.bytes() != data:
-        refuse_other(description, bits.count, at, data, said)
+        nodes = record_reader(description)(Input(data, description.order))
+        row = bits.bytes().hex(" ").upper()
+        why = next(other_bits(nodes, description.order), "") or padding(data, at, description.order)
+        raise Refused(f"example: {why}: give the row as it is written, `{row}`")
 
 
-def refuse_other(description: m.Description, count: int, at: int, data: bytes, said: dict[str, Value]) -> NoReturn:
-    """Refuses an example, and names the bits that are written in another way."""
-    row, why = Input(data, description.order), "the last one is filled with zeros"
-    for node in record_reader(description)(row):
-        if isinstance(node.kind, m.Skip) and node.value:
-            why = f"`{'align' if node.kind.align else 'any'}` is written as zeros"
-        if isinstance(node.kind, m.Groups):
-            one = Bits(description.order)
-            put_record(one, m.Description("", "", description.order, "", (node.kind,)), {node.name: node.value})
-            if one.count != node.end - node.start:
-                why = f"`{node.name}` ends in a group of zeros"
-    raise Refused(f"example: other bytes are written: {why}")
+def other_bits(nodes: list[Node], order: str) -> Iterator[str]:
+    """Returns, for each line whose bits are written in another way than they are read, what is written there."""
+    for it in nodes:
+        yield from other_bits(it.nodes, order)
+        kind, place, width = it.kind and m.grouped(it.kind), place_text(it.start), it.end - it.start
+        match kind:
+            case m.Skip() if isinstance(it.value, int) and it.value:
+                line = "align" if kind.align else f"any {width}"
+                yield zeros_text(f"the bits of `{line}` at {place}", width, it.value)
+            case m.Groups() if width > written_bits(
+                m.Groups(kind.at, "", "x", kind.integer, kind.group, True), it, order
+            ):
+                yield f"`{it.name}` at {place} ends in a group of zeros, which is not written"
+            case _ if kind and m.is_varint(kind) and width > written_bits(m.Varint(kind.at, "", "x"), it, order):
+                yield f"`{it.name}` at {place} has more bytes than its number needs, which are not written"
+
+
+def written_bits(kind: m.Groups | m.Varint, it: Node, order: str) -> int:
+    """Returns the number of bits that are written for the number of a line."""
+    one = Bits(order)
+    put_record(one, m.Description("", "", order, "", (kind,)), {kind.name: it.value})
+    return one.count
+
+
+def padding(data: bytes, at: int, order: str) -> str:
+    """Returns what is written after the last field, up to a whole byte."""
+    row = Input(data, order)
+    row.at = at
+    return zeros_text(f"the bits after the fields, at {place_text(at)},", -at % 8, row.number(-at % 8))
+
+
+def zeros_text(what: str, width: int, value: int) -> str:
+    """Returns the text of bits for which zeros are written."""
+    number = f"0b{value:0{width}b}" if width <= 16 else f"{value:#x}"
+    return f"{what} are {number}, and zeros are written there"
 
 
 def differing(kind: m.Described, said: Value, found: Value, path: str) -> str:
     """Returns the first difference between two values, or an empty text."""
     use = m.held_item(kind)
-    alone = isinstance(kind, m.Part | m.Optional | m.If | m.Sized)
+    alone = isinstance(kind, m.Part | m.Optional | m.If | m.Sized | m.Given)
     if alone and isinstance(use, m.Use) and isinstance(said, dict) and isinstance(found, dict):
         inner = use.description.fields
         found_all = (differing(it, said[it.name], found[it.name], f"{path}.{it.name}") for it in inner)

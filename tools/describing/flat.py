@@ -21,7 +21,7 @@ def made(kind: m.Kind) -> tuple[bool, Made]:
         case m.Number(integer=whole) if whole.signed:
             return True, lambda it: it - (it >> (whole.width - 1) << whole.width)
         case m.Number() | m.Const() | m.Skip():
-            return True, None
+            return not m.is_limited(kind), None
         case m.NonZero():
             return True, lambda it: it + 1
         case m.MaybeNonZero():
@@ -85,7 +85,7 @@ class Plan:
 def planned(description: m.Description) -> Plan | None:
     """Returns the plan of such a format, or None if it is none."""
     bits, little = description.bits, description.order == "LE"
-    if bits is None or bits % 8 or not all(made(kind)[0] for kind in description.kinds):
+    if bits is None or bits % 8 or m.given(description) or not all(made(kind)[0] for kind in description.kinds):
         return None
     if little and any(isinstance(kind, m.Array) for kind in description.kinds):
         return None

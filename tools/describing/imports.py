@@ -77,6 +77,8 @@ def line_names(f: Format, line: Line) -> Table:
         own.append({f"{WITHIN}.specs.Filled": "filled_decoder items_from"} | COUNTS)
     if isinstance(line.kind, m.UpToLast):
         own.append(last_names(f, line.kind))
+    if isinstance(line.kind, m.If) and line.kind.due:
+        own.append({f.specs_path: line.kind.due})
     return merged(*own, *[part_names(f, it, it.use) for it in line.parts if it.use])
 
 
@@ -99,7 +101,7 @@ def last_names(f: Format, kind: m.UpToLast) -> Table:
 
 def all_names(f: Format) -> Table:
     """Returns where the names of all lines come from."""
-    return merged(*[line_names(f, it) for it in f.lines])
+    return merged(*[line_names(f, it) for it in (*f.handed, *f.lines)])
 
 
 def types(f: Format) -> Table:
@@ -125,7 +127,7 @@ def own_specs(f: Format) -> Table:
     names += [f"{f.m}_writes_{k + 1}" for k in range(1, len(f.pieces()))]
     for it in f.summed:
         more = [f"_{k + 1}" * (k > 0) for k in range(len(f.covered(it)))]
-        names += [f"{it.word}_sum", *(f"{it.word}_writes{one}" for one in more)]
+        names += [f"{it.word}_sum", *[it.called] * (it.called != it.word), *(f"{it.word}_writes{one}" for one in more)]
     lines = {module: it for module, it in all_names(f).items() if ".declared." not in module}
     return merged({f.specs_path: " ".join(names)}, lines)
 
@@ -150,7 +152,7 @@ def part_lemmas(f: Format, use: m.Use) -> Table:
 
 def parts_lemmas(f: Format) -> Table:
     """Returns where the lemmas of the parts come from."""
-    found = merged(*[line_lemmas(f, it) for it in f.lines])
+    found = merged(*[line_lemmas(f, it) for it in (*f.handed, *f.lines)])
     return {module: names for module, names in found.items() if module != f.lemmas_path}
 
 

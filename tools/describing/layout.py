@@ -141,10 +141,11 @@ def fits_if_accepted(kind: m.Kind) -> bool:
             return not kind.enum.other
         case m.List():
             item = kind.item
-            return isinstance(item, m.Integer) or isinstance(item, m.EnumType) and not item.other
+            return not kind.power and isinstance(item, m.Integer) or isinstance(item, m.EnumType) and not item.other
         case m.Part():
             return all_fit(kind.use.description.kinds)
-    return isinstance(kind, m.Number | m.NonZero | m.MaybeNonZero | m.Bool | m.Const | m.Skip | m.Flag | m.Count)
+    plain = isinstance(kind, m.Number | m.NonZero | m.MaybeNonZero | m.Bool | m.Const | m.Skip | m.Flag | m.Count)
+    return plain and not m.is_limited(kind)
 
 
 def all_values(kinds: Iterable[m.Kind]) -> bool:
@@ -163,7 +164,8 @@ def is_value(kind: m.Kind) -> bool:
 
 def reader_errors(kinds: Iterable[m.Kind]) -> Iterator[tuple[str, str]]:
     """Returns the errors of the reader besides `EndOfInput` that lines may return, each with its condition."""
-    for it in kinds:
+    for line in kinds:
+        it = m.grouped(line)
         if isinstance(it, m.Groups | m.Golomb):
             yield OVERFLOW
         if isinstance(it, m.Groups) and not it.any:
@@ -184,10 +186,10 @@ def lines_of(description: m.Description) -> tuple[Line, ...]:
     at: int | None = 0
     found: list[Line] = []
     shared, seen = shared_cases(description), set[int]()
-    for index, kind in enumerate(description.kinds):
+    for index, kind in enumerate(it for it in description.kinds if not isinstance(it, m.Given)):
         check_printed(description, kind)
         if isinstance(kind, m.Rest) and isinstance(kind.item, m.Use):
-            kind = m.Fill(kind.at, kind.doc, kind.name, kind.item, "")
+            kind = m.Fill(kind.at, kind.doc, kind.name, kind.item, "", not description.error)
         enum, error, width = m.held_item(kind), m.error(kind), m.bits(kind)
         again = f"_{at}" if error in [it.error for it in found] else ""
         repeats = id(enum) in seen
@@ -204,6 +206,12 @@ def lines_of(description: m.Description) -> tuple[Line, ...]:
 def given_line(kind: m.Rest) -> Line:
     """Returns a line for the number of bytes of the rest, which a read is given."""
     return Line(m.Size(kind.at, "", kind.name, 64, 1, 0), -1, None, "", False, ())
+
+
+def handed_line(kind: m.Given) -> Line:
+    """Returns a line for a part that a read is given."""
+    part = m.Part(kind.at, kind.doc, kind.name, kind.use)
+    return Line(part, -1, None, "", False, inner_lines(part))
 
 
 def inner_lines(kind: m.Printed) -> tuple[Line, ...]:
@@ -237,6 +245,18 @@ def is_octets(kind: m.Kind | None) -> bool:
     return isinstance(kind, m.Sized) and isinstance(kind.item, m.Octet)
 
 
+def states_choice(description: m.Description, kind: m.Size, groups: m.Groups) -> bool:
+    """Returns true for the size of a choice in strict groups of 8 bits."""
+    return groups.group == 8 and not groups.any and isinstance(measured_by(description, kind), m.Choose)
+
+
+def is_bounded(description: m.Description, kind: m.Kind, use: m.Use) -> bool:
+    """Returns true for a part that ends with a rest, without a checksum, in a choice of a stated size or of a size in units."""
+    size = size_of(description, kind) if isinstance(kind, m.Sized) else None
+    alone = bool(size and size.units) or isinstance(kind, m.Choose) and kind.sized
+    return alone and is_open(use) and all_values(use.description.kinds)
+
+
 def has_size(kind: m.Kind) -> TypeGuard[m.Measured]:
     """Returns true for a line whose size an earlier line has."""
     return isinstance(kind, m.Sized | m.Fill) or isinstance(kind, m.Choose) and kind.sized
@@ -252,7 +272,7 @@ def check_printed(description: m.Description, kind: m.Printed) -> None:
     """Refuses what only `--show` and `--pack` know of a line."""
     tags = [it.name for it in description.kinds if isinstance(it, m.Tag)]
     match kind:
-        case m.If(field=field) if field in tags:
+        case m.If(asked=asked) if set(asked) & set(tags):
             raise Refused(UNPRINTED, kind.at)
         case m.Until(item=m.Integer() as item) if item.signed or item.width != 8 or item.base != "u8":
             raise Refused(f"{UNPRINTED}: in code bytes end at a terminator, `until {kind.name} bytes STOP`", kind.at)
@@ -264,6 +284,13 @@ def check_printed(description: m.Description, kind: m.Printed) -> None:
             raise Refused(f"{UNPRINTED}: a case holds bytes in code if a `size` line says how many", kind.at)
         case m.Choose() if any(it.number is not None and isinstance(it.held, m.Octet) for it in kind.arms):
             raise Refused(f"{UNPRINTED}: in code only the case for other numbers holds bytes", kind.at)
+        case m.Number() if m.is_limited(kind) and description.bits is not None:
+            why = "in code a number has a greatest value in a format without a constant width"
+            raise Refused(f"{UNPRINTED}: {why}", kind.at)
+        case m.Size(groups=m.Groups() as groups) if not states_choice(description, kind, groups):
+            raise Refused(f"{UNPRINTED}: in code only a choice has a size in groups, strict ones of 8 bits", kind.at)
+        case m.Size(groups=None) if m.is_limited(kind):
+            raise Refused(f"{UNPRINTED}: in code a size has a greatest value if it is in groups", kind.at)
         case m.Size(varint=True):
             if not is_octets(measured_by(description, kind)):
                 raise Refused(f"{UNPRINTED}: a size by `varint quic` is printed for bytes", kind.at)
@@ -272,7 +299,7 @@ def check_printed(description: m.Description, kind: m.Printed) -> None:
         case m.Size() if kind.most >= MOST_BYTES:
             raise Refused(f"{UNPRINTED}: a size of fewer than 2^60 bytes is printed", kind.at)
     for use in m.uses(kind):
-        if m.open_ended(use.description):
+        if m.open_ended(use.description) and not is_bounded(description, kind, use):
             raise Refused(f"{UNPRINTED}: `{use.module}` reads to the end of the bytes", kind.at)
         if m.ordered(use.description) and use.description.order != description.order:
             raise Refused(f"`{use.module}` has sizes, so its order must be {description.order} as here", kind.at)
@@ -283,15 +310,45 @@ def check_rest(description: m.Description, kind: m.Rest) -> None:
     head = tuple(it for it in description.kinds if it is not kind and not isinstance(it, m.Verify))
     if not isinstance(kind.item, m.Octet | m.Use):
         raise Refused(f"{UNPRINTED}: in code the rest is bytes or parts", kind.at)
-    if isinstance(kind.item, m.Use) and not description.error:
-        raise Refused(f"{UNPRINTED}: in code a rest of parts stands in a format with an `error`", kind.at)
+    if isinstance(kind.item, m.Use) and not description.error and m.allocating(kind.item):
+        raise Refused(f"{UNPRINTED}: in code a rest of parts with lists stands in a format with an `error`", kind.at)
     if isinstance(kind.item, m.Use) and least_bits(kind.item) < 8:
         raise Refused("a part of the rest has at least 8 bits of constant width", kind.at)
     if description.kinds.index(kind) != len(head):
         raise Refused(f"{UNPRINTED}: in code the rest is the last line", kind.at)
-    bits = m.total(head)
-    if bits is None or bits % 8:
-        raise Refused(f"{UNPRINTED}: in code the lines before the rest have whole bytes, of constant width", kind.at)
+    if m.total(tuple(it for it in head if not is_length(it))) is None:
+        raise Refused(f"{UNPRINTED}: in code only bytes of variable length stand before the rest", kind.at)
+    if head_bits(description) % 8:
+        raise Refused(f"{UNPRINTED}: in code the lines before the rest have whole bytes", kind.at)
+    if any(is_length(it) for it in head) and not all_values(description.kinds):
+        raise Refused(f"{UNPRINTED}: no checksum stands with a rest after bytes of variable length", kind.at)
+
+
+def is_length(kind: m.Kind) -> bool:
+    """Returns true for bytes whose number an earlier line has."""
+    return is_octets(kind) or isinstance(kind, m.List) and isinstance(kind.item, m.Octet)
+
+
+def head_bits(description: m.Description) -> int:
+    """Returns the number of bits of the lines of constant width."""
+    return sum(m.bits(it) or 0 for it in description.kinds)
+
+
+def is_open(use: m.Use) -> bool:
+    """Returns true for a part whose last line is a rest."""
+    return isinstance(use.description.kinds[-1], m.Rest)
+
+
+def by_size(kind: m.Kind) -> bool:
+    """Returns true for a line whose read takes the number of its bytes: what it reads depends on it."""
+    open_parts = any(is_open(use) for use in m.uses(kind))
+    return open_parts or isinstance(kind, m.Choose) and bool(kind.unnamed)
+
+
+def rest_given(use: m.Use, size: str) -> str:
+    """Returns the term for the number that the read of a part with a rest takes, of the number of its bytes."""
+    head = head_bits(use.description) // 8
+    return f"({size} - {head})" if head else size
 
 
 def covered(description: m.Description, kind: m.Kind) -> tuple[m.Kind, ...]:
@@ -354,12 +411,14 @@ class Format:
         self.summed = [it for it in self.checks if it.lines]
         self.total = description.bits if description.whole and not self.checks else None
         self.rest = next((it for it in description.kinds if isinstance(it, m.Rest)), None)
-        self.given = [given_line(self.rest)] if self.rest else []
+        self.handed = [handed_line(it) for it in m.given(description)]  # the parts that a read is given
+        rests = [given_line(self.rest)] if self.rest else []
+        self.given = [*self.handed, *rests]
         self.grows = any(m.allocates(it.kind) for it in self.lines)  # the read allocates memory
         self.ordered = m.ordered(description)  # code reads it in its own order alone
         self.own, self.sized, self.e = bool(self.error) or self.grows, self.total is not None, self.error or "Error"
         self.becomes_name = f"becomes_{module}" if self.error else "same_error"
-        self.fields = [it for it in self.lines if it.is_field]
+        self.fields = [*self.handed, *(it for it in self.lines if it.is_field)]
         self.parts = [part for it in self.lines for part in it.parts]
         self.tests = [it for it in self.lines if it.error]
         self.fitting = all_fit(description.kinds)
@@ -373,17 +432,27 @@ class Format:
 
     @property
     def head(self) -> int:
-        """The number of bytes before the rest."""
+        """The number of bytes of the lines of constant width before the rest."""
         return sum(it.wide for it in self.lines) // 8
+
+    @property
+    def before_rest(self) -> list[Line]:
+        """The lines of bytes before the rest, whose number is no constant."""
+        return [it for it in self.lines if self.rest and is_length(it.kind)]
 
     @property
     def rest_line(self) -> Line | None:
         """The line of the rest, or None if there is none."""
         return next((it for it in self.lines if self.rest and it.name == self.rest.name), None)
 
-    def decoder(self, order: str, rest: str) -> str:
-        """Returns the reads, of so many bytes of the rest if there is one."""
-        return f"{self.m}_decoder {order}" + f" {rest}" * bool(self.rest)
+    def decoder(self, order: str, given: str) -> str:
+        """Returns the reads, with the terms for what they are given."""
+        return f"{self.m}_decoder {order} {given}".strip()
+
+    @property
+    def given_names(self) -> str:
+        """The names of what the reads are given."""
+        return " ".join(it.name for it in self.given)
 
     @property
     def written(self) -> list[Line]:
@@ -403,7 +472,7 @@ class Format:
 
     def covered(self, check: m.Check) -> list[tuple[Line, ...]]:
         """Returns the lines of a checksum, in its order, that each function writes; zeros stand for itself."""
-        of = {it.kind.at: it for it in self.written}
+        of = {it.kind.at: it for it in [*self.handed, *self.written]}
         zeros = Line(m.Skip(check.at, "", check.width, False), -1, None, "", False, ())
         covers = m.covered(self.description.kinds, check)
         return in_pieces(tuple(zeros if it.at == check.at else of[it.at] for it in covers))

@@ -15,14 +15,25 @@ class Position:
 
 
 class Refused(Exception):
-    """The reason why a description, or an option of a command, is refused, with its position if it has one."""
+    """The reason why a description, or an option of a command, is refused, with its position if it has one.
 
-    def __init__(self, why: str, at: Position | None = None) -> None:
+    `path` is the file of the description, if it is not the one that a command names first.
+    """
+
+    def __init__(self, why: str, at: Position | None = None, path: str = "") -> None:
         super().__init__(why)
-        self.why, self.at = why, at
+        self.why, self.at, self.path = why, at, path
 
     def __str__(self) -> str:
         return f"line {self.at.line}, column {self.at.column}: {self.why}" if self.at else self.why
+
+    def message(self, path: str) -> str:
+        """Returns the message of a command whose description is in the file `path`.
+
+        It is `FILE:LINE:COLUMN: REASON`, as editors read it, or `format: FILE: REASON`.
+        """
+        path = self.path or path
+        return f"{path}:{self.at.line}:{self.at.column}: {self.why}" if self.at else f"format: {path}: {self.why}"
 
 
 @dataclass(frozen=True, slots=True)
@@ -127,9 +138,11 @@ class Bool(Field):
 
 @dataclass(frozen=True, slots=True)
 class Number(Field):
-    """NAME TYPE BITS"""
+    """NAME TYPE BITS [max N ERROR]: a number above N, the `limit`, is the error."""
 
     integer: Integer
+    limit: int | None = None
+    error: str = ""
 
 
 @dataclass(frozen=True, slots=True)
@@ -237,30 +250,6 @@ class Optional(Field):
     use: Use
 
 
-@dataclass(frozen=True, slots=True)
-class If(Field):
-    """if FIELD == VALUE NAME TYPE of MODULE, if FIELD NAME TYPE of MODULE
-
-    `asked` is VALUE as it is spelled, a number or the name of a case, and `how` compares it: `==`, `!=`, `<` or `>=`. For
-    a field that is a bit `how` is an empty text, and `value` is 1.
-    """
-
-    use: Use
-    field: str
-    value: int
-    asked: str
-    how: str = "=="
-
-    @property
-    def condition(self) -> str:
-        """The condition as it is spelled."""
-        return f"{self.field} {self.how} {self.asked}".strip()
-
-    def holds(self, number: int) -> bool:
-        """Returns true if the condition holds for the number of the field."""
-        return compared(number, self.how, self.value)
-
-
 def compared(number: int, how: str, value: int) -> bool:
     """Returns true if a number compares with a value as `how` states."""
     match how:
@@ -275,10 +264,11 @@ def compared(number: int, how: str, value: int) -> bool:
 
 @dataclass(frozen=True, slots=True)
 class Test:
-    """FIELD, FIELD == VALUE, empty FIELD: a test of a field of a part.
+    """FIELD, not FIELD, FIELD == VALUE, empty FIELD: a test of a field.
 
-    `how` is as for `If`, or `empty`. `inner` is the tested field of the part that a case of the choice `field` holds, if the
-    test is spelled `empty FIELD.FIELD`.
+    `asked` is VALUE as it is spelled, a number or the name of a case, and `how` compares it: `==`, `!=`, `<`, `>=`, or
+    `empty`. For a field that is a bit `how` is an empty text or `not`, and `value` is 1 or 0. `inner` is the tested field of the part
+    that a case of the choice `field` holds, if the test is spelled `empty FIELD.FIELD`.
     """
 
     field: str
@@ -292,7 +282,42 @@ class Test:
         """The test as it is spelled."""
         if self.how == "empty":
             return f"empty {self.field}{f'.{self.inner}' * bool(self.inner)}"
+        if self.how == "not":
+            return f"not {self.field}"
         return f"{self.field} {self.how} {self.asked}".strip()
+
+    def holds(self, number: int) -> bool:
+        """Returns true if the number of the field passes the test."""
+        return compared(number, self.how, self.value)
+
+
+@dataclass(frozen=True, slots=True)
+class If(Field):
+    """if TEST [and TEST] NAME TYPE of MODULE, if TEST or TEST NAME TYPE of MODULE: a part, if all or some tests hold."""
+
+    use: Use
+    tests: tuple[Test, ...]
+    joined: str = "and"
+
+    @property
+    def condition(self) -> str:
+        """The condition as it is spelled."""
+        return f" {self.joined} ".join(it.condition for it in self.tests)
+
+    def holds(self, numbers: Mapping[str, int]) -> bool:
+        """Returns true if the condition holds for the numbers of the fields."""
+        found = [it.holds(numbers[it.field]) for it in self.tests]
+        return all(found) if self.joined == "and" else any(found)
+
+    @property
+    def asked(self) -> tuple[str, ...]:
+        """The fields that are tested, each once."""
+        return tuple(dict.fromkeys(it.field for it in self.tests))
+
+    @property
+    def due(self) -> str:
+        """The name of the definition of a condition of several tests, or an empty text for one test."""
+        return f"{self.name}_due" * (len(self.tests) > 1)
 
 
 @dataclass(frozen=True, slots=True)
@@ -310,17 +335,38 @@ class UpToLast(Field):
 
 @dataclass(frozen=True, slots=True)
 class Count(Line):
-    """count LIST BITS"""
+    """count LIST BITS [max N ERROR]: a number above N, the `limit`, is the error."""
 
     target: str
     width: int
+    limit: int | None = None
+    error: str = ""
+
+
+@dataclass(frozen=True, slots=True)
+class Power:
+    """power FIELD [plus N] [if BIT]: 2^(FIELD + N) items, or none if the bit is not set. Without `if`, `there` is empty."""
+
+    field: str
+    plus: int
+    there: str
+
+    def count(self, number: int, there: bool) -> int:
+        """Returns the number of items."""
+        return 1 << number + self.plus if there else 0
+
+    @property
+    def spelled(self) -> str:
+        """The number of items, as a formula."""
+        return f"2^{f'({self.field} + {self.plus})' if self.plus else self.field}"
 
 
 @dataclass(frozen=True, slots=True)
 class List(Field):
-    """list NAME ITEM: its `count` line has the number of items."""
+    """list NAME ITEM: its `count` line has the number of items. list NAME ITEM power ..: so many items."""
 
     item: Item
+    power: Power | None = None
 
 
 @dataclass(frozen=True, slots=True)
@@ -333,13 +379,20 @@ class Tag(Line):
 
 @dataclass(frozen=True, slots=True)
 class Size(Line):
-    """size NAME BITS [plus N | less N] [by N], size NAME varint quic: stores (bytes + `plus`) / `unit`."""
+    """size NAME BITS [plus N | less N] [by N], size NAME varint quic: stores (bytes + `plus`) / `unit`.
+
+    size NAME BITS [max N ERROR], size NAME vbr BITS TYPE [any] [max N ERROR], size NAME leb128 TYPE [max N ERROR]: `groups` are
+    those of the number, if it is stored in groups of bits. A number above N, the `limit`, is the error.
+    """
 
     target: str
     width: int
     unit: int
     plus: int
     varint: bool = False
+    groups: Groups | None = None
+    limit: int | None = None
+    error: str = ""
 
     @property
     def units(self) -> str:
@@ -356,7 +409,7 @@ class Size(Line):
     @property
     def most(self) -> int:
         """The greatest number of bytes."""
-        return ((1 << self.width) - 1) * self.unit - self.plus
+        return ((1 << self.width) - 1 if self.limit is None else self.limit) * self.unit - self.plus
 
 
 @dataclass(frozen=True, slots=True)
@@ -371,11 +424,13 @@ class Sized(Field):
 class Fill(Field):
     """fill NAME TYPE of MODULE ERROR: parts up to the end of the size.
 
-    Back ends have the parts of a `rest` as such a line without an error: the number of bytes is given to the read.
+    Back ends have the parts of a `rest` as such a line without an error: the number of bytes is given to the read. `plain` is
+    true of such a line in a format that has no error of its own.
     """
 
     use: Use
     error: str
+    plain: bool = False
 
 
 @dataclass(frozen=True, slots=True)
@@ -454,6 +509,7 @@ class Blocks(Field):
 # The bits of each checksum.
 SUMS = {
     "sum16": 16,
+    "sum16-udp": 16,
     "crc32": 32,
     "crc32-mpeg": 32,
     "crc24-adsb": 24,
@@ -490,6 +546,16 @@ class Check(Line):
         return self.sum.replace("-", "_")
 
     @property
+    def function(self) -> str:
+        """The name of the function from bytes to their checksum in specs."""
+        return self.word
+
+    @property
+    def called(self) -> str:
+        """The name of the function that returns the stored number of the fields."""
+        return self.word if self.lines else f"{self.word}_of"
+
+    @property
     def type(self) -> str:
         """The name of the checksum as a type."""
         return self.sum.title().replace("-", "")
@@ -497,7 +563,50 @@ class Check(Line):
     @property
     def type_bits(self) -> int:
         """The bits of the type that holds its number in code."""
-        return 32 if self.lines else self.width
+        return 64 if self.lines else self.width
+
+
+@dataclass(frozen=True, slots=True)
+class Computed(Check):
+    """computed NAME BITS [plus N | less N] [by N] over LINES ERROR: the number of bytes of lines, as LINES of a `check`.
+
+    It stores (bytes + `plus`) / `unit`, as a `Size`, and limits no line.
+    """
+
+    name: str = ""
+    bits: int = 0
+    unit: int = 1
+    plus: int = 0
+
+    @property
+    def width(self) -> int:
+        """The number of bits."""
+        return self.bits
+
+    @property
+    def word(self) -> str:
+        """The name of the number of bytes in code."""
+        return f"{self.name}_bytes"
+
+    @property
+    def function(self) -> str:
+        """The name of the function that counts bytes in specs."""
+        return "byte_count"
+
+    @property
+    def called(self) -> str:
+        """The name of the function that returns the stored number of the fields."""
+        return f"{self.name}_number" if self.units else self.word
+
+    @property
+    def type(self) -> str:
+        """The name of the count as a type."""
+        return "ByteCount"
+
+    @property
+    def units(self) -> str:
+        """The unit, the bytes that the number counts too and those that it does not, or an empty text for plain bytes."""
+        return f"{self.unit} {max(self.plus, 0)} {max(-self.plus, 0)}" if self.unit != 1 or self.plus else ""
 
 
 @dataclass(frozen=True, slots=True)
@@ -507,9 +616,16 @@ class Verify(Line):
     check: Check
 
 
+@dataclass(frozen=True, slots=True)
+class Given(Field):
+    """given NAME TYPE of MODULE: a part that the caller gives to the read. It has no bits here: checksums cover it."""
+
+    use: Use
+
+
 Described: TypeAlias = (
     Bool | Number | NonZero | MaybeNonZero | Enum | Array | Unary | Groups | Golomb | Varint | Part | Optional | If | List
-    | Sized | Fill | Choose | Rest | Until | UpToLast | Blocks
+    | Sized | Fill | Choose | Rest | Until | UpToLast | Blocks | Given
 )  # fmt: skip
 Hidden: TypeAlias = Const | Skip | Flag | Count | Tag | Size | Check | Verify
 Kind: TypeAlias = Described | Hidden
@@ -542,6 +658,41 @@ def is_whole(kind: Kind) -> bool:
         case Enum(enum=enum):
             return enum.width in (8, 16, 32)
     return False
+
+
+def sums_below(kinds: tuple[Kind, ...], check: Check) -> list[Check]:
+    """Returns the checksums that a checksum covers, and those that these cover, the innermost first."""
+    found: list[Check] = []
+    seen: list[Check] = []
+
+    def add(it: Check) -> None:
+        for one in covered(kinds, it):
+            if isinstance(one, Check) and one not in seen:
+                seen.append(one)
+                add(one)
+                found.append(one)
+
+    add(check)
+    return found
+
+
+def is_any(kind: Kind) -> bool:
+    """Returns true for a line of which each value fits its bits, and whose bits are never refused."""
+    match kind:
+        case Number(integer=whole):
+            return int(whole.base[1:]) == whole.width
+        case Array(item=Integer() as item):
+            return int(item.base[1:]) == item.width
+        case Array(item=Octet()) | Bool() | Skip():
+            return True
+        case Part(use=use):
+            return all(map(is_any, use.description.kinds))
+    return False
+
+
+def given(description: Description) -> list[Given]:
+    """Returns the parts that the caller gives to the read."""
+    return [it for it in description.kinds if isinstance(it, Given)]
 
 
 def is_bytes(kind: Kind) -> bool:
@@ -612,13 +763,28 @@ def bits(kind: Kind) -> int | None:
             return kind.enum.width
         case Array():
             return kind.item.width * kind.count
+        case Size(groups=Groups()):
+            return None
         case Const() | Skip() | Count() | Tag() | Check() | Size() if not is_varint(kind):
             return kind.width
-        case Verify():
+        case Verify() | Given():
             return 0
         case Part() if not kind.use.description.error:
             return kind.use.description.bits
     return None
+
+
+Limited: TypeAlias = Number | Count | Size
+
+
+def is_limited(kind: Kind) -> TypeGuard[Limited]:
+    """Returns true for a number with a greatest value of its own."""
+    return isinstance(kind, Number | Count | Size) and kind.limit is not None
+
+
+def grouped(kind: Kind) -> Kind:
+    """Returns the number in groups by which a size is stored, or the line itself."""
+    return kind.groups if isinstance(kind, Size) and kind.groups else kind
 
 
 def is_varint(kind: Kind) -> bool:
@@ -673,7 +839,7 @@ def held_item(kind: Kind) -> Item | None:
             return kind.enum
         case Array() | List() | Rest() | Until() | Sized():
             return kind.item
-        case Part() | Optional() | If() | Fill() | UpToLast():
+        case Part() | Optional() | If() | Fill() | UpToLast() | Given():
             return kind.use
     return None
 
@@ -687,7 +853,7 @@ def refusals(kind: Kind) -> list[tuple[str, str]]:
     """Returns the cases of the error for bits that a line refuses, each with the error of a part that it holds."""
     own = [(it.error, it.description.error) for it in uses(kind) if it.error]
     match kind:
-        case Const() | Sized() | Fill():
+        case Const() | Sized() | Fill() | Number() | Count() | Size():
             own = [(kind.error, ""), *own]
         case Verify():
             own = [(kind.check.error, "")]
@@ -769,7 +935,7 @@ def rust_type(kind: Described) -> str:
             return "i32" if kind.signed else "u32"
         case Enum():
             return kind.enum.name
-        case Part():
+        case Part() | Given():
             return kind.use.name
         case Optional() | If():
             return f"Option<{kind.use.name}>"
@@ -798,6 +964,8 @@ def span(item: Item) -> tuple[int, int] | None:
 def range_of(kind: Kind) -> tuple[int, int] | None:
     """Returns the least and the greatest value of a number, or of each number of a list."""
     match kind:
+        case Number(limit=int() as limit):
+            return 0, limit
         case Number() | Groups():
             return kind.integer.least, kind.integer.most
         case NonZero():

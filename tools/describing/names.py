@@ -6,11 +6,11 @@ from typing import TypeAlias
 
 Table: TypeAlias = dict[str, str]  # the names of each module, with blanks between them
 
-SYMBOLS = {it: f"◌{it}◌" for it in "≡ ≢ ∷ ++ ^ < ≤ + - * / ∙ == ⊎ ↔ & ||".split()}
+SYMBOLS = {it: f"◌{it}◌" for it in "≡ ≢ ∷ ++ ^ < ≤ + - * / ∙ == ⊎ ↔ & && ||".split()}
 SYMBOLS |= {"[]": "[]", "if": "if◌then◌else◌", "←": "◌>>=◌"}
 # The letters \ue000 to \ue0ff are those of hidden names (`renamed.py`).
 LETTER = r"(?:[^\W\d]|[\ue000-\ue0ff])"
-TOKEN = re.compile(rf"\+\+|==|\|\||\[\]|{LETTER}(?:\w|{LETTER})*(?:-[^\W\d]\w*)*(?:-\d+)?|\S")
+TOKEN = re.compile(rf"\+\+|==|&&|\|\||\[\]|{LETTER}(?:\w|{LETTER})*(?:-[^\W\d]\w*)*(?:-\d+)?|\S")
 
 
 def spec_of(module: str) -> str:
@@ -27,7 +27,7 @@ def table(text: str) -> Table:
 # In specs, and in the contracts of code.
 SPECS = table(
     """
-Rattle.std.specs.Prelude: ≡ ≢ ^ < ≤ + - * / ++ ∷ [] == ⊎ || if ℕ ℤ Bool true false List Result Ok Err Option Some None
+Rattle.std.specs.Prelude: ≡ ≢ ^ < ≤ + - * / ++ ∷ [] == ⊎ && || if ℕ ℤ Bool true false List Result Ok Err Option Some None
     is_some length take drop map ⊤ IfOk IsOk unsigned_abs not nat_lt nat_le
 Rattle.std.specs.List: All flat_map
 Rattle.std.specs.Option: ForSome
@@ -49,9 +49,12 @@ Rattle.bitstream_format.specs.Varint: varint_decoder varint_writes varint_size
 Rattle.bitstream_format.specs.Until: until_decoder until_writes until_size IsUnended
 Rattle.bitstream_format.specs.Blocks: blocks_decoder blocks_writes blocks_size IsBlock
 Rattle.bitstream_format.specs.UpToLast: up_to_last_decoder EndsOnce
-Rattle.bitstream_format.specs.Checks: bytes1 bytes2 bytes4 low_step high_step sum16 crc32 crc32_mpeg crc16_ccitt crc16_x25 crc16_kermit
+Rattle.bitstream_format.specs.Powers: power_count
+Rattle.bitstream_format.specs.InGroups: grouped_encoder
+Rattle.bitstream_format.specs.Checks: bytes1 bytes2 bytes4 low_step high_step byte_count sum16 sum16_udp crc32 crc32_mpeg crc16_ccitt crc16_x25 crc16_kermit
     crc24_adsb
 Rattle.bitstream_format.specs.Summed: lines_sum
+Rattle.bitstream_format.specs.Stated: stored_size
 Rattle.bitstream_io.specs.Grows: GrowingOutcome PartsRead
 Rattle.bitstream_io.specs.Loop: parts_size ItemsRead ItemsWritten
 Rattle.bitstream_io.specs.SliceMut: HoldsFirst written_bytes
@@ -77,6 +80,8 @@ Rattle.bitstream_format.specs.Chosen: Choice=FormatChoice chosen by_size Goes=Ca
 Rattle.bitstream_format.specs.Measured: varint vec Written=WrittenPart of_format of_choice of_items size_of_part stored_of_part over_bytes
     filling in_units
 Rattle.bitstream_format.specs.SizeLaws: units-again
+Rattle.bitstream_format.specs.Bounded: own_bounded
+Rattle.bitstream_format.specs.InGroupsLaws: size_in_groups
 """
 )
 
@@ -116,7 +121,7 @@ Rattle.bitstream_io.proofs.GrowsLemmas: go_grown stop_grown grown_end vec-grown
 Rattle.bitstream_io.proofs.EachLemmas: grown_made own_map_err
     made_items-finds part_items-finds part_items-misses all_ok-items made-put made-all made-stop
 Rattle.bitstream_format.proofs.RestLemmas: rest-back
-Rattle.bitstream_format.proofs.ChecksLemmas: sum16-small crc32-small crc32_mpeg-small crc16_ccitt-small crc16_x25-small crc16_kermit-small
+Rattle.bitstream_format.proofs.ChecksLemmas: sum16-small sum16_udp-small crc32-small crc32_mpeg-small crc16_ccitt-small crc16_x25-small crc16_kermit-small
     crc24_adsb-small over-then sum-then verified-back
 Rattle.bitstream_format.proofs.SummedLemmas: lines_sum-small summed unsummed
 Rattle.std.proofs.lemmas.List: map-id length-set
@@ -142,6 +147,8 @@ TAKEN = {
     "Crc32",
     "Crc32Mpeg",
     "Sum16",
+    "Sum16Udp",
+    "ByteCount",
 }
 
 
@@ -181,6 +188,8 @@ UNFOLDS: Table = {
     "Rattle.bitstream_format.specs.UpToLast": "up_to_last_from",
     "Rattle.bitstream_format.specs.Checks": "crc_over steps sum16_state",
     "Rattle.bitstream_format.specs.Summed": "lines_sum whole_bytes",
+    "Rattle.bitstream_format.specs.Powers": "power_count",
+    "Rattle.bitstream_format.specs.InGroups": "grouped_encoder",
     "Rattle.bitstream_format.specs.Stated": "size_in_units stated_size stored_size stored_encoder",
 }
 

@@ -9,6 +9,7 @@ import re
 from dataclasses import dataclass, field, replace
 from typing import Callable, Iterable, Protocol
 
+from describing import hints
 from describing import model as m
 from describing.model import Position, Refused
 from describing.words import Early, Words, number
@@ -21,11 +22,17 @@ HEADS = {
     "order": "`order BE` or `order LE`",
     "error": "`error NAME`",
 }
+ORDERS = ("==", "!=", "<", ">=")
+ONLY_PARTS = "only a part may be missing: describe it, also its size or its count, by lines of a file MODULE.fields"
 GIVEN = "`0 CASE, 1 CASE` and so on, after a colon"
 INTEGER = "`NAME TYPE BITS` or `NAME TYPE BITS x COUNT`"
+LIMITED = "a number with a greatest value is unsigned"
 ENUM = "`NAME enum TYPE BITS{}: NUMBER CASE, ..; DOC`"
 LIST = "`{0} NAME TYPE BITS`, `{0} NAME bytes`, `{0} NAME enum TYPE BITS: ..` or `{0} NAME TYPE of MODULE`"
-ARMS = "NUMBER CASE [of MODULE], .. CASE [bytes]; DOC"
+ARMS = "NUMBER TYPE of MODULE, NUMBER CASE TYPE of MODULE, NUMBER CASE, .. CASE [bytes]; DOC"
+CASES = re.compile(
+    r"(?:\d+|0x[0-9A-Fa-f]+|\.\.) [A-Z]\w*(?: of \w+)?(?:, *(?:\d+|0x[0-9A-Fa-f]+|\.\.) [A-Z]\w*(?: of \w+)?)*"
+)
 # The form of a line, by its type (the word after the name of the field) or by its first word.
 TYPES = {it: INTEGER for it in (*UNSIGNED, *SIGNED)} | {
     "bool": "`NAME bool`",
@@ -47,22 +54,25 @@ STARTS = {
     "zeros": "`zeros BITS ERROR`",
     "flag": "`flag NAME`",
     "option": "`option NAME TYPE of MODULE`",
-    "if": "`if FIELD == VALUE NAME TYPE of MODULE`",
-    "count": "`count LIST BITS`",
-    "list": LIST.format("list"),
+    "if": "`if TEST [and TEST] NAME TYPE of MODULE` or `if TEST or TEST NAME TYPE of MODULE`",
+    "count": "`count LIST BITS` or `count LIST BITS max N ERROR`",
+    "list": f"{LIST.format('list')}, the first or the last also with `power FIELD [plus N] [if BIT]`",
     "tag": "`tag NAME BITS`",
-    "size": "`size NAME BITS [plus N | less N] [by N]` or `size NAME varint quic`",
+    "size": "`size NAME BITS [plus N | less N] [by N]`, `size NAME varint quic`, `size NAME BITS max N ERROR`, "
+    "`size NAME vbr BITS TYPE [any] [max N ERROR]` or `size NAME leb128 TYPE [max N ERROR]`",
     "sized": "`sized NAME TYPE of MODULE ERROR` or `sized NAME bytes [ERROR]`",
     "fill": "`fill NAME TYPE of MODULE ERROR`",
     "choose": f"`choose NAME TYPE [by FIELD] [sized ERROR]: {ARMS}`",
     "rest": LIST.format("rest"),
     "blocks": "`blocks NAME`",
     "check": "`check SUM over FIELD.. ERROR`, `check SUM over all [to FIELD] ERROR` or `check SUM over FIELD to FIELD ERROR`",
+    "given": "`given NAME TYPE of MODULE`",
+    "computed": "`computed NAME BITS [plus N | less N] [by N] over FIELD.. ERROR`, with the same lines as `check`",
     "until": "`until NAME bytes STOP`, `until NAME TYPE BITS STOP` or `until NAME TYPE of MODULE if TEST [or TEST]`",
 }
 # The checksums that code computes over fields of whole bytes by themselves.
 PLAIN_SUMS = ("sum16", "crc32", "crc32-mpeg", "crc16-ccitt", "crc16-x25", "crc16-kermit")
-COMING = ("tag", "size", "sized", "fill", "choose", "rest", "until", "check", "blocks")
+COMING = ("tag", "size", "sized", "fill", "choose", "rest", "until", "check", "computed", "blocks", "given")
 
 
 class Find(Protocol):
@@ -113,11 +123,12 @@ def integer(words: Words, known: str = "", wraps: str = "", most: int = 0) -> m.
     return m.Integer(base, words.number(1, int(base[1:]) - most, what))
 
 
-def use(words: Words, context: Context) -> m.Use:
-    """Takes TYPE of MODULE."""
+def use(words: Words, context: Context, only: str = "") -> m.Use:
+    """Takes TYPE of MODULE; `only` says what else is refused in its place."""
     name, at = words.next(), words.place(1)
-    if words.next() != "of":
-        raise words.refuse("`NAME TYPE of MODULE`")
+    if words.peek() != "of":
+        raise Refused(only or f"`{name}` is not followed by `of MODULE`: it is {form_of(words)}", at)
+    words.next()
     module = words.next()
     found = m.Use(name, module, finding(context, module, words.place(1)))
     check_use(found, at)
@@ -132,10 +143,16 @@ def finding(context: Context, module: str, at: Position) -> m.Description:
         raise Refused(f"`{module}`: {it}" if it.at else it.why, at) from None
 
 
-def check_use(found: m.Use, at: Position) -> None:
-    """Refuses a part of another type than its module describes."""
+def only_part(form: str) -> str:
+    """Returns the refusal of what is no part where only a part may be there or not."""
+    return f"{ONLY_PARTS}, and take `{form} TYPE of MODULE`"
+
+
+def check_use(found: m.Use, at: Position, case: str = "") -> None:
+    """Refuses a part of another type than its module describes; `case` ends the reason."""
     if found.description.name != found.name:
-        raise Refused(f"`{found.module}` describes `{found.description.name}`, and not `{found.name}`", at)
+        described = found.description.name
+        raise Refused(f"`{found.module}` describes `{described}`, and not `{found.name}`{case}", at)
 
 
 def count(words: Words) -> int:
@@ -145,7 +162,7 @@ def count(words: Words) -> int:
 
 def new_enum(words: Words, name: str, width: int) -> tuple[m.EnumType, str]:
     """Parses the cases after the colon, and returns the enum and the comment after them."""
-    cases, _, doc = words.behind.partition(";")
+    cases, doc = cases_of(words)
     found: list[tuple[int, str]] = []
     other = ""
     for said in cases.split(","):
@@ -153,12 +170,24 @@ def new_enum(words: Words, name: str, width: int) -> tuple[m.EnumType, str]:
             raise Refused(f"`{said.strip()}`: a comma stands between two cases", words.place(1))
         value, case = said.split()
         if value == "..":
+            if other:
+                raise Refused(f"`{said.strip()}`: one case has all other numbers, `.. {other}`", words.place(1))
             other = case
         else:
             found.append((number(value, 0, (1 << width) - 1, "the number of a case", words.place(1)), case))
     enum = m.EnumType(name, width, tuple(found), other)
     check_enum(enum, words.place(1))
     return enum, doc.strip()
+
+
+def cases_of(words: Words) -> tuple[str, str]:
+    """Returns the cases after the colon, and the comment after them."""
+    cases, _, doc = words.behind.partition(";")
+    after = doc.partition(";")[0].strip()
+    if CASES.fullmatch(after):
+        why = "a comma stands between two cases, and a semicolon before the comment"
+        raise Refused(f"`{after}` follows a semicolon: {why}", words.place(1))
+    return cases, doc
 
 
 def check_enum(enum: m.EnumType, at: Position) -> None:
@@ -170,6 +199,8 @@ def check_enum(enum: m.EnumType, at: Position) -> None:
         raise Refused("two cases have one name, or one has that of the enum", at)
     if len(enum.cases) == 1 << enum.width and enum.other:
         raise Refused("no number is left for the other case", at)
+    if not enum.cases:
+        raise Refused(f"an enum has a case with a number: `0 CASE, .. {enum.other}`", at)
 
 
 def enum_of(words: Words, context: Context) -> tuple[m.EnumType, str, bool]:
@@ -214,12 +245,14 @@ def typed(words: Words, context: Context) -> m.Kind:
     if words.peek(1) == "of":
         return m.Part(at, words.behind, name, use(words, context))
     if not words.peek():
-        raise words.refuse(f"`{name}` is no kind of a line, and names no type after it")
+        hint = hints.no_type(name, words.behind, TYPES, STARTS | HEADS)
+        raise words.refuse(f"`{name}` is no kind of a line, and names no type after it: {hint}")
     word = words.next()
     if word in STARTS and word not in TYPES:
         raise words.refuse(f"`{word}` begins its line, and no name stands before it: {STARTS[word]}")
     if word not in TYPES:
-        raise words.refuse(f"`{word}` is no kind of a field")
+        hint = hints.of_type(name, word, [it for _, it in words.found[words.at :]], TYPES, STARTS | HEADS)
+        raise words.refuse(f"`{word}` is no kind of a field: {hint}")
     return TYPED[word](words, context, word, Position(at.line, at.column), name)
 
 
@@ -227,7 +260,17 @@ def integer_line(words: Words, context: Context, word: str, at: Position, name: 
     number = integer(words, word)
     if words.skip("x"):
         return m.Array(at, words.behind, name, number, count(words))
-    return m.Number(at, words.behind, name, number)
+    if words.peek() == "max" and number.signed:
+        raise words.refuse(LIMITED, 0)
+    return m.Number(at, words.behind, name, number, *limit(words, number.most))
+
+
+def limit(words: Words, most: int) -> tuple[int | None, str]:
+    """Takes `max N ERROR`, if it is there: the greatest value of a number, and the error for a greater one."""
+    if not words.skip("max"):
+        return None, ""
+    found = words.number(0, most - 1, "the greatest value")
+    return found, words.next()
 
 
 def bool_line(words: Words, context: Context, word: str, at: Position, name: str) -> m.Kind:
@@ -277,7 +320,8 @@ def vbr_line(words: Words, context: Context, word: str, at: Position, name: str)
 
 def leb128_line(words: Words, context: Context, word: str, at: Position, name: str) -> m.Kind:
     whole = groups_type(words, words.next())
-    number("8", 2, whole.width - 1, "the bits of a group", words.place(1))
+    if whole.width == 8:
+        raise words.refuse(f"`{whole.base}` in groups of 8 bits: take u16 to u128, or i16 to i128")
     return m.Groups(at, words.behind, name, whole, 8, True)
 
 
@@ -336,24 +380,42 @@ def flag_line(words: Words, context: Context, at: Position) -> m.Kind:
 def option_part(words: Words, context: Context, at: Position) -> m.Kind:
     name = words.next()
     if not any(isinstance(it, m.Flag) and it.target == name for it in context.kinds):
+        if name in STARTED:
+            raise words.refuse(only_part("option NAME"))
         raise words.refuse(f"no `flag {name}` before it")
-    return m.Optional(at, words.behind, name, use(words, context))
+    return m.Optional(at, words.behind, name, use(words, context, only_part(f"option {name}")))
 
 
 def if_line(words: Words, context: Context, at: Position) -> m.Kind:
+    found, joined = [asked_test(words, context)], ""
+    while words.peek() in ("and", "or") and words.peek(2) != "of":
+        if joined and words.peek() != joined:
+            raise words.refuse("a condition has `and` or `or`, and not both", 0)
+        joined = words.next()
+        found.append(asked_test(words, context))
+    name = words.next()
+    part = use(words, context, only_part("if TEST NAME"))
+    return m.If(at, words.behind, name, part, tuple(found), joined or "and")
+
+
+def asked_test(words: Words, context: Context) -> m.Test:
+    """Takes a test of an earlier field."""
+    unset = words.peek(1) not in ORDERS and words.skip("not")
     asked, place = words.next(), words.place(1)
-    if words.peek() not in ("==", "!=", "<", ">="):
+    if words.peek() not in ORDERS:
         if not any(isinstance(it, m.Bool) and it.name == asked for it in context.kinds):
-            raise Refused(f"no bit `{asked}` before it, and no `==`, `!=`, `<` or `>=` after it", place)
-        name = words.next()
-        return m.If(at, words.behind, name, use(words, context), asked, 1, "", "")
+            hint = hints.of_test(asked, words.peek(), words.peek(1))
+            hint = hint or f"no bit `{asked}` before it, and no `==`, `!=`, `<` or `>=` after it"
+            raise Refused(hint, place)
+        return m.Test(asked, "not", 0) if unset else m.Test(asked, "")
+    if unset:
+        raise Refused("`not` asks for a bit", place)
     how = words.next()
     said, there = words.next(), words.place(1)
     value = asked_value(context.kinds, asked, said, place, there)
     if any(isinstance(it, m.Enum) and it.name == asked for it in context.kinds):
         check_how(how, asked, place)
-    name = words.next()
-    return m.If(at, words.behind, name, use(words, context), asked, value, said, how)
+    return m.Test(asked, how, value, said)
 
 
 def asked_value(
@@ -371,20 +433,40 @@ def asked_value(
                 return number(said, 0, (1 << 128) - 1, "what is asked for", there)
             case (m.Unary() | m.Golomb(signed=False) | m.Varint() | m.Tag()) if it.name == asked:
                 return number(said, 0, (1 << 128) - 1, "what is asked for", there)
+    if any(isinstance(it, m.Bool) and it.name == asked for it in kinds):
+        raise Refused(f"`{asked}` is a bit: ask for `{asked}` or for `not {asked}`, and compare it with nothing", place)
     raise Refused(f"no number or enum `{asked}` {where}", place)
 
 
 def count_line(words: Words, context: Context, at: Position) -> m.Kind:
     name = words.next()
-    return m.Count(at, words.behind, name, words.number(1, 32, "the width of a count"))
+    width = words.number(1, 32, "the width of a count")
+    return m.Count(at, words.behind, name, width, *limit(words, (1 << width) - 1))
 
 
 def list_line(words: Words, context: Context, at: Position) -> m.Kind:
     name, place = words.next(), words.place(1)
     found, doc = item(words, context)
+    if words.skip("power"):
+        return m.List(at, doc, name, found, power(words, context, found))
     if not context.counted(name):
         raise Refused(f"no `count {name} BITS` before it", place)
     return m.List(at, doc, name, found)
+
+
+def power(words: Words, context: Context, found: m.Item) -> m.Power:
+    """Takes FIELD [plus N] [if BIT] of a list whose number of items is a power of two."""
+    if isinstance(found, m.Octet | m.EnumType):
+        raise words.refuse("a power of two counts numbers or parts")
+    name = words.next()
+    number = next((it for it in context.kinds if isinstance(it, m.Number) and it.name == name), None)
+    if number is None or number.integer.base != "u8" or number.integer.width > 5:
+        raise words.refuse(f"no number `{name} u8 BITS` of at most 5 bits before it")
+    plus = words.number(0, 8, "what is added") if words.skip("plus") else 0
+    there = words.next() if words.skip("if") else ""
+    if there and not any(isinstance(it, m.Bool) and it.name == there for it in context.kinds):
+        raise words.refuse(f"no bit `{there}` before it")
+    return m.Power(name, plus, there)
 
 
 def tag_line(words: Words, context: Context, at: Position) -> m.Kind:
@@ -397,13 +479,37 @@ def size_line(words: Words, context: Context, at: Position) -> m.Kind:
     if words.peek() == "varint":
         quic(words)
         return m.Size(at, words.behind, name, 62, 1, 0, True)
-    width, unit, plus = words.number(1, 64, "the width of a size"), 1, 0
+    if words.peek() in ("vbr", "leb128"):
+        return grouped_size(words, context, at, name)
+    width = words.number(1, 64, "the width of a size")
+    if words.peek() == "max":
+        most, error = limit(words, (1 << width) - 1)
+        return m.Size(at, words.behind, name, width, 1, 0, False, None, most, error)
+    unit, plus = units(words)
+    return m.Size(at, words.behind, name, width, unit, plus)
+
+
+def units(words: Words) -> tuple[int, int]:
+    """Takes `[plus N | less N] [by N]`, and returns the bytes of a unit and what is added."""
+    unit, plus = 1, 0
     if words.peek() in ("plus", "less"):
         sign = 1 if words.next() == "plus" else -1
         plus = sign * words.number(1, 1 << 16, "what is added")
     if words.peek() == "by" and words.next():
         unit = words.number(2, 4096, "the bytes of a unit")
-    return m.Size(at, words.behind, name, width, unit, plus)
+    return unit, plus
+
+
+def grouped_size(words: Words, context: Context, at: Position, name: str) -> m.Kind:
+    """Takes the rest of a size in groups of bits."""
+    word = words.next()
+    groups = (vbr_line if word == "vbr" else leb128_line)(words, context, word, at, name)
+    assert isinstance(groups, m.Groups)
+    whole = groups.integer
+    if whole.signed or whole.width > 32:
+        raise Refused(f"`{whole.base}` for a size in groups: take u8, u16 or u32", at)
+    most, error = limit(words, whole.most)
+    return m.Size(at, words.behind, name, whole.width, 1, 0, False, groups, most, error)
 
 
 def sized_line(words: Words, context: Context, at: Position) -> m.Kind:
@@ -438,7 +544,7 @@ def choose_line(words: Words, context: Context, at: Position) -> m.Kind:
     width = tag_width(context, by, place)
     if any(isinstance(it, m.Choose) and it.by == by for it in context.kinds) and context.tagged(by):
         raise Refused(f"two choices by one tag, `{by}`", place)
-    said, _, doc = words.behind.partition(";")
+    said, doc = cases_of(words)
     arms = tuple(arm(words, context, it.split(), width) for it in said.split(","))
     check_arms(arms, width, place)
     return m.Choose(at, doc.strip(), name, type, by, sized, overrun, arms, width)
@@ -462,12 +568,14 @@ def arm(words: Words, context: Context, said: list[str], width: int) -> m.Arm:
     number_of = None if value == ".." else number(value, 0, (1 << width) - 1, "the number of a case", at)
     if said[2:] == ["bytes"]:
         return m.Arm(number_of, case, m.Octet())
-    if said[-2:-1] == ["of"]:
+    if said[-2:-1] == ["of"] and len(said) in (4, 5):
         found = m.Use(said[-3], said[-1], finding(context, said[-1], at))
-        check_use(found, at)
+        own = f"{value} {case} {found.description.name} of {found.module}"
+        check_use(found, at, f": a case with a name of its own is `{own}`" * (len(said) == 4))
         return m.Arm(number_of, case, found)
     if len(said) > 2:
-        raise Refused(f"`{' '.join(said[2:])}` is not understood after the case `{case}`", at)
+        why = f"`{' '.join(said[2:])}` is not understood after the case `{case}`"
+        raise Refused(f"{why}: a case is `NUMBER TYPE of MODULE`, `NUMBER CASE TYPE of MODULE` or `NUMBER CASE`", at)
     return m.Arm(number_of, case, None)
 
 
@@ -521,7 +629,7 @@ def test(words: Words, part: m.Description) -> m.Test:
         if not any(inner in lists_in(it) if inner else is_list(it) for it in part.fields if it.name == name):
             raise words.refuse(f"`{part.name}` has no list `{name}{f'.{inner}' * bool(inner)}`")
         return m.Test(name, "empty", inner=inner)
-    if words.peek() not in ("==", "!=", "<", ">="):
+    if words.peek() not in ORDERS:
         if not any(isinstance(it, m.Bool) and it.name == asked for it in part.fields):
             raise Refused(f"`{part.name}` has no bit `{asked}`, and no `==`, `!=`, `<` or `>=` after it", place)
         return m.Test(asked, "")
@@ -568,27 +676,50 @@ def blocks_line(words: Words, context: Context, at: Position) -> m.Kind:
     return m.Blocks(at, words.behind, name)
 
 
+def given_line(words: Words, context: Context, at: Position) -> m.Kind:
+    name = words.next()
+    return m.Given(at, words.behind, name, use(words, context))
+
+
 def check_line(words: Words, context: Context, at: Position) -> m.Kind:
     name = words.next()
     if name not in m.SUMS:
         raise words.refuse(f"`{name}` is no checksum: take one of {', '.join(m.SUMS)}")
+    over, error, span = covered_lines(words, f"`check {name} over FIELD.. ERROR`")
+    doc = words.behind or f"The checksum of {lines_text(over, span)} is another one."
+    return m.Check(at, doc, name, over, error, span, span)
+
+
+def covered_lines(words: Words, form: str) -> tuple[tuple[str, ...], str, bool]:
+    """Takes `over LINES ERROR`, and returns the lines, the error, and true if these are all lines from one to another."""
     if words.next() != "over":
-        raise words.refuse(f"`check {name} over FIELD.. ERROR`")
+        raise words.refuse(form)
     over = [words.next()]
     while words.peek(1):
         over.append(words.next())
-    error = words.next()
+    error, at = words.next(), words.place()
     if over[0] == "all" and over[1:2] in ([], ["to"]) and len(over) in (1, 3):
-        doc = words.behind or "The checksum of the lines is another one."
-        return m.Check(at, doc, name, ("", "".join(over[2:])), error, True, True)
+        return ("", "".join(over[2:])), error, True
     if over[1:2] == ["to"] and len(over) == 3:
-        doc = words.behind or f"The checksum of the lines from `{over[0]}` to `{over[2]}` is another one."
-        return m.Check(at, doc, name, (over[0], over[2]), error, True, True)
+        return (over[0], over[2]), error, True
     if len(set(over)) < len(over):
         raise Refused("a field counts once in a checksum", at)
-    named = ", ".join(f"`{it}`" for it in over[:-1]) + " and " * (len(over) > 1) + f"`{over[-1]}`"
-    doc = words.behind or f"The checksum of {named} is another one."
-    return m.Check(at, doc, name, tuple(over), error)
+    return tuple(over), error, False
+
+
+def lines_text(over: tuple[str, ...], span: bool) -> str:
+    """Returns the text that names the lines of a checksum."""
+    if span:
+        return f"the lines from `{over[0]}` to `{over[1]}`" if over[0] else "the lines"
+    return ", ".join(f"`{it}`" for it in over[:-1]) + " and " * (len(over) > 1) + f"`{over[-1]}`"
+
+
+def computed_line(words: Words, context: Context, at: Position) -> m.Kind:
+    name, width = words.next(), words.number(1, 60, "the width of a computed number")
+    unit, plus = units(words)
+    over, error, span = covered_lines(words, STARTS["computed"])
+    doc = words.behind or f"The number of bytes of {lines_text(over, span)} is another one."
+    return m.Computed(at, doc, "bytes", over, error, span, True, name, width, unit, plus)
 
 
 TypedLine = Callable[[Words, Context, str, Position, str], m.Kind]
@@ -623,6 +754,8 @@ STARTED: dict[str, StartedLine] = {
     "choose": choose_line,
     "rest": rest_line,
     "check": check_line,
+    "given": given_line,
+    "computed": computed_line,
     "blocks": blocks_line,
     "until": until_line,
 }
@@ -655,7 +788,7 @@ def kind_of(words: Words, context: Context) -> m.Kind:
         found = STARTED[words.next()](words, context, at)
     else:
         found = typed(words, context)
-    words.end()
+    words.end(form_of)
     return found
 
 
@@ -675,8 +808,11 @@ class Head:
 def take_head(head: Head, words: Words) -> None:
     """Parses `struct`, `part`, `order` or `error`."""
     word, at = words.next(), words.place(1)
-    value = words.next()
-    head.heads["struct" if word == "part" else word] = at
+    value, key = words.next(), "struct" if word == "part" else word
+    words.end(lambda it: HEADS[word])
+    if key in head.heads:
+        raise Refused(f"a description has one line `{key}`, and line {head.heads[key].line} is one", at)
+    head.heads[key] = at
     if word in ("struct", "part"):
         head.whole = word == "struct"
         head.name, head.doc = value, words.behind or f"A {value}."
@@ -688,7 +824,7 @@ def take_head(head: Head, words: Words) -> None:
 
 def take(head: Head, context: Context, words: Words) -> None:
     """Parses one line."""
-    if words.peek() in HEADS and len(words.found) < 3 and words.peek(1) not in TYPES:
+    if words.peek() in HEADS and words.peek(1) not in TYPES and words.peek(2) != "of":
         take_head(head, words)
     elif words.peek() == "example":
         digits = " ".join(it for _, it in words.found[1:])
@@ -719,19 +855,29 @@ def check_sum(kinds: tuple[m.Kind, ...], check: m.Check, names: list[str]) -> No
     """Refuses a checksum of a field that no line describes, of no line, or of bits that are no whole bytes."""
     missing = [it for it in check.over if it and it not in names]
     if missing:
-        raise Refused(f"no field `{missing[0]}`", check.at)
+        all = ": `over all` stands alone, or before `to FIELD`" * (missing[0] == "all")
+        meant = hints.near(missing[0], names)
+        raise Refused(f"no field `{missing[0]}`{all or f': did you mean `{meant}`?' * bool(meant)}", check.at)
     covers = m.covered(kinds, check)
     if not covers:
-        raise Refused("the checksum covers no line", check.at)
-    if any(isinstance(it, m.Check) and kinds.index(it) > kinds.index(check) for it in covers):
-        raise Refused("a checksum covers no later checksum", check.at)
+        why = "`over all` is the lines before it, `over all to FIELD` also later ones, and `over FIELD to FIELD` those in order"
+        raise Refused(f"the {noun(check)} covers no line: {why}", check.at)
+    if any(it.at == check.at for it in m.sums_below(kinds, check)):
+        raise Refused(f"the {noun(check)} covers one that covers it", check.at)
     bits = m.total(covers)
     if bits is not None and bits % 8:
-        raise Refused(f"the lines of the checksum have {bits} bits, which are no whole bytes", check.at)
+        raise Refused(f"the lines of the {noun(check)} have {bits} bits, which are no whole bytes", check.at)
+
+
+def noun(check: m.Check) -> str:
+    """Returns the word for a checksum or a computed number."""
+    return "computed number" if isinstance(check, m.Computed) else "checksum"
 
 
 def of_lines(kinds: tuple[m.Kind, ...], check: m.Check, order: str) -> m.Check:
     """Returns a checksum, with `lines` set if its fields are not bytes and numbers of whole bytes alone."""
+    if isinstance(check, m.Computed):
+        return check
     covers = m.covered(kinds, check)
     plain = all(m.is_bytes(it) or order == "BE" and m.is_whole(it) for it in covers)
     if check.sum == "sum16":
@@ -743,13 +889,18 @@ def words_of(line: str, count: int) -> Words:
     """Splits a line into words, each with its column."""
     head, _, behind = line.partition(":")
     found = [(it.start(), it[0]) for it in re.finditer(r"\S+", head)]
-    return Words(count, found, behind.strip())
+    for it in behind.strip():
+        if ord(it) < 32 and it != "\t" or 127 <= ord(it) < 160:
+            raise Refused(
+                f"the comment has the control character U+{ord(it):04X}: delete it", Position(count, len(head) + 2)
+            )
+    return Words(count, found, behind.strip().replace("\t", " "))
 
 
 def parsed(text: str, find: Find) -> m.Description:
     """Returns the model of a description. `describing.checks` refuses lines that do not belong together."""
     head, context = Head(), Context(find)
-    for count, line in enumerate(text.split("\n"), 1):
+    for count, line in enumerate(text.removeprefix("\ufeff").split("\n"), 1):
         words = words_of(line, count)
         if not words.found or words.peek().startswith("#"):
             continue
@@ -765,6 +916,31 @@ def parsed(text: str, find: Find) -> m.Description:
     return m.Description(head.name, head.doc, head.order, head.error, kinds, head.heads, examples, head.whole)
 
 
+def description_text(path: str) -> str:
+    """Returns the text of a description file."""
+    with open(path, "rb") as file:
+        data = file.read()
+    try:
+        return data.decode("utf-8").replace("\r\n", "\n").replace("\r", "\n")
+    except UnicodeDecodeError as it:
+        line, start = data.count(b"\n", 0, it.start) + 1, data.rfind(b"\n", 0, it.start) + 1
+        why = f"this is no text in UTF-8, and so no description: the byte here is 0x{data[it.start]:02X}"
+        raise Refused(why, Position(line, it.start - start + 1), path) from None
+
+
+def module_hint(place: str, module: str) -> str:
+    """Returns what may have been meant by a module that has no description."""
+    folder = os.path.dirname(place) or "."
+    if "/" in module or not os.path.isdir(folder):
+        return ": a module is a name, and its file is in the same folder"
+    known = [
+        it.removesuffix(".fields") for it in sorted(os.listdir(folder)) if os.path.isfile(os.path.join(folder, it))
+    ]
+    known = [it for it in known if os.path.exists(os.path.join(folder, f"{it}.fields"))]
+    found = hints.near(m.snake(module.removesuffix(".fields")).replace("-", "_"), known)
+    return f": did you mean `{found}`?" * bool(found)
+
+
 def beside(path: str, within: tuple[str, ...], check: Callable[[m.Description], None]) -> Find:
     """Returns the function that finds the description of a module in the folder of `path`."""
 
@@ -772,10 +948,9 @@ def beside(path: str, within: tuple[str, ...], check: Callable[[m.Description], 
         place = os.path.join(os.path.dirname(path), f"{module}.fields")
         if module in within:
             raise Refused(f"`{module}` is a part of itself")
-        if not os.path.exists(place):
-            raise Refused(f"no description `{module}.fields` stands beside this one")
-        with open(place, encoding="utf-8") as file:
-            found = parsed(file.read(), beside(place, (*within, module), check))
+        if not os.path.isfile(place):
+            raise Refused(f"no description `{module}.fields` stands beside this one{module_hint(place, module)}")
+        found = parsed(description_text(place), beside(place, (*within, module), check))
         check(found)
         return found
 

@@ -31,6 +31,8 @@ def said(kind: m.Kind, kinds: tuple[m.Kind, ...]) -> str:
             return "zeros up to a 1" if kind.stop else "ones up to a 0"
         case m.Groups():
             return f"groups of {kind.group} bits"
+        case m.Size(groups=m.Groups(group=group)):
+            return f"groups of {group} bits"
         case m.Golomb():
             return f"Exp-Golomb, {'se' if kind.signed else 'ue'}"
         case m.Varint() | m.Size():
@@ -41,6 +43,8 @@ def said(kind: m.Kind, kinds: tuple[m.Kind, ...]) -> str:
             return f"{kind.use.name}, if it is there"
         case m.List(item=m.Octet()):
             return f"{kind.name}_count bytes"
+        case m.List(power=m.Power() as power):
+            return f"{power.spelled} of {m.item_type(kind.item)}{f', if {power.there}' * bool(power.there)}"
         case m.List():
             return f"{kind.name}_count of {m.item_type(kind.item)}"
         case m.Sized() | m.Fill():

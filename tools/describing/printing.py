@@ -2,15 +2,19 @@
 from __future__ import annotations
 
 import os
+import re
+import shutil
 import subprocess
 import tempfile
 from typing import Mapping
 
 from describing import model as m
+from describing import reserved
 from describing.examples import described
 from describing.layout import Format
 from describing.model import Refused
 from describing.names import TAKEN
+from describing.parse import description_text
 from describing.proofs import calls
 from describing.proofs import printed as proofs
 from describing.renamed import renamed, shown
@@ -46,16 +50,26 @@ def format_of(description: str, folder: str, name: str) -> Format:
 
 def plain_format(description: str, folder: str, name: str) -> Format:
     """Returns the same with the names of the description."""
+    check_module(name)
     taken = {f"{name}_{it}" for it in ("decoder", "writes", "bits", "size", "at")} & (TAKEN | {"groups_at"})
     if taken:
         raise Refused(f"the library has a `{min(taken)}`: take another name for the module")
     inside = os.path.relpath(description, folder)
     path = os.path.basename(description) if inside.startswith("..") else inside
-    said = described(text_of(description), description, name)
+    said = described(description_text(description), description, name)
     for it in said.kinds:
         if isinstance(it, m.Choose) and m.snake(it.type) == name:
             raise Refused(f"`{it.type}` has the name of the module: take another one", it.at)
     return Format(os.path.basename(os.path.abspath(folder)), name, said, path)
+
+
+def check_module(name: str) -> None:
+    """Refuses a name that no module of a crate can have."""
+    if not re.fullmatch("[a-z][a-z0-9_]*", name):
+        why = "a module has lower-case letters, digits and `_`: rename the file, or name the module after the folder"
+        raise Refused(f"`{name}` is no name of a module: {why}")
+    if name in reserved.WORDS or name in ("lib", "main"):
+        raise Refused(f"`{name}` is a name that no module has: rename the file, or name the module after the folder")
 
 
 def root_of(folder: str) -> str:
@@ -65,6 +79,8 @@ def root_of(folder: str) -> str:
 
 def lay_out(crate: str) -> None:
     """Runs `rt fmt` in a crate."""
+    if not shutil.which("rt"):
+        raise Refused("there is no `rt` in the path, which lays out what is printed")
     ran = subprocess.run(["rt", "fmt"], cwd=crate, capture_output=True, text=True, check=False)
     if ran.returncode:
         raise Refused(f"rt fmt: {(ran.stdout + ran.stderr).strip()}")
@@ -123,10 +139,22 @@ def add_line(folder: str, place: str, line: str) -> None:
 def write(description: str, folder: str, name: str = "") -> int:
     """Writes the files of a format, and the lines that name them; returns how many lines are written."""
     name = name or os.path.splitext(os.path.basename(description))[0]
-    f, files = printed({description: name}, folder)[0]
-    for place, text in files.items():
-        put(folder, place, text)
-    for place, lines in listed(f, root_of(folder)).items():
-        for line in lines:
-            add_line(folder, place, line)
-    return sum(text.count("\n") for text in files.values())
+    own = os.path.join(folder, "src", f"{name}.rt")
+    if os.path.exists(own) and (text := text_of(own)) and "Made by `./format` from" not in text:
+        raise Refused(
+            f"{own} is there, and `./format` did not print it: move it, or name another module after the folder"
+        )
+    return write_all({description: name}, folder)
+
+
+def write_all(descriptions: Mapping[str, str], folder: str) -> int:
+    """Does so for formats by path and module, each after its parts."""
+    written = 0
+    for f, files in printed(descriptions, folder):
+        for place, text in files.items():
+            put(folder, place, text)
+            written += text.count("\n")
+        for place, lines in listed(f, root_of(folder)).items():
+            for line in lines:
+                add_line(folder, place, line)
+    return written

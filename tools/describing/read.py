@@ -2,11 +2,11 @@
 from __future__ import annotations
 
 from dataclasses import dataclass
-from typing import Callable, TypeAlias
+from typing import Callable, Mapping, TypeAlias
 
 from describing import model as m
 from describing.input import Input, ReadError, Value
-from describing.write import checksum_of, is_last
+from describing.write import Unfit, checksum_of, is_last
 
 
 @dataclass(slots=True)
@@ -51,6 +51,8 @@ def values(kind: m.Kind) -> Callable[[Input], Value] | None:
             return lambda row: row.number(width)
         case m.Varint() | m.Size(varint=True):
             return lambda row: row.number(8 * (1 << row.number(2)) - 2)
+        case m.Size(groups=m.Groups() as groups):
+            return of_groups(groups)
         case m.Size(width=width, unit=unit, plus=plus):
             return lambda row: row.number(width) * unit - plus
         case m.Enum(enum=enum):
@@ -251,8 +253,10 @@ def composite(kind: m.Kind) -> Composite:
             return lambda row, scope: part(row)
         case m.Optional(name=name, use=use):
             return there_reader(use, lambda scope: scope[f"has_{name}"] == 1)
-        case m.If(field=field, use=use, holds=holds):
-            return there_reader(use, lambda scope: holds(scope[field]))
+        case m.If(use=use, holds=holds):
+            return there_reader(use, holds)
+        case m.List(item=item, power=m.Power() as power):
+            return powered(power, item)
         case m.List(item=item, name=name):
             return counted(name, item)
         case m.Rest(item=item):
@@ -282,6 +286,17 @@ def counted(name: str, item: m.Item) -> Composite:
 
     def read(row: Input, scope: Scope) -> tuple[Value, list[Node]]:
         count = scope[f"{name}_count"]
+        return many(row, one, lambda found: len(found) < count)
+
+    return read
+
+
+def powered(power: m.Power, item: m.Item) -> Composite:
+    """Returns the reader of a list whose number of items is a power of two."""
+    one = item_reader(item)
+
+    def read(row: Input, scope: Scope) -> tuple[Value, list[Node]]:
+        count = power.count(scope[power.field], not power.there or scope[power.there] == 1)
         return many(row, one, lambda found: len(found) < count)
 
     return read
@@ -378,8 +393,23 @@ def choice(kind: m.Choose) -> Composite:
 
 def reader_of(kind: m.Kind) -> Reader:
     """Returns the reader of a line."""
-    simple = values(kind)
+    simple = limited(kind, values(kind))
     return composite_reader(kind, composite(kind)) if simple is None else simple_reader(kind, simple)
+
+
+def limited(kind: m.Kind, simple: Callable[[Input], Value] | None) -> Callable[[Input], Value] | None:
+    """Returns a reader that also refuses a number above the greatest value of its line."""
+    if simple is None or not m.is_limited(kind):
+        return simple
+    one, most, error = simple, kind.limit or 0, kind.error
+
+    def read(row: Input) -> Value:
+        at, found = row.at, one(row)
+        if number_in(found) > most:
+            raise ReadError(error, at, why=f"The number is {number_in(found)}, and the greatest one is {most}.")
+        return found
+
+    return read
 
 
 def composite_reader(kind: m.Kind, parts: Composite) -> Reader:
@@ -428,17 +458,32 @@ def number_in(value: Value) -> int:
 def verify(check: m.Check, nodes: list[Node], description: m.Description) -> None:
     """Refuses a record whose checksum is not that of its lines, as they are written."""
     values = {it.name: it.value for it in nodes if it.kind is not None and m.is_field(it.kind)}
-    stored = next(it for it in nodes if it.kind is check)
-    found = checksum_of(check, description, values)
+    stored = next(it for it in nodes if it.kind == check)
+    try:
+        found = checksum_of(check, description, values)
+    except Unfit as it:
+        raise ReadError(check.error, stored.start, why=str(it)) from None
+    what = f"number is {found}" if isinstance(check, m.Computed) else f"{check.sum} is {found:#x}"
     if stored.value != found:
-        raise ReadError(check.error, stored.start, why=f"The {check.sum} is {found:#x}.")
+        raise ReadError(check.error, stored.start, why=f"The {what}.")
 
 
-def record_reader(description: m.Description) -> Callable[[Input], list[Node]]:
-    """Returns the reader of all lines of a description, in order."""
-    readers: list[m.Verify | Reader] = []
+def given_node(kind: m.Given, given: Mapping[str, Value], row: Input) -> Node:
+    """Returns the node of a given part, which has no bits."""
+    return Node(kind.name, kind, row.at, row.at, given.get(kind.name), [])
+
+
+def record_reader(description: m.Description, given: Mapping[str, Value] = {}) -> Callable[[Input], list[Node]]:
+    """Returns the reader of all lines of a description, in order, with the parts that it is given.
+
+    A checksum of a part that is not given is not tested.
+    """
+    readers: list[m.Verify | m.Given | Reader] = []
+    missing = [it for it in m.given(description) if it.name not in given]
     for kind in description.kinds:
-        readers.append(kind if isinstance(kind, m.Verify) else reader_of(kind))
+        if isinstance(kind, m.Verify) and any(it in missing for it in m.covered(description.kinds, kind.check)):
+            continue
+        readers.append(kind if isinstance(kind, m.Verify | m.Given) else reader_of(kind))
 
     def read(row: Input) -> list[Node]:
         scope: Scope = {}
@@ -446,6 +491,8 @@ def record_reader(description: m.Description) -> Callable[[Input], list[Node]]:
         for one in readers:
             if isinstance(one, m.Verify):
                 verify(one.check, found, description)
+            elif isinstance(one, m.Given):
+                found.append(given_node(one, given, row))
             else:
                 found.append(one(row, scope))
         return found

@@ -48,7 +48,7 @@ def hide(it: m.Description, names: set[str]) -> m.Description:
 def hidden_kind(kind: Held, names: set[str]) -> Held:
     """Returns a line with hidden names."""
     found: dict[str, object] = {}
-    for attribute in ("name", "target", "field", "by"):
+    for attribute in ("name", "target", "by"):
         said = getattr(kind, attribute, None)
         if isinstance(said, str) and said in names:
             found[attribute] = hidden(said)
@@ -58,8 +58,11 @@ def hidden_kind(kind: Held, names: set[str]) -> Held:
             found[attribute] = hidden_use(use, names)
     if isinstance(kind, m.Check):
         found["over"] = tuple(hidden(it) if it in names else it for it in kind.over)
-    if isinstance(kind, m.UpToLast):
+    if isinstance(kind, m.UpToLast | m.If):
         found["tests"] = tuple(hidden_test(it, names) for it in kind.tests)
+    if isinstance(kind, m.List) and kind.power:
+        field, there = (hidden(it) if it in names else it for it in (kind.power.field, kind.power.there))
+        found["power"] = dataclasses.replace(kind.power, field=field, there=there)
     if isinstance(kind, m.Verify):
         found["check"] = hidden_kind(kind.check, names)
     if isinstance(kind, m.Choose):

@@ -8,6 +8,8 @@ WORDS = frozenset(
     struct super trait true try type typeof unsafe unsized use virtual where while yield
     """.split()
 )
+# Words of the languages that would be a type or a case.
+TYPE_WORDS = frozenset(("Self", "Type"))
 # Words of the language of proofs, which are in quotes as the name of a field.
 QUOTED = frozenset(
     """

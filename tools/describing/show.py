@@ -29,6 +29,11 @@ numbered from 0, and the lines of JSON from 1.
 
     choose body Body by kind: 1 Ack of ack, 2 Raw bytes  a choice with a case that holds bytes
     rest items u16 16                                  items of a list up to the end of the bytes, or of the size around
+    sized body Notes of notes OtherSize                a part of a size in plain bytes whose last line is a `rest`
+    size body leb128 u32                               the size of anything but a choice in groups of bits; `leb128` and
+                                                       `any` also accept more groups than needed
+    size body 16 max 1500 LongBody                     the error's variant for a size in bits above 1500
+    level u8 4 max 8 High                              a number with a greatest value, if all widths are constants
     until name u16 16 0                                numbers up to the first 0, which is no item; or any width
     check crc32 over level Wrong                       a checksum of fields of any kind
 
@@ -52,6 +57,7 @@ from describing.examples import described
 from describing.flat import Plan
 from describing.input import Input, Value
 from describing.model import Refused
+from describing.parse import description_text
 from describing.read import value_of
 from describing.records import Ended, Fields, Options, Record, Records
 from describing.write import EXACT, Unfit, packed, record
@@ -61,8 +67,10 @@ CHUNK = 1 << 16
 
 def loaded(path: str) -> m.Description:
     """Returns the model of a description file. Names that only printed text would refuse are allowed."""
-    with open(path, encoding="utf-8") as file:
-        return described(file.read(), path, os.path.basename(path).removesuffix(".fields"), names=False)
+    try:
+        return described(description_text(path), path, os.path.basename(path).removesuffix(".fields"), names=False)
+    except Refused as it:
+        raise Refused(it.why, it.at, it.path or path) from None
 
 
 def report(text: str) -> None:
@@ -300,6 +308,8 @@ def no_json(why: Exception) -> str:
             return f", byte {why.start + 1}: no JSON: the bytes are no UTF-8"
         case RecursionError():
             return ": too many brackets inside each other"
+        case ValueError() if "integer string conversion" in str(why):
+            return ": a number has more than 4300 digits"
     return f": {why}"
 
 
@@ -310,8 +320,11 @@ def arguments(words: list[str]) -> argparse.Namespace:
     what = parser.add_mutually_exclusive_group(required=True)
     for name in ("show", "pack", "help"):
         what.add_argument(f"--{name}", action="store_true")
-    for name in ("repeat", "table", "html", "picture", "svg", "keep-going", "numbered"):
+    for name in ("repeat", "keep-going", "numbered"):
         parser.add_argument(f"--{name}", action="store_true")
+    how = parser.add_mutually_exclusive_group()
+    for name in ("table", "html", "picture", "svg"):
+        how.add_argument(f"--{name}", action="store_true")
     parser.add_argument("--offset", type=whole, default=0)
     parser.add_argument("--skip", default="0")
     parser.add_argument("--count", type=whole)
@@ -334,9 +347,12 @@ class Arguments(argparse.ArgumentParser):
 
 def whole(text: str) -> int:
     """Returns a number that is not negative, in decimal or in hex."""
-    found = int(text, 0)
+    try:
+        found = int(text, 0)
+    except ValueError:
+        found = -1
     if found < 0:
-        raise ValueError(text)
+        raise argparse.ArgumentTypeError(f"`{text}` is no number from 0 on")
     return found
 
 
@@ -365,6 +381,14 @@ def check_numbered(it: m.Description) -> None:
     """Refuses `--numbered` for a description that has a field of the same name."""
     for name in {kind.name for kind in it.fields} & set(NUMBERED):
         raise Refused(f"--numbered: the description has a field `{name}` of its own")
+
+
+def check_streams(asked: argparse.Namespace) -> None:
+    """Refuses a standard input or output that is closed."""
+    read: object = sys.stdin
+    written: object = sys.stdout
+    if written is None or read is None and asked.file is None and not (asked.picture or asked.svg):
+        raise Refused(f"the standard {'output' if written is None else 'input'} is closed")
 
 
 def run(asked: argparse.Namespace) -> None:
@@ -399,6 +423,7 @@ def main(words: list[str]) -> int:
         print(f"usage: {(__doc__ or '').split('usage: ')[1]}", end="")
         return 0
     try:
+        check_streams(asked)
         run(asked)
         sys.stdout.flush()
     except BrokenPipeError:
@@ -407,12 +432,11 @@ def main(words: list[str]) -> int:
         report(str(it))
         return it.status
     except OSError as it:
-        report(f"{it.filename or asked.description}: {it.strerror}")
-        return 2
-    except UnicodeDecodeError:
-        report(f"{asked.description}: this is no text, and so no description; the file that is read comes after it")
+        report(f"{it.filename or 'the input or the output'}: {it.strerror}")
         return 2
     except Refused as it:
-        report(f"{asked.description}: {it}")
+        if sys.__stdout__:
+            sys.stdout.flush()
+        print(it.message(asked.description), file=sys.stderr)
         return 2
     return 0

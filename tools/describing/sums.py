@@ -44,4 +44,6 @@ def checksum(name: str, data: bytes) -> int:
             return low_crc(0x8408, 0xFFFF, data) ^ 0xFFFF
         case "crc16-kermit":
             return low_crc(0x8408, 0, data)
+        case "sum16-udp":
+            return sum16(data) or 0xFFFF
     return sum16(data)

@@ -18,12 +18,25 @@ def filled(text: str, indent: int) -> str:
     return "\n".join(lines)
 
 
+def remark(text: str) -> str:
+    """Breaks a comment of specs or proofs at blanks; each of its lines begins with `--`."""
+    lines: list[str] = []
+    for word in text.split(" ")[1:]:
+        if lines and len(lines[-1]) + 1 + len(word) <= COLUMNS:
+            lines[-1] += f" {word}"
+        else:
+            lines.append(f"-- {word}")
+    return "\n".join(lines)
+
+
 def wrapped(text: str) -> str:
     """Breaks the long lines of specs and proofs, except imports."""
     lines = []
     for it in text.split("\n"):
         indent = len(it) - len(it.lstrip())
-        lines.append(filled(it, indent + 4) if len(it) > COLUMNS and not it.startswith("use ") else it)
+        if len(it) > COLUMNS and not it.startswith("use "):
+            it = remark(it) if it.startswith("-- ") else filled(it, indent + 4)
+        lines.append(it)
     return "\n".join(lines)
 
 

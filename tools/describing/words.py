@@ -1,7 +1,9 @@
 """The words of one line of a description, taken from left to right."""
 from __future__ import annotations
 
+import re
 from dataclasses import dataclass
+from typing import Callable
 
 from describing.model import Position, Refused
 
@@ -54,21 +56,23 @@ class Words:
         word = self.next()
         return number(word, least, most, what, self.place(1))
 
-    def end(self) -> None:
-        """Refuses the words that are left."""
+    def end(self, form: Callable[[Words], str]) -> None:
+        """Refuses the words that are left; `form` returns the form of the line."""
         words = [it for _, it in self.found]
         if self.at < len(words):
-            behind = " ".join(words[self.at :])
+            at, behind = self.place(), " ".join(words[self.at :])
+            remark = "a comment follows a colon" if behind.startswith(("#", "//", "--", ";", "/*")) else ""
             why = f"`{behind}` is not understood after `{' '.join(words[: self.at])}`"
-            raise Refused(why, self.place())
+            raise Refused(f"{why}: {remark or f'it is {form(self)}'}", at)
 
 
 def number(word: str, least: int, most: int, what: str, at: Position) -> int:
     """Returns the number that a word spells, if it is in a range."""
     try:
-        found = int(word, 0)
+        found = int(word if word.isascii() else "", 0)
     except ValueError:
-        raise Refused(f"{what} is `{word}`, which is no number", at) from None
+        hint = f": a number in hex is `0x{word}`" * bool(re.fullmatch("[0-9]*[A-Fa-f][0-9A-Fa-f]*", word))
+        raise Refused(f"{what} is `{word[:40]}`, which is no number{hint}", at) from None
     if not least <= found <= most:
         raise Refused(f"{what} is {found}, and not in {least}..={most}", at)
     return found

@@ -221,6 +221,8 @@ def put_field(bits: Bits, kind: m.Described, value: Value, whole: Record, name: 
                 raise unfit(name, value, "true or false")
             bits.put(value, 1)
         case m.Number():
+            if kind.limit is not None:
+                number(name, value, 0, kind.limit)
             put_integer(bits, name, kind.integer, value)
         case m.NonZero(integer=it):
             bits.put(number(name, value, 1, it.most + 1) - 1, it.width)
@@ -243,7 +245,7 @@ def put_field(bits: Bits, kind: m.Described, value: Value, whole: Record, name: 
 
 
 Composed: TypeAlias = (
-    m.Enum | m.Array | m.Part | m.Optional | m.If | m.List | m.Rest | m.Fill | m.UpToLast | m.Sized | m.Choose
+    m.Enum | m.Array | m.Part | m.Optional | m.If | m.List | m.Rest | m.Fill | m.UpToLast | m.Sized | m.Choose | m.Given
 )
 
 
@@ -254,14 +256,15 @@ def put_parts(bits: Bits, kind: Composed, value: Value, whole: Record, name: str
             bits.put(enum_number(name, kind.enum, value), kind.enum.width)
         case m.Array():
             put_items(bits, name, kind.item, value, kind.count)
-        case m.Part():
+        case m.Part() | m.Given():
             put_item(bits, name, kind.use, value)
         case m.Optional() | m.If():
             check_there(kind, value, whole, name)
             if value is not None:
                 put_item(bits, name, kind.use, value)
         case m.List() | m.Rest():
-            put_items(bits, name, kind.item, value, None)
+            power = kind.power if isinstance(kind, m.List) else None
+            put_items(bits, name, kind.item, value, power_count(power, whole) if power else None)
         case m.Fill():
             put_items(bits, name, kind.use, value, None)
         case m.UpToLast():
@@ -278,18 +281,28 @@ def put_parts(bits: Bits, kind: Composed, value: Value, whole: Record, name: str
             assert_never(kind)
 
 
+def power_count(power: m.Power, whole: Record) -> int:
+    """Returns the number of items of a list whose number of items is a power of two."""
+    there = not power.there or whole.get(power.there) is True
+    return power.count(number(power.field, whole.get(power.field), 0, 31), there)
+
+
 def check_there(kind: m.Optional | m.If, value: Value, whole: Record, name: str) -> None:
     """Refuses an optional part that its condition contradicts."""
     if isinstance(kind, m.If):
-        asked = whole.get(kind.field)
-        if isinstance(asked, str) and not re.fullmatch(r"\d+", asked):  # a case
-            there = (asked == kind.asked) == (kind.how == "==")
-        elif isinstance(asked, dict):  # a case for other numbers
-            there = kind.how == "!="
-        else:
-            there = kind.holds(int(asked) if isinstance(asked, int | str) else -1)
+        found = [holds(it, whole.get(it.field)) for it in kind.tests]
+        there = all(found) if kind.joined == "and" else any(found)
         if there != (value is not None):
             raise unfit(name, value, f"it is there if, and only if, {kind.condition}")
+
+
+def holds(test: m.Test, asked: Value) -> bool:
+    """Returns true if the value of a field passes a test."""
+    if isinstance(asked, str) and not re.fullmatch(r"\d+", asked):  # a case
+        return (asked == test.asked) == (test.how == "==")
+    if isinstance(asked, dict):  # a case for other numbers
+        return test.how == "!="
+    return test.holds(int(asked) if isinstance(asked, int | str) else -1)
 
 
 def check_last(kind: m.UpToLast, value: Value, name: str) -> None:
@@ -398,7 +411,7 @@ def put_hidden(bits: Bits, kind: m.Hidden, description: m.Description, whole: Re
             target = field_of(description, lambda it: it.name == counted)
             octets = isinstance(m.held_item(target), m.Octet)
             found = length(kind.target, whole.get(kind.target), octets)
-            bits.put(number(m.label(kind), found, 0, (1 << kind.width) - 1), kind.width)
+            bits.put(number(m.label(kind), found, 0, most_stored(kind)), kind.width)
         case m.Tag(name=tag):
             target = field_of(description, lambda it: isinstance(it, m.Choose) and it.by == tag)
             assert isinstance(target, m.Choose)
@@ -407,7 +420,8 @@ def put_hidden(bits: Bits, kind: m.Hidden, description: m.Description, whole: Re
         case m.Size():
             put_size(bits, kind, description, whole, path)
         case m.Check():
-            bits.put(checksum_of(kind, description, whole, path), kind.width)
+            found = checksum_of(kind, description, whole, path)
+            bits.put(number(m.label(kind), found, 0, (1 << kind.width) - 1), kind.width)
 
 
 def checksum_of(kind: m.Check, description: m.Description, whole: Record, path: str = "") -> int:
@@ -415,7 +429,12 @@ def checksum_of(kind: m.Check, description: m.Description, whole: Record, path: 
     inside, asked = Bits(description.order), whole | tags(description, whole, path)
     for it in m.covered(description.kinds, kind):
         put_line(inside, it, description, whole, asked, path)
-    return checksum(kind.sum, inside.bytes())
+    if not isinstance(kind, m.Computed):
+        return checksum(kind.sum, inside.bytes())
+    found, left = divmod(len(inside.bytes()) + kind.plus, kind.unit)
+    if left or found < 0:
+        raise Unfit(f"`{joined(path, m.label(kind))}` has no number for {len(inside.bytes())} bytes")
+    return found
 
 
 def put_line(bits: Bits, kind: m.Kind, description: m.Description, whole: Record, asked: Record, path: str) -> None:
@@ -437,7 +456,15 @@ def put_size(bits: Bits, kind: m.Size, description: m.Description, whole: Record
         raise Unfit(f"`{joined(path, kind.target)}` has {inside.count} bits, which its size cannot say")
     if kind.varint:
         return put_varint(bits, m.label(kind), found)
-    bits.put(number(m.label(kind), found, 0, (1 << kind.width) - 1), kind.width)
+    number(m.label(kind), found, 0, most_stored(kind))
+    if kind.groups:
+        return put_groups(bits, m.label(kind), kind.groups, found)
+    bits.put(found, kind.width)
+
+
+def most_stored(kind: m.Count | m.Size) -> int:
+    """Returns the greatest number that a line stores."""
+    return (1 << kind.width) - 1 if kind.limit is None else kind.limit
 
 
 def field_of(description: m.Description, asks: Callable[[m.Described], bool]) -> m.Described:
@@ -472,7 +499,8 @@ def put_record(bits: Bits, description: m.Description, whole: Record, path: str 
                 raise Unfit(f"`{joined(path, it.name)}` is missing")
             if isinstance(it, m.Choose):
                 check_selected(it, description, whole, path)
-        put_line(bits, it, description, whole, asked, path)
+        if not isinstance(it, m.Given):
+            put_line(bits, it, description, whole, asked, path)
 
 
 def packed(description: m.Description, whole: Record) -> bytes:

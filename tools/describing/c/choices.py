@@ -5,6 +5,7 @@ from describing import model as m
 from describing.c import cross
 from describing.layout import Format
 from describing.model import snake
+from describing.reserved import LIFTED, WORDS
 from describing.rust.calls import number_type
 from describing.specs.terms import by_enum, tag_of
 
@@ -17,6 +18,12 @@ def held(kind: m.Choose) -> list[m.Arm]:
 def word(kind: m.Choose, arm: m.Arm) -> str:
     """Returns the name of what a case holds, in functions and definitions."""
     return f"{snake(kind.type)}_{snake(arm.case)}"
+
+
+def variable(arm: m.Arm) -> str:
+    """Returns the name of a variable for what a case holds, which is no word of the languages and no other variable."""
+    name = snake(arm.case)
+    return name + "_" * (name in WORDS | LIFTED | {"case", "it"})
 
 
 def pattern(kind: m.Choose, arm: m.Arm, name: str) -> str:
@@ -102,7 +109,7 @@ def from_code(f: Format, kind: m.Choose) -> list[str]:
     """Returns the function from the members of C to a choice."""
     s, given, now = snake(kind.type), ["case: u32"], ["case"]
     for it in held(kind):
-        name = snake(it.case)
+        name = variable(it)
         given.append(f"{name}: {f'&{it.held.name}C' if isinstance(it.held, m.Use) else number_type(f, kind)}")
         now.append(f"{name}.now" if it.held else name)
     out = [
@@ -112,10 +119,10 @@ def from_code(f: Format, kind: m.Choose) -> list[str]:
         "{",
     ]
     for k, it in enumerate(kind.arms):
-        made = [f"        return Some({pattern(kind, it, snake(it.case))});"]
+        made = [f"        return Some({pattern(kind, it, variable(it))});"]
         if it.held:
             made = [
-                f"        return match {snake(it.case)}.fields() {{",
+                f"        return match {variable(it)}.fields() {{",
                 f"            Some(it) => Some({pattern(kind, it, 'it')}),",
                 "            None => None,",
                 "        };",
@@ -195,10 +202,10 @@ def from_specs(f: Format, kind: m.Choose) -> list[str]:
     """Returns the definition of a choice that is made from its members of C."""
     name, out, last = f"{f.m}_{snake(kind.type)}_from", list[str](), "None"
     for k, it in reversed(list(enumerate(kind.arms))):
-        made = f"Some {constructor(kind, it, snake(it.case))}"
+        made = f"Some {constructor(kind, it, variable(it))}"
         if isinstance(it.held, m.Use):
             there = f"{f.m}_{word(kind, it)}_there"
-            made = f"{there} ({it.held.module}_from_c {snake(it.case)})"
+            made = f"{there} ({it.held.module}_from_c {variable(it)})"
             out += [
                 f"-- the case `{it.case}` of C, if what it holds has fields",
                 f"abbrev pub {there} : Option {it.held.name} → Option {kind.type}",
@@ -212,7 +219,7 @@ def from_specs(f: Format, kind: m.Choose) -> list[str]:
         *out,
         f"-- the `{kind.type}` of a case of C, or none",
         f"abbrev pub {name} : {' → '.join(['ℕ', *types, f'Option {kind.type}'])}",
-        f"{name} {' '.join(['case', *[snake(it.case) for it in held(kind)]])} = {last}",
+        f"{name} {' '.join(['case', *[variable(it) for it in held(kind)]])} = {last}",
         "",
     ]
 

@@ -5,7 +5,7 @@ import re
 from typing import assert_never
 
 from describing import model as m
-from describing.c import choices, cross, decided, lists, optional, varying
+from describing.c import choices, cross, decided, lists, optional, part_lists, varying
 from describing.c.cross import Crossed, Listed, Member, base, enums, fields, is_narrow, is_partial, members, parts
 from describing.c.imports import ghost_uses
 from describing.c.status import DOES_NOT_FIT, END_OF_INPUT, NO_ROOM, own
@@ -36,7 +36,7 @@ def code(t: Target) -> str:
 def lists_code(f: Format) -> list[str]:
     """Returns the functions of a format with lists."""
     kinds = cross.lists(f.description)
-    out = [line for number in dict.fromkeys(base(it) for it in kinds) for line in lists.keep_code(number)]
+    out = [line for it in {base(it): it for it in kinds}.values() for line in lists.keep_code(f, it)]
     out += [line for it in kinds for line in lists.read_list_code(f, it)]
     out += [line for it in f.lines for line in lists.stated_code(f, it)]
     found = [it for it in f.lines if isinstance(it.kind, m.Optional | m.If)]
@@ -150,6 +150,10 @@ def from_c(kind: Crossed) -> str:
             return optional.from_c(kind)
         case m.Choose():
             return choices.from_c(kind)
+        case m.List(item=m.Use() as use):
+            return f"{use.module}_items({kind.name}_items)"
+        case m.List(item=m.EnumType() as enum):
+            return f"{m.snake(enum.name)}_items({kind.name}_items)"
     raise AssertionError(kind)
 
 
@@ -227,11 +231,11 @@ def helpers(f: Format) -> list[str]:
             found[f"option_{base(it)}"] = option_code(base(it))
         if isinstance(it, m.MaybeNonZero):
             found[f"number_{base(it)}"] = number_code(base(it))
-        if isinstance(it, m.Enum) and is_narrow(it.enum):
-            found[it.enum.name] = narrow_code(f, it.enum)
-        if isinstance(it, m.Array) or cross.is_listed(it):
+        if isinstance(enum := m.held_item(it), m.EnumType) and is_narrow(enum):
+            found[enum.name] = narrow_code(f, enum)
+        if isinstance(it, m.Array) or cross.is_listed(it) and not cross.is_mapped(it):
             found[items_name(it)] = items_code(it)
-    return [line for it in found.values() for line in it] + optional.code(f) + choices.code(f)
+    return [line for it in found.values() for line in it] + optional.code(f) + choices.code(f) + part_lists.code(f)
 
 
 def narrow_code(f: Format, enum: m.EnumType) -> list[str]:

@@ -34,8 +34,8 @@ class Member:
     """A member of the struct of C: its name, the Rust type of it, or of each item of an array, and its comment.
 
     `module` is that of a part, `flag` is true for a `bool` of C, `count` the number of items of an array, and `item` the
-    type of the items of a list, of which the member is the number. A member of a `choice` has what the case `case` holds,
-    or the case itself if that is an empty text: C has all of them in one struct.
+    type of the items of a list, of which the member is the number; `of` is the module of items that are parts. A member of
+    a `choice` has what the case `case` holds, or the case itself if that is an empty text: C has all of them in one struct.
     """
 
     name: str
@@ -47,6 +47,7 @@ class Member:
     item: str = ""
     choice: str = ""
     case: str = ""
+    of: str = ""
 
     @property
     def rust(self) -> str:
@@ -66,6 +67,8 @@ def check(description: m.Description) -> None:
     for it in description.kinds:
         if isinstance(it, m.Check):
             raise Refused("a checksum does not cross to C yet", it.at)
+        if m.is_limited(it) or isinstance(it, m.Size) and it.groups:
+            raise Refused("a greatest value, or a size in groups, does not cross to C yet", it.at)
     for kind in description.fields:
         if not crosses(kind):
             raise Refused(f"`{kind.name}` {OTHERS[type(kind)]}", kind.at)
@@ -101,35 +104,47 @@ def check_field(kind: Crossed) -> None:
     """Refuses a field that C does not have."""
     if isinstance(kind, m.Array) and isinstance(kind.item, m.EnumType):
         raise Refused(f"`{kind.name}` is an array of an enum, which does not cross to C yet", kind.at)
+    if isinstance(kind, m.If) and kind.due:
+        raise Refused(f"`{kind.name}` has a condition over several fields, which does not cross to C yet", kind.at)
     if isinstance(kind, m.Choose) and kind.sized:
         raise Refused(f"`{kind.name}` is a choice with a size, which does not cross to C yet", kind.at)
     if not isinstance(kind, m.Part | m.Optional | m.If | m.Choose) and base(kind).endswith("128"):
         raise Refused(f"`{kind.name}` has a number of 128 bits, which C does not have", kind.at)
     if isinstance(kind, m.Sized) and isinstance(kind.item, m.Use):
         raise Refused(f"`{kind.name}` is a part with a size, which does not cross to C yet", kind.at)
-    if isinstance(kind, m.List) and not is_plain(kind.item):
+    if isinstance(kind, m.List) and kind.power:
+        raise Refused(f"`{kind.name}` is a list of a power of two items, which does not cross to C yet", kind.at)
+    if isinstance(kind, m.List) and isinstance(kind.item, m.EnumType) and not kind.item.error:
         raise Refused(
-            f"`{kind.name}` is a list of other items than numbers and bytes, which does not cross to C yet",
-            kind.at,
+            f"`{kind.name}` is a list of an enum that refuses no number, which does not cross to C yet", kind.at
         )
     for use in m.uses(kind):
         try:
             check(use.description)
         except Refused as why:
             raise Refused(f"`{use.module}`: {why}", kind.at) from None
-        if m.allocating(use):
-            raise Refused(f"`{kind.name}` is a part with a list, which does not cross to C yet", kind.at)
-        if choices(use.description):
-            raise Refused(f"`{kind.name}` is a part with a choice, which does not cross to C yet", kind.at)
+        for holds, what in ((m.allocating(use), "a list"), (bool(choices(use.description)), "a choice")):
+            if holds and isinstance(kind, m.List):
+                raise Refused(f"`{kind.name}` has parts with {what}, which do not cross to C yet", kind.at)
+            if holds:
+                raise Refused(f"`{kind.name}` is a part with {what}, which does not cross to C yet", kind.at)
 
 
-def is_plain(item: m.Item) -> bool:
-    """Returns true for bytes and numbers."""
-    return isinstance(item, m.Octet | m.Integer)
+def listed_enums(description: m.Description) -> list[m.EnumType]:
+    """Returns the enums that lists have many of, each once."""
+    found = [it.item for it in description.fields if isinstance(it, m.List) and isinstance(it.item, m.EnumType)]
+    return list({it.name: it for it in found}.values())
+
+
+def is_mapped(kind: m.Kind) -> bool:
+    """Returns true for a list of parts or of an enum, of whose items C has something else."""
+    return isinstance(kind, m.List) and isinstance(kind.item, m.Use | m.EnumType)
 
 
 def spec_item(kind: Listed) -> str:
     """Returns the type of an item in specs."""
+    if isinstance(kind.item, m.Use):
+        return base(kind)
     return "ℤ" if isinstance(kind.item, m.Integer) and kind.item.signed else "ℕ"
 
 
@@ -143,6 +158,11 @@ def counted(description: m.Description, kind: Listed) -> m.Count | m.Size:
     return next(it for it in description.kinds if isinstance(it, m.Count | m.Size) and it.target == kind.name)
 
 
+def target(description: m.Description, line: m.Count | m.Size) -> m.Kind:
+    """Returns the field whose number of items, or of bytes, a line has."""
+    return next(it for it in description.fields if it.name == line.target)
+
+
 def most_items(description: m.Description, kind: Listed) -> int:
     """Returns the greatest number of items of a list."""
     line = counted(description, kind)
@@ -150,8 +170,10 @@ def most_items(description: m.Description, kind: Listed) -> int:
 
 
 def item_width(kind: Listed | m.Array) -> int:
-    """Returns the bits of an item."""
-    return kind.item.width if isinstance(kind.item, m.Integer) else 8
+    """Returns the bits of an item, or a number of bits that a part does not exceed."""
+    if isinstance(kind.item, m.Use):
+        return most(kind.item.description)
+    return kind.item.width if isinstance(kind.item, m.Integer | m.EnumType) else 8
 
 
 def most(description: m.Description) -> int:
@@ -220,7 +242,8 @@ def members_of(description: m.Description, kind: Crossed) -> list[Member]:
         case m.Array():
             return [Member(kind.name, base(kind), comment(kind), count=kind.count)]
         case m.List() | m.Sized():
-            return [Member(kind.name, "usize", list_comment(description, kind), item=base(kind))]
+            said, module = list_comment(description, kind), kind.item.module if isinstance(kind.item, m.Use) else ""
+            return [Member(kind.name, "usize", said, item=base(kind), of=module)]
         case m.Choose():
             return choice_members(kind)
     return [Member(kind.name, base(kind), comment(kind), flag=isinstance(kind, m.Bool))]
@@ -236,7 +259,7 @@ def choice_members(kind: m.Choose) -> list[Member]:
         elif it.number is None:
             bits = next(it for it in (8, 16, 32) if it >= kind.width)
             small = f"below 2^{kind.width}, " * (kind.width < bits)
-            said = f"The number of the case `{it.case}`: {small}and of no other case."
+            said = f"The number of the case `{it.case}`, {small}and of no other case."
             found.append(Member(name, f"u{bits}", said, choice=kind.name, case=it.case))
     return found
 
@@ -251,6 +274,10 @@ def base(kind: Crossed) -> str:
         case m.Enum():
             return f"u{enum_bits(kind.enum)}"
         case m.Array() | m.List() | m.Sized():
+            if isinstance(kind.item, m.Use):
+                return f"{kind.item.name}C"
+            if isinstance(kind.item, m.EnumType):
+                return f"u{enum_bits(kind.item)}"
             return kind.item.base if isinstance(kind.item, m.Integer) else "u8"
         case m.Golomb() | m.Varint():
             return m.rust_type(kind)
@@ -262,13 +289,13 @@ def base(kind: Crossed) -> str:
 
 
 def is_partial(kind: Crossed) -> bool:
-    """Returns true if a number of C may be no value of the field."""
+    """Returns true if what C has may be no value of the field: in code and specs the field is made from an `Option`."""
     match kind:
-        case m.Part():
-            return any(is_partial(it) for it in fields(kind.use.description))
         case m.Enum():
             return bool(kind.enum.error) or is_narrow(kind.enum)
-    return isinstance(kind, m.NonZero | m.Optional | m.If | m.Choose)
+        case m.List() | m.Sized():
+            return is_mapped(kind)
+    return isinstance(kind, m.NonZero | m.Part | m.Optional | m.If | m.Choose)
 
 
 def is_narrow(enum: m.EnumType) -> bool:
@@ -277,7 +304,7 @@ def is_narrow(enum: m.EnumType) -> bool:
 
 
 def partial(description: m.Description) -> list[Crossed]:
-    """Returns the fields of which a number of C may be no value."""
+    """Returns the fields of which what C has may be no value."""
     return [it for it in fields(description) if is_partial(it)]
 
 
@@ -317,6 +344,9 @@ def list_comment(description: m.Description, kind: Listed) -> str:
     if isinstance(line, m.Size):
         return f"{comment(kind)} {size_limits(line)}."
     said = integer_range(kind.item) if isinstance(kind.item, m.Integer) else ""
+    if isinstance(kind.item, m.EnumType):
+        other = f", or another one below 2^{kind.item.width}" if kind.item.other else ""
+        said = f"a number of `{m.snake(kind.item.name)}`{other}"
     return f"{comment(kind)} Fewer than 2^{line.width}{f', each {said}' if said else ''}."
 
 
@@ -328,8 +358,8 @@ def size_limits(line: m.Size) -> str:
 
 
 def enums(description: m.Description) -> list[m.EnumType]:
-    """Returns the enums of the fields, each once."""
-    found = [it.enum for it in fields(description) if isinstance(it, m.Enum)]
+    """Returns the enums of the fields and of the items of lists, each once."""
+    found = [it for kind in fields(description) if isinstance(it := m.held_item(kind), m.EnumType)]
     return list({it.name: it for it in found}.values())
 
 
@@ -343,6 +373,12 @@ def optional(description: m.Description) -> list[m.Use]:
     """Returns the parts that may be there or not, each once."""
     found = [it.use for it in fields(description) if isinstance(it, m.Optional | m.If)]
     return list({it.module: it for it in found}.values())
+
+
+def said_of_enum(description: m.Description, name: str) -> str:
+    """Returns the comment of the field whose enum it is, or whose items are of it."""
+    kind = next(it for it in fields(description) if isinstance(e := m.held_item(it), m.EnumType) and e.name == name)
+    return kind.doc or f"The field `{kind.name}`."
 
 
 def layout(description: m.Description, public: bool = False) -> tuple[int, int, int]:

@@ -5,7 +5,7 @@ from describing import model as m
 from describing.c.cross import Member, choice_members, choices, enums, layout, lists, members, parts
 from describing.c.status import numbers, own, rooms, statuses
 from describing.c.target import Target
-from describing.c.words import c_comment, c_name, drawn, paragraph, quoted
+from describing.c.words import c_comment, c_name, drawn, in_comment, paragraph, quoted
 from describing.model import snake
 from describing.specs.terms import tag_of
 
@@ -13,7 +13,7 @@ from describing.specs.terms import tag_of
 def header(t: Target) -> str:
     """Returns the header."""
     f, up = t.f, t.f.m.upper()
-    out = [f"/* {t.made}", " *", *paragraph(f.doc, " * ", " * "), " *"]
+    out = [f"/* {t.made}", " *", *paragraph(in_comment(f.doc), " * ", " * "), " *"]
     out += [*[f" * {it}" for it in drawn(f.description)], " */", f"#ifndef {up}_H", f"#define {up}_H", ""]
     out += [f'#include "{it.module}.h"' for it in parts(f.description)]
     out += ["#include <stdbool.h>", "#include <stddef.h>", "#include <stdint.h>", ""]
@@ -105,6 +105,8 @@ def renamed(name: str) -> str:
 
 def item_type(member: Member) -> str:
     """Returns the type of the items of a list in C."""
+    if member.of:
+        return f"struct {member.of}"
     return f"{'' if member.item[0] == 'i' else 'u'}int{member.item[1:]}_t"
 
 

@@ -4,7 +4,7 @@ from __future__ import annotations
 import re
 
 from describing.c import choices, optional, varying
-from describing.c.cross import enums, is_narrow, lists, parts
+from describing.c.cross import enums, is_narrow, listed_enums, lists, parts
 from describing.c.target import Target
 from describing.imports import own_specs, types
 from describing.model import snake
@@ -15,10 +15,11 @@ from describing.rust.clauses import clauses
 PRELUDE: Table = {
     "Rattle.std.specs.Prelude": "≡ ≢ ^ < ≤ + - * / ++ ∷ [] == ↔ if ℕ ℤ Bool true false not List Result Ok Err Option"
     " Some None IsTrue IsSomeAnd All length take drop map pos negsuc is_some"
-    " option_map nat_lt",
+    " option_map nat_lt filter_map is_some",
     "Rattle.bitstream_io.specs.Reads": "BitSource",
     "Rattle.std.specs.Option": "ForSome",
     "Rattle.bitstream_io.specs.Codec": "Prefix Incomplete Done",
+    "Rattle.std.specs.List": "flat_map",
 }
 
 
@@ -28,6 +29,7 @@ def own_names(t: Target) -> Table:
     words = ("to_c", "from_c", "made", "zero", "parsed", "answer", "held")
     more = [f"{f.m}_{it}" for it in varying.WORDS] * (not f.sized)
     more += [f"{f.m}_{snake(it.name)}_from" for it in enums(f.description) if is_narrow(it)]
+    more += [f"{f.m}_{snake(it.name)}_{word}" for it in listed_enums(f.description) for word in ("item", "there")]
     if lists(f.description):
         more += [f"{f.m}_of", f"{f.m}_short", f"{f.type}Read"]
     found: Table = {
@@ -36,6 +38,7 @@ def own_names(t: Target) -> Table:
         ),
         f"Rattle.{t.crate}.specs.Varied": "IsDecided reader_status",
         f"Rattle.{t.crate}.specs.Lists": "ReadsInto ReadsStated ItemsKept stored",
+        f"Rattle.{t.crate}.specs.Parts": "ItemsInto PartsInto PartsKept ItemFits all_made",
         f"{base}.{f.m}.{f.type}Given": f"{f.type}Given",
         f"Rattle.{t.crate}.specs.Shared": "PacksInto",
         f"{base}.{f.m}.{f.type}C": f"{f.type}C",
@@ -66,7 +69,7 @@ def spec_uses(t: Target, text: str) -> list[str]:
 
 # The lemmas that proofs for C use.
 LEMMAS: Table = {
-    "Rattle.std.proofs.Common": "≡ ≢ < ≤ ++ ∷ [] ∙ + - * / ℕ ℤ Bool List Result Ok Err length refl sym ap ap₂ subst arith rules",
+    "Rattle.std.proofs.Common": "≡ ≢ < ≤ ++ ∷ [] ∙ + - * / ℕ ℤ Bool List Result Ok Err length map refl sym ap ap₂ subst arith rules",
     "Rattle.std.specs.Prelude": "^ pos take drop",
     "Rattle.std.proofs.lemmas.List": "take-append-drop length-take-le take_at drop_at",
     "Rattle.std.proofs.lemmas.Bool": "cases_lt",
@@ -100,6 +103,8 @@ def varied(t: Target) -> Table:
         f"Rattle.{t.crate}.proofs.SharedLemmas": "packs-done",
         f"Rattle.{t.crate}.proofs.VariedLemmas": "aligned_bytes counted_past groups_most optional_most padded read_decided",
         f"Rattle.{t.crate}.proofs.ListLemmas": "bytes_into failed_ok kept_none kept_more kept_begin",
+        f"Rattle.{t.crate}.proofs.PartLemmas": "failed_own item_fit item_free made_all made_fit made_none made_written none_written part_kept parts_failed"
+        " parts_more parts_most parts_none some_written",
     }
 
 

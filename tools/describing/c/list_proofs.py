@@ -4,8 +4,8 @@ from __future__ import annotations
 import re
 
 from describing import model as m
-from describing.c import cross, varying
-from describing.c.cross import Listed, base, is_stated, lists, spec_item
+from describing.c import cross, part_lists, part_proofs, varying
+from describing.c.cross import Listed, base, is_mapped, is_stated, lists, spec_item
 from describing.c.imports import answer_uses
 from describing.c.lists import count_name, decoder, given, parse_answers
 from describing.c.target import Target
@@ -14,7 +14,7 @@ from describing.proofs import calls
 from describing.proofs.chains import Answers, Call
 from describing.proofs.loops import write_answers, write_invariants
 from describing.proofs.parts import write_answers as part_writes
-from describing.specs.terms import asked_enum
+from describing.specs.terms import asked_enums
 
 RESIDUAL = re.compile(r"c\.from_residual(?:-in_err-[^\s.]+)?\.ensures\.1")
 
@@ -50,11 +50,11 @@ def read_answers(f: Format) -> str:
     labels, steps, made = calls.Labels(), calls.Labels(), list[Call]()
     for it in f.lines:
         form, fact, wide = calls.read_call(f, it)
-        asks = isinstance(it.kind, m.If) and asked_enum(f, it.kind) is not None
-        known = (f"c.{steps.next('number')}.ensures",) if asks else ()
+        known = (f"c.{steps.next('number')}.ensures",) if asked_enums(f, it.kind) else ()
         named = calls.read_label(it)
         if cross.is_listed(it.kind):
-            form, fact, named = "part" if is_stated(it.kind) else "read", "reads", label(f, it.kind)
+            own = is_stated(it.kind) or is_mapped(it.kind) and it.own
+            form, fact, named = "part" if own else "read", "reads", label(f, it.kind)
             known = (
                 (f"c.size_in_units-{count_name(f, it.kind)}.ensures",) if it.units and not is_stated(it.kind) else ()
             )
@@ -76,6 +76,10 @@ class Writes(calls.Writes):
         kind = line.kind
         if isinstance(kind, m.Size):
             return (f"c.{self.steps.next('stored_size')}.ensures",) if kind.units else ()
+        if cross.is_listed(kind) and (one := part_lists.shape(self.f, kind)):
+            return (f"(made_written {one.from_c} {part_lists.given_writes(kind)} _)",)
+        if isinstance(kind, m.Count) and (one := part_lists.shape(self.f, cross.target(self.f.description, kind))):
+            return (f"c.{self.steps.next(f'count_{one.word}')}.ensures",)
         return () if isinstance(kind, m.List | m.Sized | m.Count) else super().known(line)
 
 
@@ -297,9 +301,10 @@ def optional_files(t: Target, use: m.Use) -> dict[str, str]:
     return out
 
 
-def keep_answers(t: Target, number: str) -> str:
+def keep_answers(t: Target, kind: Listed) -> str:
     """Returns the answers of the function that keeps an item."""
-    signed, more, width, made = number[0] == "i", "", "", ""
+    number, more, width, made = base(kind), "", "", ""
+    signed = spec_item(kind) == "ℤ"
     if signed:
         more = "use Rattle.std.proofs.lemmas.Int.{to_z-of_z}\nuse borrow.Author.Rules.{sfits_of}\n"
         width, made = f", w{number[1:]}", f"rw (to_z-of_z w{number[1:]} c.args.item (search sfits_of)) "
@@ -307,7 +312,7 @@ def keep_answers(t: Target, number: str) -> str:
     return f"""-- {t.made}
 {more}use Rattle.std.proofs.Common.{{◌≡◌, ◌∙◌, ◌<◌, ◌≤◌, length, set, sym, ap, subst, arith{width}}}
 use Rattle.{t.crate}.proofs.ListLemmas.{{kept_more, kept_none}}
-use Rattle.{t.crate}.proofs.{t.f.m}.keep_{number}.Goals as goal
+use Rattle.{t.crate}.proofs.{t.f.m}.{part_lists.keep(t.f, kind)}.Goals as goal
 
 pub returns : goal.returns
 returns c = λ all was size is.
@@ -330,9 +335,13 @@ def files(t: Target) -> dict[str, str]:
     goals = f"{crate}.{f.m}.read.Goals"
     found[f"{home}/read/Answers.antt"] = f"-- {t.made}\n{lemmas}{read_answers(f).replace('GOALS', goals)}\n"
     goals = f"{crate}.{f.m}.{given(f)}.write.Goals"
-    found[f"{home}/{given(f)}/write/Answers.antt"] = f"-- {t.made}\n{write_fields(f).replace('GOALS', goals)}\n"
+    text = write_fields(f).replace("GOALS", goals)
+    more = "".join(f"{it}\n" for it in part_proofs.write_uses(t, text))
+    found[f"{home}/{given(f)}/write/Answers.antt"] = f"-- {t.made}\n{more}{text}\n"
     found[f"{home}/{given(f)}ToBitStream/to_writer/Answers.antt"] = to_writer(t)
     for it in lists(f.description):
+        if is_mapped(it):
+            continue
         found[f"{home}/read_{it.name}/Invariants.antt"] = invariant(t, it)
         found[f"{home}/read_{it.name}/Answers.antt"] = list_answers(t, it)
         if isinstance(it, m.List) and isinstance(it.item, m.Integer):
@@ -342,8 +351,9 @@ def files(t: Target) -> dict[str, str]:
             found[f"{home}/read_stated_{line.name}/Answers.antt"] = stated_answers(t, line)
     for use in cross.optional(f.description):
         found |= optional_files(t, use)
-    for number in dict.fromkeys(base(it) for it in lists(f.description)):
-        found[f"{home}/keep_{number}/Answers.antt"] = keep_answers(t, number)
+    for it in lists(f.description):
+        found[f"{home}/{part_lists.keep(f, it)}/Answers.antt"] = keep_answers(t, it)
+    found |= part_proofs.files(t)
     return found
 
 

@@ -4,7 +4,7 @@ from __future__ import annotations
 from typing import Callable, TypeGuard
 
 from describing import model as m
-from describing.c import cross, varying
+from describing.c import cross, part_lists, varying
 from describing.c.cross import Crossed, Listed, base, is_partial, is_stated, lists, spec_item
 from describing.c.status import DOES_NOT_FIT, END_OF_INPUT, NO_ROOM, rooms
 from describing.layout import Format, Line
@@ -64,7 +64,7 @@ def fields_code(f: Format, from_c: Callable[[Crossed], str], let_code: Callable[
     all_fields, t = cross.fields(f.description), given(f)
     made = list[str]()
     for it in all_fields:
-        value = f": {it.name}_items" if cross.is_listed(it) else "" if is_partial(it) else f": {from_c(it)}"
+        value = "" if is_partial(it) else f": {it.name}_items" if cross.is_listed(it) else f": {from_c(it)}"
         made.append(f"            {it.name}{value},")
     now = " ".join(f"{it}.now" for it in items_names(f))
     return [
@@ -87,6 +87,8 @@ def tests(f: Format, kind: Listed) -> list[str]:
     """Returns the tests that a list fits its bits."""
     line, count = cross.counted(f.description, kind), f"value.{kind.name}.len()"
     most = (1 << line.width) - 1
+    if one := part_lists.shape(f, kind):
+        return part_lists.tests(f, kind, one)
     if isinstance(line, m.Size) and line.units:
         count = f"stored_size({count} as u64, {', '.join(line.units.split())})"
     return [f"{count} <= {most}", f"{items_name(kind)}(value.{kind.name})"]
@@ -111,12 +113,12 @@ def decoder(f: Format, kind: Listed, order: str, count: str) -> str:
     return f"(items_decoder (list_item ({one})) {count})"
 
 
-def keep_code(number: str) -> list[str]:
+def keep_code(f: Format, kind: Listed) -> list[str]:
     """Returns the function that keeps an item of a list."""
     return [
         "/// Puts an item that was read into its place, if there is room for it.",
-        f"fn keep_{number}(items: &mut [{number}], place: u64, item: {number})",
-        f"    ensures {{ (all was : List {'ℤ' if number[0] == 'i' else 'ℕ'}) → length all ≡ place → items.old ≡ stored all was",
+        f"fn {part_lists.keep(f, kind)}(items: &mut [{base(kind)}], place: u64, item: {base(kind)})",
+        f"    ensures {{ (all was : List {spec_item(kind)}) → length all ≡ place → items.old ≡ stored all was",
         "        → items.new ≡ stored (all ++ item ∷ []) was }",
         "{",
         "    if place >= items.len() as u64 {",
@@ -130,6 +132,8 @@ def keep_code(number: str) -> list[str]:
 
 def read_list_code(f: Format, kind: Listed) -> list[str]:
     """Returns the function that reads a list."""
+    if one := part_lists.shape(f, kind):
+        return part_lists.read_code(f, kind, one)
     number, octets = base(kind), isinstance(kind.item, m.Octet)
     return [
         f"/// Reads `count` items of `{kind.name}`, and keeps those for which there is room.",
@@ -262,7 +266,7 @@ def parse_code(f: Format) -> list[str]:
     for it in lists(f.description):
         stored += [
             f"    ensures {it.name}_items {{ (n : ℕ) (value : {f.type}) → {reads} ≡ Done n (Ok (Ok value))",
-            f"        → {it.name}_items.new ≡ stored value.{it.name} {it.name}_items.old }}",
+            f"        → {it.name}_items.new ≡ stored {part_lists.items_of(f, it, 'value')} {it.name}_items.old }}",
         ]
     return [
         "/// Parses the fields at the start of `bytes`, and the items of lists into storage of the caller.",
@@ -287,11 +291,14 @@ def writing_code(f: Format) -> list[str]:
     """Returns the functions that write the fields."""
     t = given(f)
     statements = [
-        f"        {rust.write(it)}?;".replace("&self.", "self." if cross.is_listed(it.kind) else "&self.")
+        f"        {part_lists.counting(f, it, rust.write(it))}?;".replace(
+            "&self.", "self." if cross.is_listed(it.kind) else "&self."
+        )
         for it in f.lines
     ]
     return [
         *[line for it in lists(f.description) if needs_loop(it) for line in write_code(it)],
+        *part_lists.writing_code(f),
         f"impl {t}<'_> {{",
         "    /// Writes the fields in order.",
         "    fn write<W: BitWrite>(&self, writer: &mut W) -> Result<(), Error>",
@@ -348,7 +355,7 @@ def specs(f: Format) -> list[str]:
     names = [f"{it.name}_room" for it in lists(f.description)]
     count, said = len(names), " ".join(names)
     errors = varying.spec_errors(f)
-    fields = [f"  {it.name} = value.{it.name}{'.now' * cross.is_listed(it)};" for it in cross.fields(f.description)]
+    fields = [f"  {it.name} = {part_lists.value_of(f, it)};" for it in cross.fields(f.description)]
     test = ""
     for it, status in zip(lists(f.description), rooms(f)):
         test += f"if nat_lt {it.name}_room c.{it.name} then {f.m}_short (pos {status.number}) c.{it.name} else "
@@ -404,7 +411,7 @@ def read_specs(f: Format) -> list[str]:
         f"  pub told : result ≡ result_map {f.m}_to_c found",
     ]
     for it in lists(f.description):
-        stored = f"{it.name}_now ≡ stored value.{it.name} {it.name}_was"
+        stored = f"{it.name}_now ≡ stored {part_lists.items_of(f, it, 'value')} {it.name}_was"
         out.append(f"  pub {it.name}_items : (value : {f.type}) → found ≡ Ok value → {stored}")
     return [*out, ""]
 
@@ -422,12 +429,15 @@ def lemmas(f: Format) -> str:
     names = " ".join(f"{it.name}_room" for it in lists(f.description))
     result = f"Result {t} {f.e}"
     reads = f"ReadsOwn K {f.becomes_name} ({mod}_decoder K.order) old"
-    kept = "".join(f"\n    → {it.name}_now ≡ stored value.{it.name} {it.name}_was" for it in lists(f.description))
+    kept = "".join(
+        f"\n    → {it.name}_now ≡ stored {part_lists.items_of(f, it, 'value')} {it.name}_was"
+        for it in lists(f.description)
+    )
     facts = " ".join(f"{it.name}_kept" for it in lists(f.description))
     implicits = "} {".join(f"{it} = {it}" for it in f"{was} {now}".split())
     none = "".join(f" {it.name}_items = λ value no. cc;" for it in lists(f.description))
     some = "".join(
-        f"\n  {it.name}_items = λ v is. subst (λ (x : {t}). {it.name}_now ≡ stored x.{it.name} {it.name}_was)"
+        f"\n  {it.name}_items = λ v is. subst (λ (x : {t}). {it.name}_now ≡ stored {part_lists.items_of(f, it, 'x')} {it.name}_was)"
         f" (value_is is) {it.name}_kept;"
         for it in lists(f.description)
     )

@@ -4,7 +4,7 @@ from __future__ import annotations
 from describing import model as m
 from describing.c import cross
 from describing.layout import Format
-from describing.specs.terms import asked_enum
+from describing.rust.asked import test
 
 Maybe = m.Optional | m.If
 
@@ -33,9 +33,7 @@ def tests(f: Format, kind: Maybe) -> list[str]:
     module, v = kind.use.module, f"&value.{kind.name}"
     if isinstance(kind, m.Optional):
         return [f"{module}_fits({v})"]
-    asked = f"value.{kind.field}{'.number()' if asked_enum(f, kind) else ''}"
-    holds = f"{asked} {kind.how} {kind.value}" if kind.how else asked
-    return [f"{module}_fits({v})", f"is_{module}_there({v}, {holds})"]
+    return [f"{module}_fits({v})", f"is_{module}_there({v}, {test(f, kind.tests[0], 'value.')})"]
 
 
 def code(f: Format) -> list[str]:

@@ -8,12 +8,13 @@ import tempfile
 
 from describing.c import header, list_shared, python, rust, shared, varied
 from describing.c.code import code
-from describing.c.cross import check, lists, parts, stated
+from describing.c.cross import check, is_mapped, lists, parts, stated
 from describing.c.proofs import answer_files
 from describing.c.specs import specs
 from describing.c.target import Target, target
 from describing.layout import Format
 from describing.model import Refused
+from describing.parse import description_text
 from describing.printing import add_line, format_of, lay_out, plain_format, put, text_of
 from describing.renamed import shown_for_c
 
@@ -33,7 +34,7 @@ def files_of(t: Target, plain: Target) -> dict[str, str]:
     if not f.sized:
         found |= varied.files(t.crate)
     if lists(f.description):
-        found |= list_shared.files(t.crate, bool(stated(f.description)))
+        found |= list_shared.files(t.crate, bool(stated(f.description)), any(map(is_mapped, f.description.kinds)))
     shown = {shown_for_c(place, ".rt"): shown_for_c(text, place) for place, text in found.items()}
     return shown | binding_files(plain)
 
@@ -57,6 +58,7 @@ def target_of(description: str, folder: str) -> tuple[Target, Target]:
     """
     home = os.path.dirname(os.path.dirname(os.path.abspath(description)))
     name = os.path.basename(description).removesuffix(".fields")
+    description_text(description)
     if not os.path.exists(os.path.join(home, "src", f"{name}.rt")):
         raise Refused(f"`{name}` is not printed: run `./format {description} {os.path.relpath(home)}` first")
     path, crate = os.path.relpath(description, folder), os.path.basename(os.path.abspath(folder))
@@ -98,12 +100,14 @@ def listed(t: Target) -> dict[str, list[str]]:
             "pub mod Shared",
             *["pub mod Varied"] * more,
             *["pub mod Lists"] * some,
+            *["pub mod Parts"] * any(map(is_mapped, t.f.description.kinds)),
         ],
         "proofs/Lib.antt": [
             f"pub mod {t.f.spec}Lemmas",
             "pub mod SharedLemmas",
             *["pub mod VariedLemmas"] * more,
             *["pub mod ListLemmas"] * some,
+            *["pub mod PartLemmas"] * any(map(is_mapped, t.f.description.kinds)),
             *["pub mod StatedLemmas"] * bool(stated(t.f.description)),
         ],
     }

@@ -6,6 +6,7 @@ from typing import assert_never
 from describing import model as m
 from describing.c.cross import (
     Crossed,
+    Listed,
     Member,
     base,
     choice_members,
@@ -19,10 +20,11 @@ from describing.c.cross import (
     lists,
     members,
     parts,
+    said_of_enum,
 )
 from describing.c.status import NO_ROOM, Status, numbers, own, refused, rooms
 from describing.c.target import Target
-from describing.c.words import drawn, paragraph, python_name, quoted
+from describing.c.words import drawn, in_docstring, paragraph, python_name, quoted
 
 LIBRARY = '''"""MADE
 
@@ -113,7 +115,7 @@ def module(t: Target) -> str:
 def head_code(t: Target) -> list[str]:
     """Returns the comment of the module and its imports."""
     f = t.f
-    out = [f'"""{t.made}', "", *paragraph(f.doc, "", ""), "", *drawn(f.description), '"""']
+    out = [f'"""{t.made}', "", *paragraph(in_docstring(f.doc), "", ""), "", *drawn(f.description), '"""']
     out += ["from __future__ import annotations", "", "import ctypes"] + ["import enum"] * bool(enums(f.description))
     typed = "ClassVar" + ", Sequence" * bool(lists(f.description)) + ", Union" * bool(choices(f.description))
     out += ["from dataclasses import dataclass", f"from typing import {typed}", "", ""]
@@ -128,8 +130,11 @@ def enum_codes(t: Target) -> list[str]:
     """Returns the enums."""
     out = list[str]()
     for it in enums(t.f.description):
-        kind = next(k for k in fields(t.f.description) if isinstance(k, m.Enum) and k.enum.name == it.name)
-        out += [f"class {it.name}(enum.IntEnum):", f'    """{kind.doc or f"The field `{kind.name}`."}"""', ""]
+        out += [
+            f"class {it.name}(enum.IntEnum):",
+            f'    """{in_docstring(said_of_enum(t.f.description, it.name))}"""',
+            "",
+        ]
         out += [f"    {m.snake(case).upper()} = {number}" for number, case in it.cases] + ["", ""]
         if it.other:
             of = f"def _{m.snake(it.name)}(value: int) -> {it.name} | int:"
@@ -154,7 +159,7 @@ def errors_code(t: Target) -> list[str]:
     out = [f"class {e}(ValueError):", f'    """The reason why no `{t.f.type}` was parsed or packed."""', ""]
     out += ["    status: ClassVar[int]", "", ""]
     for it in raised(t):
-        out += [f"class {it.camel}({e}):", f'    """{it.text}"""', "", f"    status = {it.number}", ""]
+        out += [f"class {it.camel}({e}):", f'    """{in_docstring(it.text)}"""', "", f"    status = {it.number}", ""]
         out += [
             "    def __init__(self, *reason: object) -> None:",
             f"        super().__init__(*(reason or [{quoted(it.short)}]))",
@@ -180,6 +185,11 @@ def c_type(member: Member) -> str:
     return one if member.count is None else f"{one} * {member.count}"
 
 
+def item_type(member: Member) -> str:
+    """Returns the type of `ctypes` of an item of a list."""
+    return f"_{member.of}._C" if member.of else c_number(member.item)
+
+
 def struct_code(t: Target) -> list[str]:
     """Returns the struct of C, and before it those of the lists."""
     out = list[str]()
@@ -188,7 +198,7 @@ def struct_code(t: Target) -> list[str]:
     for it in members(t.f.description):
         if it.item:
             out += [f"class _{it.name.capitalize()}Items(ctypes.Structure):", "    _fields_ = ["]
-            out += [f'        ("items", ctypes.POINTER({c_number(it.item)})),']
+            out += [f'        ("items", ctypes.POINTER({item_type(it)})),']
             out += ['        ("capacity", ctypes.c_size_t),', '        ("length", ctypes.c_size_t),', "    ]", "", ""]
     return out + fields_struct(t)
 
@@ -221,6 +231,10 @@ def hint(kind: Crossed) -> str:
             return f"_{kind.use.module}.{kind.use.name} | None"
         case m.Choose():
             return kind.type
+        case m.List(item=m.Use() as use):
+            return f"list[_{use.module}.{use.name}]"
+        case m.List(item=m.EnumType() as enum):
+            return f"list[{enum.name}{' | int' if enum.other else ''}]"
         case m.List() | m.Sized():
             return "bytes" if isinstance(kind.item, m.Octet) else "list[int]"
     assert_never(kind)
@@ -241,9 +255,9 @@ def said(t: Target, kind: Crossed) -> str:
 
 def fields_code(t: Target) -> list[str]:
     """Returns the dataclass with its fields."""
-    out = ["@dataclass", f"class {t.f.type}:", f'    """{t.f.doc}"""', ""]
+    out = ["@dataclass", f"class {t.f.type}:", f'    """{in_docstring(t.f.doc)}"""', ""]
     for it in fields(t.f.description):
-        out += [f"    {python_name(it.name)}: {hint(it)}", f'    """{said(t, it)}"""']
+        out += [f"    {python_name(it.name)}: {hint(it)}", f'    """{in_docstring(said(t, it))}"""']
     size = [f"    SIZE: ClassVar[int] = {t.f.bytes}", '    """The bytes that the fields take."""', ""] * t.f.sized
     return [*out, "", *size]
 
@@ -318,6 +332,10 @@ def from_c(kind: Crossed) -> str:
             return f"_{kind.use.module}.{kind.use.name}._from_c({v}) if out.has_{kind.name} else None"
         case m.Choose():
             return f"_{kind.name}_chosen({v})"
+        case m.List(item=m.Use() as use):
+            return f"[_{use.module}.{use.name}._from_c(it) for it in {v}.items[: {v}.length]]"
+        case m.List(item=m.EnumType() as enum):
+            return f"[{f'_{m.snake(enum.name)}' if enum.other else enum.name}(it) for it in {v}.items[: {v}.length]]"
         case m.List() | m.Sized():
             return f"{'bytes' if isinstance(kind.item, m.Octet) else 'list'}({v}.items[: {v}.length])"
     assert_never(kind)
@@ -327,6 +345,9 @@ def lists_code(t: Target) -> list[str]:
     """Returns the functions that make the structs of lists."""
     out = list[str]()
     for it in lists(t.f.description):
+        if isinstance(it.item, m.Use | m.EnumType):
+            out += mapped_list_code(it, it.item)
+            continue
         kind, (least, most) = c_number(base(it)), (it.item.least, it.item.most) if isinstance(it.item, m.Integer) else (
             0,
             255,
@@ -339,6 +360,24 @@ def lists_code(t: Target) -> list[str]:
             "",
         ]
     return out
+
+
+def mapped_list_code(kind: Listed, item: m.Use | m.EnumType) -> list[str]:
+    """Returns the function that makes the struct of a list of parts or of an enum."""
+    items, at = f"_{kind.name.capitalize()}Items", 'f"{name}[{k}]"'
+    if isinstance(item, m.Use):
+        given, of_c = f"_{item.module}.{item.name}", f"_{item.module}._C"
+        one = f'part(it, {given}, {at})._to_c(f"{{name}}[{{k}}].")'
+    else:
+        given, of_c = f"{item.name}{' | int' if item.other else ''}", c_number(base(kind))
+        one = f"number(it, 0, {2**item.width - 1}, {at})" if item.other else f"case(it, {item.name}, {at})"
+    return [
+        f"def _{kind.name}(values: Sequence[{given}], name: str) -> {items}:",
+        f"    found = [{one} for k, it in enumerate(values)]",
+        f"    return {items}(({of_c} * len(found))(*found), len(found), len(found))",
+        "",
+        "",
+    ]
 
 
 def choice_struct(kind: m.Choose) -> list[str]:
@@ -363,7 +402,7 @@ def choice_classes(kind: m.Choose) -> list[str]:
         out += [
             "@dataclass",
             f"class {kind.type}{it.case}:",
-            f'    """{kind.doc or f"The field `{kind.name}`."} {said}"""',
+            f'    """{in_docstring(kind.doc or f"The field `{kind.name}`.")} {said}"""',
             "",
         ]
         if isinstance(it.held, m.Use):
@@ -489,9 +528,13 @@ def parse_lists_code(t: Target) -> list[str]:
         "        while status:",
     ]
     for k, (it, status) in enumerate(zip(lists(f.description), rooms(f))):
+        room = f'_{it.name}([0] * taken.value, "")'
+        if isinstance(it.item, m.Use | m.EnumType):
+            of_c = f"_{it.item.module}._C" if isinstance(it.item, m.Use) else c_number(base(it))
+            room = f"_{it.name.capitalize()}Items(({of_c} * taken.value)(), taken.value, 0)"
         out += [
             f"            {'el' * (k > 0)}if status == {status.number}:",
-            f'                out.{python_name(it.name)} = _{it.name}([0] * taken.value, "")',
+            f"                out.{python_name(it.name)} = {room}",
         ]
     return [
         *out,

@@ -6,6 +6,7 @@ from typing import assert_never
 from describing import model as m
 from describing.c.cross import (
     Crossed,
+    Listed,
     Member,
     base,
     choice_members,
@@ -14,12 +15,14 @@ from describing.c.cross import (
     enums,
     fields,
     is_listed,
+    is_mapped,
     layout,
     limits,
     list_comment,
     lists,
     members,
     parts,
+    said_of_enum,
 )
 from describing.c.status import DOES_NOT_FIT, Status, numbers, own, refused, rooms
 from describing.c.target import Target
@@ -59,8 +62,7 @@ def struct_code(t: Target) -> list[str]:
 def enum_code(t: Target, enum: m.EnumType) -> list[str]:
     """Returns an enum, with the functions from a number to a case and back."""
     number, name = f"u{enum_bits(enum)}", enum.name
-    kind = next(it for it in fields(t.f.description) if isinstance(it, m.Enum) and it.enum.name == name)
-    out = [*doc(kind.doc or f"The field `{kind.name}`."), DERIVES, f"pub enum {name} {{"]
+    out = [*doc(said_of_enum(t.f.description, name)), DERIVES, f"pub enum {name} {{"]
     for value, case in enum.cases:
         out += [f"    /// Encoded as {value}.", f"    {case},"]
     said = f"Another number below 2^{enum.width}. With the number of a case above it packs as that case."
@@ -241,6 +243,10 @@ def from_c(kind: Crossed) -> str:
             return f"{v}.fields()?"
         case m.Optional() | m.If():
             return f"if self.has_{kind.name} == 0 {{ None }} else {{ Some({v}.fields()?) }}"
+        case m.List(item=m.Use() as use):
+            return f"{kind.name}_items.iter().map({use.name}C::fields).collect::<Option<Vec<_>>>()?"
+        case m.List(item=m.EnumType() as enum):
+            return f"{kind.name}_items.iter().map(|it| {enum.name}::of(*it)).collect::<Option<Vec<_>>>()?"
         case m.List() | m.Sized():
             return f"{kind.name}_items"
         case m.Choose():
@@ -316,6 +322,20 @@ def items_parameters(t: Target) -> str:
     return "".join(f", {it.name}_items: Vec<{base(it)}>" for it in lists(t.f.description))
 
 
+def items_for_c(t: Target) -> list[str]:
+    """Returns the statements that make the structs that cross of the parts of lists."""
+    kinds = [(it, it.item.name) for it in lists(t.f.description) if isinstance(it.item, m.Use | m.EnumType)]
+    return [
+        f"        let {it.name}_items: Vec<{base(it)}> = self.{it.name}.iter().map({crossed(it, item)}).collect();"
+        for it, item in kinds
+    ]
+
+
+def crossed(kind: Listed, item: str) -> str:
+    """Returns the function from an item of a list of parts or of an enum to what crosses."""
+    return f"{item}C::new" if isinstance(kind.item, m.Use) else "|it| it.number()"
+
+
 def pointers(t: Target, how: str) -> str:
     """Returns the parameters for the items of the lists of a proved function."""
     names = [(it.name, base(it)) for it in lists(t.f.description)]
@@ -387,7 +407,8 @@ def parse_lists_code(t: Target) -> list[str]:
         "            match parsed.status {",
     ]
     for it, status in zip(kinds, rooms(f)):
-        out.append(f"                {status.number} => {it.name}_items = vec![0; parsed.taken],")
+        none = f"{base(it)}::ZERO" if isinstance(it.item, m.Use) else "0"
+        out.append(f"                {status.number} => {it.name}_items = vec![{none}; parsed.taken],")
     cut = [f"                    {it.name}_items.truncate(parsed.value.{it.name});" for it in kinds]
     names = ", ".join(f"{it.name}_items" for it in kinds)
     return [
@@ -408,7 +429,8 @@ def parse_lists_code(t: Target) -> list[str]:
 def pack_into_code(t: Target) -> list[str]:
     """Returns the pack into a buffer."""
     f, e = t.f, error_name(t)
-    given = "".join(f", self.{it.name}.as_ptr(), self.{it.name}.len()" for it in lists(f.description))
+    named = [f"{it.name}_items" if is_mapped(it) else f"self.{it.name}" for it in lists(f.description)]
+    given = "".join(f", {it}.as_ptr(), {it}.len()" for it in named)
     said = f"Writes the fields to the first {f.bytes} bytes of a buffer, and returns {f.bytes}."
     room = f"`NoRoom` for fewer than {f.bytes} bytes"
     if not f.sized:
@@ -422,6 +444,7 @@ def pack_into_code(t: Target) -> list[str]:
         *doc(f"`DoesNotFit` if a field has a value that the format does not allow; else {room}.", "    "),
         f"    pub fn pack_into(&self, buffer: &mut [u8]) -> Result<usize, {e}> {{",
         f"        let value = {f.type}C::new(self);",
+        *items_for_c(t),
         "        // SAFETY: the pointer and the length are a slice's, which is borrowed mutably.",
         f"        let packed = unsafe {{ proved_{f.m}_pack(&value{given}, buffer.as_mut_ptr(), buffer.len()) }};",
         "        done(packed.status)?;",

@@ -4,7 +4,7 @@ from __future__ import annotations
 from typing import assert_never
 
 from describing import model as m
-from describing.c import choices, cross, lists, optional, varying
+from describing.c import choices, cross, lists, optional, part_lists, varying
 from describing.c.cross import Crossed, Member, base, fields, members, partial
 from describing.c.imports import spec_uses
 from describing.c.status import END_OF_INPUT, own
@@ -20,6 +20,7 @@ def specs(t: Target) -> str:
         results = lists.specs(t.f)
     body = [
         *narrow_specs(t.f),
+        *part_lists.enum_specs(t.f),
         *optional.specs(t.f),
         *choices.specs(t.f),
         *to_c_specs(t),
@@ -94,6 +95,8 @@ def to_c_specs(t: Target) -> list[str]:
 def from_c(f: Format, kind: Crossed) -> str:
     """Returns the field for a field of C; that of a partial one is an `Option` or a `Result`."""
     name = f"c.{kind.name}"
+    if one := part_lists.shape(f, kind):
+        return f"all_made {one.from_c} {kind.name}_items"
     match kind:
         case m.Bool():
             return f"not ({name} == 0)"
@@ -130,13 +133,9 @@ def partial_type(t: Target, kind: Crossed) -> str:
             return f"Option (Option {kind.use.name})"
         case m.Choose():
             return f"Option {kind.type}"
+        case m.List(item=m.Use() | m.EnumType() as item):
+            return f"Option (List {item.name})"
     raise AssertionError(kind)
-
-
-def given(t: Target) -> list[Crossed]:
-    """Returns the fields that are made before the record: the partial ones and the parts."""
-    some = partial(t.f.description)
-    return [it for it in fields(t.f.description) if it in some or isinstance(it, m.Part)]
 
 
 def pattern(kind: Crossed) -> tuple[str, str]:
@@ -147,7 +146,7 @@ def pattern(kind: Crossed) -> tuple[str, str]:
 
 def from_c_specs(t: Target) -> list[str]:
     """Returns the definition of the fields of a struct of C."""
-    f, held = t.f, given(t)
+    f, held = t.f, partial(t.f.description)
     made = [f"  {it.name} = {it.name if it in held else from_c(f, it)};" for it in fields(f.description)]
     says = "-- the fields of a struct of C, or none if a number of C is no value of its field"
     kinds = cross.lists(f.description)

@@ -383,6 +383,10 @@ def bound(f: Format, line: Line) -> tuple[str, str]:
             return f"let {fact} = {term} in", f"{fact}.1, {fact}.2"
         case m.Varint():
             return f"let {fact} = width_most (varint_length {v}) in", fact
+        case m.List(item=m.Use() as use):
+            one = f"{use.module}_most" if use.description.bits is None else "(λ it fit. omega arith)"
+            says = f"parts_most ({use.module}_size {f.o}) {most(use.description)} {use.name}Fits {v}"
+            return f"let {fact} = {says} fits.{line.name} {one} in", fact
         case m.Sized() if line.size and line.units:
             most_ = f"(2 ^ {line.size.width})"
             whole = f"stored-whole {line.units} (length {v}) {most_} fits.{m.label(line.size)} refl refl"

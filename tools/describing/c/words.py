@@ -14,8 +14,8 @@ C_WORDS = frozenset(
     volatile while xor""".split()
 )
 PYTHON_WORDS = frozenset(
-    """False None True and as assert async await class def del elif except finally from global import in is lambda
-    nonlocal not or parse pack pass raise try with yield""".split()
+    """False None True and as assert async await break class continue def del elif else except finally for from global if
+    import in is lambda nonlocal not or parse pack pass raise return try while with yield""".split()
 )
 COLUMNS = 100
 
@@ -40,9 +40,20 @@ def paragraph(text: str, first: str, other: str) -> list[str]:
     return textwrap.wrap(text, COLUMNS, initial_indent=first, subsequent_indent=other, break_long_words=False)
 
 
+def in_comment(text: str) -> str:
+    """Returns a text as a comment of C may hold it."""
+    return text.replace("*/", "* /").replace("/*", "/ *")
+
+
+def in_docstring(text: str) -> str:
+    """Returns a text as a docstring of Python may hold it, also at its end."""
+    text = text.replace("\\", "\\\\")
+    return text.replace('"', '\\"') if '"""' in text or text.endswith('"') else text
+
+
 def c_comment(text: str, indent: str = "") -> list[str]:
     """Returns a comment of C."""
-    lines = paragraph(text, f"{indent}/* ", f"{indent} * ")
+    lines = paragraph(in_comment(text), f"{indent}/* ", f"{indent} * ")
     return [*lines[:-1], f"{lines[-1]} */"]
 
 

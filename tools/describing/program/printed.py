@@ -10,6 +10,7 @@ from describing.checks import new_enums
 from describing.examples import described
 from describing.layout import lines_of
 from describing.model import Refused, snake
+from describing.parse import description_text
 from describing.printing import lay_out, put, text_of, write
 from describing.program import values
 
@@ -31,7 +32,7 @@ class Program:
         self.path, self.folder = path, folder
         self.crate = os.path.basename(os.path.abspath(folder))
         self.module = os.path.basename(path).removesuffix(".fields")
-        self.it = described(text_of(path), path, self.module)
+        self.it = described(description_text(path), path, self.module)
         lines_of(self.it)
         values.check(self.it)
         self.library = self.library_of()

@@ -26,7 +26,8 @@ def is_shown(kind: m.Kind) -> TypeGuard[Shown]:
 def check(it: m.Description) -> None:
     """Refuses a description of which no program is printed."""
     for kind in it.kinds:
-        if not is_shown(kind) and not isinstance(kind, m.Const | m.Skip | m.Flag | m.Count):
+        known = is_shown(kind) or isinstance(kind, m.Const | m.Skip | m.Flag | m.Count)
+        if not known or m.is_limited(kind) or isinstance(kind, m.List) and kind.power:
             raise Refused(f"`{m.label(kind)}`: no program is printed for it yet", kind.at)
         for use in m.uses(kind):
             try:
@@ -275,10 +276,18 @@ def read_array(kind: m.Array) -> list[str]:
     return [*head, f"let mut found = [{first}; {kind.count}];", *fill, "Ok(found)", "}", ""]
 
 
+def test(asked: m.Test) -> str:
+    """Returns the expression of a test of the record."""
+    if asked.how == "not":
+        return f"!record.{asked.field}"
+    number = f"record.{asked.field}{'' if asked.asked[:1].isdigit() else '.number()'}"
+    return f"{number} {asked.how} {asked.value}" if asked.how else f"record.{asked.field}"
+
+
 def check_there(kind: m.If) -> list[str]:
     """Returns the statements that refuse a part that its condition contradicts."""
-    number = f"record.{kind.field}{'' if kind.asked[:1].isdigit() else '.number()'}"
-    asked = f"{number} {kind.how} {kind.value}" if kind.how else f"record.{kind.field}"
+    joined = " && " if kind.joined == "and" else " || "
+    asked = joined.join(test(it) for it in kind.tests)
     what = f": it is there if, and only if, {kind.condition}"
     return [
         f"if record.{kind.name}.is_some() != ({asked}) {{",

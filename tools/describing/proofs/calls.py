@@ -8,7 +8,7 @@ from describing import model as m
 from describing.layout import Format, Line, is_octets
 from describing.model import snake
 from describing.proofs.chains import VIEW, Answers, Call
-from describing.specs.terms import asked_enum, by_enum, short
+from describing.specs.terms import asked_enums, by_enum, short
 
 # Contracts of reads, from the weakest: a plain read, one with errors of its own, one that allocates.
 PLAIN, OWN, GROWING = "Reads", "ReadsOwn", "GrowsOwn"
@@ -105,12 +105,20 @@ def read_answers(f: Format, k: int) -> str:
             calls.append(verify_call(it, it.kind.check, steps))
             continue
         form, fact, wide = read_call(f, it)
-        asks = isinstance(it.kind, m.If) and asked_enum(f, it.kind) is not None
-        asks = asks or isinstance(it.kind, m.Choose) and by_enum(f, it.kind) is not None
+        asks = asked_enums(f, it.kind) or isinstance(it.kind, m.Choose) and by_enum(f, it.kind) is not None
         known = (f"c.{steps.next('number')}.ensures",) if asks else ()
+        if isinstance(it.kind, m.If) and it.kind.due:
+            known = (f"c.is_{it.kind.due}.ensures",)
         if isinstance(it.kind, m.Sized) and it.units and not it.kind.error:
             known = (f"c.{steps.next('size_in_units')}.ensures",)
+        if isinstance(it.kind, m.List) and it.kind.power:
+            known = (f"c.{steps.next('power_count')}.ensures",)
+        if f.rest and isinstance(it.kind, m.Rest | m.Fill) and it.name == f.rest.name:
+            known = tuple(known_after(f, steps))
         calls.append(Call(form, fact, labels.next(read_label(it)), "", wide=wide, known=known))
+        if m.is_limited(it.kind):
+            label = f"not-is_{it.name}"
+            calls.append(Call("most", "", label, label, "if", "not"))
     answers = Answers(contract(f.error, f.grows), "", "", True)
     if k:
         before = f.entry_at(pieces[k][0])[1]
@@ -122,11 +130,19 @@ def read_answers(f: Format, k: int) -> str:
     return text(f, answers, calls, f.type, f"read_{k + 1}" if k else "read")
 
 
+def known_after(f: Format, steps: Labels) -> list[str]:
+    """Returns the equations of the number of bytes of the rest, after bytes before it."""
+    found = list[str]()
+    for _ in f.before_rest:
+        found = [f"c.{steps.next('rest_after')}.ensures", f"c.{steps.next('deref')}.ensures.value", *found]
+    return found
+
+
 def verify_call(line: Line, kind: m.Check, steps: Labels) -> Call:
     """Returns the test of a checksum, with the equations of its arguments."""
     label = f"not-is_{kind.word}"
     if kind.lines:
-        return Call("if", "", label, label, "if", "not", known=(f"c.{kind.word}.ensures",))
+        return Call("if", "", label, label, "if", "not", known=(f"c.{kind.called}.ensures",))
     return Call("if", "", label, label, "if", "not", known=(f"c.{kind.word}_of.ensures", *known_sum(line, steps)))
 
 
@@ -168,7 +184,8 @@ class Writes:
         """Returns the call that writes a line."""
         form, name, fact, wide = self.form(line.kind)
         if isinstance(line.kind, m.Size) and not (line.measures and is_octets(line.measures)):
-            name, fact = f"write_{'stored_' * bool(line.kind.units)}size", ""
+            name = f"write_{'stored_' * bool(line.kind.units)}size{'_in_groups' * bool(line.kind.groups)}"
+            fact = ""
         known = self.known(line)
         return Call(form, fact, self.labels.next(name), "", wide=wide, known=known)
 
@@ -225,7 +242,7 @@ class Writes:
             case m.Size():
                 return self.known_size(line, kind)
             case m.Check() if kind.lines:
-                return (f"c.{kind.word}.ensures", *(VIEW,) * self.f.grows)
+                return (f"c.{kind.called}.ensures", *(VIEW,) * self.f.grows)
             case m.Check():
                 return (f"c.{kind.word}_of.ensures", *known_sum(line, self.steps))
             case m.Count():
@@ -248,6 +265,8 @@ class Writes:
             counted = f"(rw {slice} at c.{self.steps.next(f'count_{kind.target}')}.ensures)"
         else:
             counted = f"c.{self.steps.next('bits')}.ensures.counts"
+        if kind.groups:
+            return (f"grouped-wrote _ _ _ _ _ _ _ {counted}",)
         if kind.units:
             return (f"stored-wrote _ _ _ {kind.units} _ _ _ _ _ {counted}",)
         return (f"size-wrote _ _ _ _ _ _ _ _ {counted}",)

@@ -151,7 +151,7 @@ LEMMAS = {
     "borrow.Author.Rules": "sfits_of",
     "Rattle.std.proofs.Common": "◌∙◌ refl false Ok Err w8 w16 w32 w64",
     "Rattle.std.specs.Int": "w128",
-    "Rattle.std.proofs.lemmas.Bool": "eq-eqb ne_eqb",
+    "Rattle.std.proofs.lemmas.Bool": "eq-eqb ne_eqb le-leb",
     CALLER + "CallerLemmas": "next_signed_part next_own_signed_part if_read else_read own_made"
     " const_alone next_const exit_const next_own_read next_own_const exit_own_read"
     " exit_own_const next_grown_signed next_grown_const exit_grown_const if_growing else_growing",
@@ -164,6 +164,7 @@ LEMMAS = {
     CALLER + "ReadsLemmas": "Reads-and_then-ok Reads-pure exit",
     "Rattle.bitstream_format.proofs.WithinLemmas": "size-wrote",
     "Rattle.bitstream_format.proofs.StatedLemmas": "stored-wrote",
+    "Rattle.bitstream_format.proofs.InGroupsLemmas": "grouped-wrote above-leb",
     CALLER + "WriteParts": "all_append all_none all_one all_stop",
     CALLER + "WriteSteps": "next_call next_write next_signed next_signed_call stop_call stop_write stop_signed"
     " stop_signed_call signed_value",
@@ -211,7 +212,7 @@ class Answers:
             raise UnknownCall(call.line, f"`{call.step}` {where}")
         fact = f"c.{arm}.ensures" + (f".{call.fact}" if call.fact else "")
         for known in call.known:
-            if known.startswith(("size-wrote", "stored-wrote")):
+            if known.startswith(("size-wrote", "stored-wrote", "grouped-wrote")):
                 self.used.add(known.split()[0])
                 fact = f"({known} {fact})"
                 continue
@@ -247,10 +248,12 @@ class Answers:
         last = calls[-1] if calls and calls[-1].way == "end" else None
         stops = 0
         for k, call in enumerate(calls[: -1 if last else None]):
-            if call.form == "if":
+            if call.form in ("if", "most"):
                 holds, fails = TESTS[self.kind][::-1] if call.wide else TESTS[self.kind]
                 at = f"c.if-{call.label}"
                 true, false = f"{at}.true", f"{at}.false"
+                if call.form == "most":  # with a greatest value
+                    true, false = self.term(f"(above-leb 2 {true})"), self.term(f"(le-leb 2 {false})")
                 if call.known:  # numbers are compared
                     true, false = f"(ne_eqb 2 {self.knowing(call, true)})", f"(eq-eqb 2 {self.knowing(call, false)})"
                 ends = [self.term(f"{holds} {true}"), self.term(END[self.kind])]

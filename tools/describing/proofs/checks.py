@@ -52,4 +52,8 @@ def lines_answers(f: Format, kind: m.Check) -> Answers:
     out += ["pub returns-in-Ok : goal.returns-in-Ok"]
     out += [f"returns-in-Ok c = summed {given} c.in-Ok.ensures _ c.sum_of.ensures", ""]
     out += ["pub returns-in-Err : goal.returns-in-Err"]
-    return {path: [*out, f"returns-in-Err c = unsummed {given} (λ x may. may.refused) _ c.in-Err.ensures"]}
+    found = {path: [*out, f"returns-in-Err c = unsummed {given} (λ x may. may.refused) _ c.in-Err.ensures"]}
+    if isinstance(kind, m.Computed) and kind.units:
+        goals = [f"use {f.goals}.{f.type}.{kind.called}.Goals as goal", "", "pub returns : goal.returns"]
+        found[f"{f.type}/{kind.called}"] = [*goals, f"returns c = rw c.{kind.word}.ensures at c.stored_size.ensures"]
+    return found

@@ -2,7 +2,7 @@
 from __future__ import annotations
 
 from describing import model as m
-from describing.layout import Format, Line
+from describing.layout import Format, Line, head_bits, is_open
 from describing.model import snake
 from describing.proofs.calls import GROWING, Labels, becomes, contract, own_read, part_contract
 from describing.proofs.chains import END, NEXT, STOP, TESTS, Answers, Call
@@ -72,39 +72,48 @@ def read_contract(f: Format, line: Line) -> str:
 
 def read_answers(f: Format, line: Line, kind: m.Choose) -> str:
     """Returns the answers of the read: of each case after the tests of the cases before it."""
-    answers, labels = Answers(read_contract(f, line), "", "", True), Labels()
+    answers, labels, steps = Answers(read_contract(f, line), "", "", True), Labels(), Labels()
     found, front = list[str](), list[str]()
     for arm, part in line.arms[: len(kind.tested)]:
         label = f"number-eq{arm.number}"
         holds, fails = (answers.term(it) for it in TESTS[answers.kind])
         is_it = f"{holds} (eq-eqb _ {arm.number} c.if-{label}.true)"
-        found += case_answers(f, answers, labels, [*front, is_it], f"returns-then-{label}", part)
+        found += case_answers(f, answers, labels, steps, [*front, is_it], f"returns-then-{label}", part)
         front.append(f"{fails} (ne_eqb _ {arm.number} c.if-{label}.false)")
         answers.used |= {"eq-eqb", "ne_eqb"}
     last = None if kind.unknown else line.arms[-1][1]
     if kind.unnamed:
         found += arm_answers(answers, labels, front, "returns", "growing part")
     else:
-        found += case_answers(f, answers, labels, front, "returns", last)
+        found += case_answers(f, answers, labels, steps, front, "returns", last)
     goals = f"{f.goals}.{kind.type}.read.Goals"
     return "\n\n".join([f"-- {f.made}\n{answers.uses(goals)}", *found])
 
 
 def case_answers(
-    f: Format, answers: Answers, labels: Labels, front: list[str], goal: str, part: Line | None
+    f: Format, answers: Answers, labels: Labels, steps: Labels, front: list[str], goal: str, part: Line | None
 ) -> list[str]:
     """Returns the answers of one case: its part may be refused, and else the read ends."""
     if not part or not part.use:
         return [answers.answer(goal, [*front, answers.term(END[answers.kind])])]
     use = part.use
     form = own_read(f, part_contract(use), becomes(use.description.error, use.module))
-    return arm_answers(answers, labels, front, goal, form)
+    known = (f"c.{after_label(steps, goal)}.ensures",) if is_open(use) and head_bits(use.description) else ()
+    return arm_answers(answers, labels, front, goal, form, known)
 
 
-def arm_answers(answers: Answers, labels: Labels, front: list[str], goal: str, form: str) -> list[str]:
+def after_label(steps: Labels, goal: str) -> str:
+    """Returns the name of the call that counts the bytes of a rest: of a later one with the test before it."""
+    label = steps.next("bytes_after")
+    return f"bytes_after-{goal.removeprefix('returns-')}" if label != "bytes_after" and goal != "returns" else label
+
+
+def arm_answers(
+    answers: Answers, labels: Labels, front: list[str], goal: str, form: str, known: tuple[str, ...] = ()
+) -> list[str]:
     """Returns the answers of a case whose read has this form."""
     end, arm = answers.term(END[answers.kind]), labels.next("read")
-    call = Call(form, "", arm, arm)
+    call = Call(form, "", arm, arm, known=known)
     residual = f"c.from_residual{f'-in_err-{arm}' * (arm != 'read')}.ensures.1"
     stop = answers.of_call(call, STOP, f"in_err-{arm}", residual)
     go = answers.of_call(call, NEXT, f"in_ok-{arm}")

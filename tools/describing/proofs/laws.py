@@ -6,7 +6,7 @@ import re
 from describing import model as m
 from describing.layout import Format, Line
 from describing.specs import checks, values
-from describing.specs.terms import rest_count
+from describing.specs.terms import of_value, rest_count
 
 
 def lemmas(f: Format) -> list[str]:
@@ -53,6 +53,8 @@ PART = re.compile(r"^((?:free |sure )?\(*)(own_|const\b)?\w*")
 
 def as_written(f: Format, name: str) -> str:
     """Returns the value of an earlier line, of the record."""
+    if name in [it.name for it in f.handed]:
+        return f"value.{name}"
     if name in [it.name for it in f.given]:
         return rest_count(f)
     term = values.of_record(next(it for it in f.lines if it.name == name), "value")
@@ -65,7 +67,7 @@ def of_part(f: Format, line: Line, law: str) -> str:
     part = PART.sub(lambda it: f"{it[0]} {{{f'B = {f.type}' if it[2] else f'W = {f.result}'}}}", part)
     facts = values.placed_at(values.pairs(values.line_facts(f, line)), "value").replace("fits.1", "refl")
     facts = f"({facts})" if " " in facts and not facts.startswith("(") else facts
-    made = "refl" if isinstance(line.kind, m.List | m.Optional) else "tt"
+    made = "refl" if values.is_made(line) else "tt"
     return f"({part}).{law} o value {'_ _ _ ' * (law == 'round_trip')}{facts} {made}"
 
 
@@ -86,7 +88,7 @@ def goes(f: Format) -> list[str]:
     return [
         "-- a written value is read back",
         f"pub {f.m}_goes : (o : Order) (value : {f.type}) → Fits value",
-        f"    → RoundTrip ({f.decoder('o', rest_count(f))}) ({f.m}_writes o value) (Ok value)",
+        f"    → RoundTrip ({f.decoder('o', of_value(f))}) ({f.m}_writes o value) (Ok value)",
         f"{f.m}_goes o value fits =",
         f"    {term}",
         "",
@@ -115,7 +117,7 @@ def packs(f: Format) -> list[str]:
 
 def format_value(f: Format) -> list[str]:
     """Returns the definition of the format, as a part of others."""
-    if f.rest:
+    if f.given:
         return []
     fields = {"read": f"{f.m}_decoder", "write": f"{f.m}_writes", "size": f"{f.m}_size High"}
     fields |= {"facts": "λ value. Fits value ∷ []", "round_trip": f"{f.m}_goes", "packs": f"{f.m}_packs"}

@@ -7,7 +7,7 @@ from describing import model as m
 from describing.layout import Format, Line
 from describing.proofs.found import found as line_found
 from describing.proofs.found import missed
-from describing.specs.terms import at_bits, fails, known_of, only_constants, rest_count
+from describing.specs.terms import at_bits, fails, handed, known_of, only_constants, rest_count
 
 Clause = tuple[str, str, str]  # a clause, the parameters of its answer, and the term
 OVER = "slice_ends c.over.ensures.state refl c.read.ensures"
@@ -36,27 +36,37 @@ def back_term(f: Format) -> str:
     if f.sized:
         is_ = f"(is ∙ ap (λ w. w ++ more) (sym (told value) ∙ packs-whole ({f.m}_packs {f.o} value fits) refl))"
     back = f"c.{f.m}_round_trip.ensures.back {f.o} value 0 0 more fits"
-    front = f"(ap (({f.m}_decoder {f.o}).reads 0) {is_} ∙ {back})"
+    front = f"(ap (({f.decoder(f.o, handed(f))}).reads 0) {is_} ∙ {back})"
     if f.rest:
         written, size = f"({f.m}_writes {f.o} value)", "omega arith"
         if f.rest_line and f.rest_line.measured:
             size = f"let whole = fits.{f.rest.name}_whole {f.o} in omega (arith, whole)"
         packs = f"(packs-is ({f.m}_packs {f.o} value fits) ({size}))"
-        shape = f"({f.m}_decoder {f.o}) {f.o} c.args.packet.now {written} {f.head} {rest_count(f)} _"
+        shape = f"({f.decoder(f.o, handed(f))}) {f.o} c.args.packet.now {written} {f.head} {rest_count(f)} _"
         front = f"(rest-back {shape} {packs} is (λ more. {back}))"
     if f.grows:
         motive = f"(λ prefix. OwnAnswer {f.becomes_name} (λ answer. answer) (sure_answer prefix) c.read.result)"
         names = "value fits" if f.rest else "value more fits"
-        return f"λ {names} is.\n    {or_refused_term(f, f'subst {motive} {front} found')}"
-    return f"λ value more fits is.\n    {'own_' * f.own}prefix_answered {OVER} {front}"
+        same = "".join(f" same_{it.name}" for it in f.handed)
+        return f"λ {names}{same} is.\n    {or_refused_term(f, f'subst {motive} {front} found', same=True)}"
+    same = "".join(f" same_{it.name}" for it in f.handed)
+    return f"λ value more fits{same} is.\n    {'own_' * f.own}prefix_answered {over(f, True)} {front}"
 
 
-def or_refused_term(f: Format, term: str, lack: str = "(is_error _ _ lack.0)") -> str:
+def over(f: Format, same: bool = False) -> str:
+    """Returns what is known of the read; with `same`, its given parts are those of the value."""
+    read = "c.read.ensures"
+    for it in f.given:
+        if it not in f.handed:
+            read = f"(rw c.rest_of-{it.name}.ensures at {read})"
+        elif same:
+            read = f"(rw (← same_{it.name}) at {read})"
+    return OVER.replace("c.read.ensures", read)
+
+
+def or_refused_term(f: Format, term: str, lack: str = "(is_error _ _ lack.0)", same: bool = False) -> str:
     """Returns the term of a fact from a term of it for `found`, or that an allocation failed."""
-    over = OVER
-    if f.given:
-        over = f"slice_ends c.over.ensures.state refl (rw c.rest_of-{f.given[0].name}.ensures at c.read.ensures)"
-    return f"elim (own_grown_answered {over}) [ | inl found ↦ inl ({term}) | inr lack ↦ inr {lack} ]"
+    return f"elim (own_grown_answered {over(f, same)}) [ | inl found ↦ inl ({term}) | inr lack ↦ inr {lack} ]"
 
 
 # ---- by places

@@ -113,7 +113,7 @@ def traits(f: Format) -> Answers:
     around = "" if f.own else "plainly_read "
     read = f"record {{ reads = {around}c.read.ensures }}"
     found = answer(f, f"{f.type}FromBitStream{'Using' * f.grows}/from_reader", ("returns", "g c", read))
-    return ({} if f.ordered or f.rest else found) | to_answers(f, f.type)
+    return ({} if f.ordered or f.given else found) | to_answers(f, f.type)
 
 
 def to_answers(f: Format, type: str) -> Answers:

@@ -1,15 +1,17 @@
 """The test vectors of a description, which the prover computes."""
 from __future__ import annotations
 
+import re
 from typing import assert_never
 
 from describing import model as m
 from describing.examples import vectors
-from describing.input import Value
+from describing.input import Input, ReadError, Value
 from describing.layout import Format, Line
 from describing.names import Table, merged, modules_of
 from describing.proofs.unfolds import of_lines
-from describing.specs.terms import called
+from describing.read import record_reader, value_of
+from describing.specs.terms import called, handed
 
 # ---- values
 
@@ -116,19 +118,36 @@ def item_term(line: Line, item: m.Item, value: Value, within: str) -> str:
 # ---- rows
 
 
-def row(f: Format, k: int, data: bytes, said: dict[str, Value] | str, unfolds: list[str]) -> list[str]:
+def row(
+    f: Format, k: int, data: bytes, said: dict[str, Value] | str, given: dict[str, Value], unfolds: list[str]
+) -> list[str]:
     """Returns the bytes of a test vector, and that they have its fields, or its error."""
     known = [f"row_{k} : List ℕ", f"row_{k} = {''.join(f'{it} ∷ ' for it in data)}[]", ""]
     if isinstance(said, str):
-        return [*known, *refused_row(f, k, len(data), said, unfolds)]
+        parts = " ".join(f"({record_term(it, given[it.name])})" for it in f.handed)
+        inside = is_inside(f, data, said, given)
+        return [*known, *refused_row(f, k, len(data), said, inside, parts, unfolds)]
     return [*known, *value_row(f, k, len(data), said, unfolds)]
 
 
-def refused_row(f: Format, k: int, size: int, said: str, unfolds: list[str]) -> list[str]:
+def is_inside(f: Format, data: bytes, said: str, given: dict[str, Value]) -> bool:
+    """Returns true if parts that are read over their own bytes return an error of the reader."""
+    try:
+        value_of(record_reader(f.description, given)(Input(data, f.order)))
+    except ReadError as it:
+        name = re.split(r"[.\[]", it.path)[0]
+        line = next((line for line in f.lines if line.name == name and line.measured), None)
+        return line is not None and (said != "EndOfInput" or line.size is None)
+    return False
+
+
+def refused_row(f: Format, k: int, size: int, said: str, inside: bool, parts: str, unfolds: list[str]) -> list[str]:
     """Returns that the bytes are refused with an error."""
     own = any(case == said for it in f.tests for case, _ in m.refusals(it.kind))
     answer = f"Ok (Err {said})" if own else f"Err {said}"
-    decoder = f.decoder(f.o, str(max(size - f.head, 0)))
+    if inside and not own:
+        answer = f"Ok (Err (Reader {said}))" if f.error else f"Ok (Err {said})"
+    decoder = f.decoder(f.o, f"{parts} {max(size - f.head, 0) if f.rest else ''}".strip())
     return [
         f"refused_{k} : sure_answer (({decoder}).reads 0 (bits {f.o} row_{k})) ≡ {answer}",
         f"unfolding row_{k} {' '.join(unfolds)}",
@@ -140,6 +159,7 @@ def refused_row(f: Format, k: int, size: int, said: str, unfolds: list[str]) -> 
 def value_row(f: Format, k: int, size: int, said: dict[str, Value], unfolds: list[str]) -> list[str]:
     """Returns that the fields are written to the bytes, and read from them."""
     ok = f"(Ok (Ok value_{k}))" if f.own else f"(Ok value_{k})"
+    decoder = f.decoder(f.o, f"{handed(f, f'value_{k}.')} {size - f.head if f.rest else ''}".strip())
     return [
         f"value_{k} : {f.type}",
         f"value_{k} = record {{",
@@ -147,7 +167,7 @@ def value_row(f: Format, k: int, size: int, said: dict[str, Value], unfolds: lis
         "}",
         "",
         f"written_{k} : (write_sequence ({f.m}_writes {f.o} value_{k} ++ align ∷ []) 0 ≡ bits {f.o} row_{k})",
-        f"    × (({f.decoder(f.o, str(size - f.head))}).reads 0 (bits {f.o} row_{k})",
+        f"    × (({decoder}).reads 0 (bits {f.o} row_{k})",
         f"    ≡ Done (length (write_sequence ({f.m}_writes {f.o} value_{k}) 0)) {ok})",
         f"unfolding row_{k} value_{k} {' '.join(unfolds)}",
         f"written_{k} = (refl, refl)",
@@ -157,11 +177,11 @@ def value_row(f: Format, k: int, size: int, said: dict[str, Value], unfolds: lis
 
 def rows(f: Format) -> tuple[list[str], Table]:
     """Returns the rows, and where the names come from that they compute through and that their parts have."""
-    wanted = {"and_then", "digits", "digits_number"} | set(of_lines(f.lines))
+    wanted = {"and_then", "digits", "digits_number"} | set(of_lines((*f.handed, *f.lines)))
     found = modules_of(wanted)
     unfolds = [it for names in found.values() for it in names.split()] + sorted(it for it in wanted if it[:4] == "lib.")
     out = [line for k, it in enumerate(vectors(f.description)) for line in row(f, k, *it, unfolds)]
-    return out, merged(found, *[part_names(f, it) for it in f.lines])
+    return out, merged(found, *[part_names(f, it) for it in (*f.handed, *f.lines)])
 
 
 def part_names(f: Format, line: Line) -> Table:

@@ -2,9 +2,9 @@
 from __future__ import annotations
 
 from describing import model as m
-from describing.layout import Format, Line, is_octets
+from describing.layout import Format, Line, by_size, head_bits, is_octets
 from describing.proofs.loops import write_answers, write_invariants
-from describing.specs.sizes import overrun
+from describing.specs.sizes import is_plain, overrun, reader_error
 from describing.specs.terms import inside
 
 Answers = dict[str, list[str]]
@@ -42,7 +42,7 @@ def stated_answers(f: Format, line: Line, kind: m.Measured) -> Answers:
 
 def invariants(f: Format, line: Line, kind: m.Fill) -> Answers:
     """Returns the invariants of the loops over items, by the function."""
-    read, shape = inside(f, line, f.o), f"{overrun(kind)} (λ error. Reader error) {kind.name}_ended"
+    read, shape = inside(f, line, f.o), f"{overrun(kind)} {reader_error(kind)} {kind.name}_ended"
     lines = [
         f"use {f.goals}.{kind.name}_in.Given as goal",
         "-- the items so far were read",
@@ -55,7 +55,7 @@ def invariants(f: Format, line: Line, kind: m.Fill) -> Answers:
 
 def items_answers(f: Format, line: Line, kind: m.Fill) -> list[str]:
     """Returns the answers of the function that reads items over their bytes."""
-    read, shape = inside(f, line, f.o), f"{overrun(kind)} (λ error. Reader error) {kind.name}_ended"
+    read, shape = inside(f, line, f.o), f"{overrun(kind)} {reader_error(kind)} {kind.name}_ended"
     so_far = f"({read}) {shape} (bits {f.o} c.args.bytes.now) c.args.size"
     here = f"{so_far} c.loop.counter c.loop.invariant"
     more = f"{here} c.loop-test.true c.if-is_at_end.ensures.left"
@@ -69,7 +69,7 @@ def items_answers(f: Format, line: Line, kind: m.Fill) -> list[str]:
     )
     put(out, "returns-then-is_at_end", "c", f"inl (so_far-end {here} c.if-is_at_end.ensures.left)")
     put(out, "loop-preserved", "c", f"so_far-push {more} _ _ _ c.in_ok-push-in-Ok.ensures.items {ok}")
-    known = f"(c.{kind.name}_ended.ensures, c.from.ensures)"
+    known = f"c.{kind.name}_ended.ensures" if is_plain(kind) else f"(c.{kind.name}_ended.ensures, c.from.ensures)"
     put(out, "returns-in-Err", "c", f"rw {known} (so_far-stop {more} _ _ slice_ends refl refl {err})")
     put(out, "returns-then-is_at_end-2", "c", f"inl (so_far-end {here} c.if-is_at_end-2.ensures.left)")
     all_read = "(omega (arith, c.loop-test.false))"
@@ -97,6 +97,8 @@ def put(out: list[str], goal: str, given: str, term: str, opened: str = "") -> N
 def grown(f: Format, line: Line, kind: m.Measured, arm: str, ok: bool) -> str:
     """Returns the term of the read of the part, with the errors of the format, from the clause of its call."""
     fact = f"c.{arm}.ensures"
+    if line.use and by_size(kind) and head_bits(line.use.description):
+        fact = f"(rw c.bytes_after.ensures at {fact})"
     if isinstance(kind, m.Choose):
         return fact
     if not f.mapped(kind):
@@ -109,7 +111,7 @@ def grown(f: Format, line: Line, kind: m.Measured, arm: str, ok: bool) -> str:
 
 def in_answers(f: Format, line: Line, kind: m.Measured) -> list[str]:
     """Returns the answers of the function that reads a part over its bytes."""
-    read = inside(f, line, f.o).replace(" number", " c.args.number").replace(" size", " c.args.size")
+    read = inside(f, line, f.o, "c.args.size").replace(" number", " c.args.number")
     shape = f"{overrun(kind)} (λ error. Reader error) {kind.name}_ended {{e = {read}}} c.over-inside.ensures.state"
     value = f"{shape} c.in-Ok.found"
     found = grown(f, line, kind, "in-Ok", True)
@@ -126,9 +128,9 @@ def in_answers(f: Format, line: Line, kind: m.Measured) -> list[str]:
 
 def read_answers(f: Format, line: Line, kind: m.Measured) -> list[str]:
     """Returns the answers of the function that reads the bytes of the size, and then the part."""
-    inner = inside(f, line, "o").replace(" number", " c.args.number").replace(" size", " c.args.size")
+    inner = inside(f, line, "o", "c.args.size").replace(" number", " c.args.number")
     read = f"(λ o. {inner})"
-    shape = f"{{own = λ error. Reader error}} {read} {overrun(kind)} {kind.name}_ended c.args.size c.requires"
+    shape = f"{{own = {reader_error(kind)[1:-1]}}} {read} {overrun(kind)} {kind.name}_ended c.args.size c.requires"
     told = f"(rw c.deref.ensures.value at c.{kind.name}_in.ensures)"
     out = [f"use {f.goals}.read_{kind.name}.Goals as goal"]
     read_bytes = "(vec-grown _ _ c.in_err-bytes.ensures.reads)"

@@ -1,6 +1,7 @@
 """The definitions that a test vector, or the end of a list, computes through."""
 from __future__ import annotations
 
+from dataclasses import replace
 from typing import Iterable, Iterator, assert_never
 
 from describing import model as m
@@ -30,7 +31,8 @@ def unfolds(line: Line) -> list[str]:
             return [*NUMBER]
         case m.Check():
             lines = ["lines_sum", "whole_bytes", "bytes_of"] * kind.lines
-            return [*NUMBER, *lines, *(["sum16_state"] if kind.sum == "sum16" else ["crc_over", "steps"])]
+            sums = {"sum16": ["sum16_state"], "sum16-udp": ["sum16_state"], "bytes": ["stored_size"]}
+            return [*NUMBER, *lines, *sums.get(kind.sum, ["crc_over", "steps"])]
         case m.Verify():
             return []
         case m.Varint() | m.Size(varint=True):
@@ -39,6 +41,8 @@ def unfolds(line: Line) -> list[str]:
             return [*NUMBER, "until_from"]
         case m.Blocks():
             return [*NUMBER, "blocks_from", "bytes_decoder", "bytes_of"]
+        case m.Size(groups=m.Groups()):
+            return ["groups", "groups_at", "groups_decoder", "grouped_encoder"]
         case m.Size():
             sizes = ["size_in_units", "stated_size", "stored_size", "stored_encoder"]
             return [*NUMBER, *(sizes if kind.units else ["size_encoder"])]
@@ -71,6 +75,8 @@ def of_items(line: Line, kind: m.Array | m.List) -> list[str]:
     """Returns the definitions for an array or a list."""
     item = kind.item
     many = all_items(line) if isinstance(kind, m.List) else "items_decoder"
+    if isinstance(kind, m.List) and kind.power:
+        return ["power_count", *of_items(line, replace(kind, power=None))]
     match item:
         case m.Integer():
             return [*of_integer(item), "items_decoder"]

@@ -7,8 +7,9 @@ from typing import assert_never
 from describing import model as m
 from describing.layout import Format, Line, enum_bits, is_octets
 from describing.model import snake
+from describing.rust.asked import test
 from describing.rust.checks import arguments
-from describing.specs.terms import asked_enum, by_enum, short, tag_bits, tag_of, width
+from describing.specs.terms import by_enum, short, tag_bits, tag_of, width
 from describing.text import article
 
 
@@ -53,8 +54,11 @@ def limits(line: Line) -> str:
 
 def list_limits(f: Format, line: Line, kind: m.List) -> str:
     """Returns the sentence about the number of items of a list, and their range."""
-    bits = next(it.kind.width for it in f.lines if isinstance(it.kind, m.Count) and it.kind.target == kind.name)
     said = integer_range(kind.item) if isinstance(kind.item, m.Integer) else ""
+    if kind.power:
+        there = f" if `{kind.power.there}` is set, and else none" * bool(kind.power.there)
+        return f"{kind.power.spelled} items{there}{f', each {said}' if said else ''}."
+    bits = next(it.kind.width for it in f.lines if isinstance(it.kind, m.Count) and it.kind.target == kind.name)
     return f"Fewer than 2^{bits}{f', each {said}' if said else ''}."
 
 
@@ -109,6 +113,8 @@ def refusal(line: Line) -> str:
     """Returns the comment of the case of the error for a line."""
     if line.use:
         return f"An error of {article(line.use.name)} that is not the reader's."
+    if m.is_limited(line.kind):
+        return limit_text(line.kind)
     if isinstance(line.kind, m.Sized):
         least = line.size.plus if line.size else 0
         return f"The size of `{line.name}` is below the {least} bytes that it counts too."
@@ -116,6 +122,14 @@ def refusal(line: Line) -> str:
         what = f"`{line.name}`" if isinstance(line.kind, m.Enum) else f"An item of `{line.name}`"
         return f"{what} is not the number of a case of `{line.enum.name}`."
     return line.kind.doc
+
+
+def limit_text(kind: m.Limited) -> str:
+    """Returns the comment of the case of the error for a number above its greatest value."""
+    if isinstance(kind, m.Number):
+        return f"`{kind.name}` is above {kind.limit}."
+    what = "number of items" if isinstance(kind, m.Count) else "size"
+    return f"The {what} of `{kind.target}` is above {kind.limit}."
 
 
 def error_cases(line: Line) -> dict[str, list[str]]:
@@ -171,13 +185,18 @@ def reads(f: Format, line: Line) -> str:
         return f"reader.skip({kind.width})?;"
     if isinstance(kind, m.Verify):
         return verify(f, line, kind.check)
-    return f"let {line.name} = {read(f, line)}?;"
+    text = f"let {line.name} = {read(f, line)}?;"
+    if m.is_limited(kind):
+        test = f"let is_{line.name} = {line.name} <= {kind.limit};"
+        refuse = f"if !is_{line.name} {{\n            return Err({f.error}::{kind.error});\n        }}"
+        return f"{text}\n        {test}\n        {refuse}"
+    return text
 
 
 def verify(f: Format, line: Line, kind: m.Check) -> str:
     """Returns the statements that compare a checksum."""
     name = f"is_{kind.word}"
-    found = f"value.{kind.word}()" if kind.lines else f"{kind.word}_of({arguments(line.covers)})"
+    found = f"value.{kind.called}()" if kind.lines else f"{kind.word}_of({arguments(line.covers)})"
     test = f"let {name} = {m.label(kind)} == {found};"
     return f"{test}\n        if !{name} {{\n            return Err({f.error}::{line.error});\n        }}"
 
@@ -210,21 +229,25 @@ def read(f: Format, line: Line) -> str:
         case m.UpToLast():
             return f"read_{kind.name}(reader, alloc)"
         case m.Rest():
-            return f"reader.read_to_vec(alloc, {kind.name}_bytes as usize)"
+            return f"reader.read_to_vec(alloc, {rest_bytes(f, kind.name)} as usize)"
         case m.Count():
             return f"reader.read::<Bits<{kind.width}>, u64>()"
         case m.Tag() | m.Check():
             return f"reader.read::<Bits<{kind.width}>, {value_type(kind)}>()"
+        case m.Size(groups=m.Groups() as groups):
+            any_call = "read_unsigned_vbr_any" if groups.any else "read_vbr"
+            return f"reader.{any_call}::<Bits<{groups.group}>, {groups.integer.base}>()"
         case m.Size():
             return f"reader.read::<Bits<{kind.width}>, u64>()"
         case m.Sized() | m.Fill():
             if is_octets(kind) and not kind.error:
                 return f"reader.read_to_vec(alloc, {octets_count(line)} as usize)"
-            return f"read_{'stated_' * bool(line.units)}{kind.name}(reader, alloc, {kind.name}_bytes)"
+            size = bytes_read(line) if line.size else rest_bytes(f, kind.name)
+            return f"read_{'stated_' * bool(line.units)}{kind.name}(reader, alloc, {size})"
         case m.Choose():
             if kind.sized:
                 selects = selecting(f, kind)
-                return f"read_{'stated_' * bool(line.units)}{kind.name}(reader, alloc, {selects}, {kind.name}_bytes)"
+                return f"read_{'stated_' * bool(line.units)}{kind.name}(reader, alloc, {selects}, {bytes_read(line)})"
             return f"{kind.type}::read(reader{', alloc' * m.allocates(kind)}, {selecting(f, kind)})"
         case m.Part():
             return f"{kind.use.name}::read(reader{', alloc' * m.allocating(kind.use)})"
@@ -233,10 +256,30 @@ def read(f: Format, line: Line) -> str:
         case m.List():
             if isinstance(kind.item, m.Octet):
                 return f"reader.read_to_vec(alloc, {kind.name}_count as usize)"
-            return f"read_{kind.name}(reader, alloc, {kind.name}_count)"
+            return f"read_{kind.name}(reader, alloc, {items_count(kind)})"
         case m.Const() | m.Skip() | m.Verify():
             raise AssertionError(kind)
     assert_never(kind)
+
+
+def bytes_read(line: Line) -> str:
+    """Returns the number that states the size of a part, as a `u64`."""
+    return f"{line.name}_bytes{' as u64' * bool(line.size and line.size.groups)}"
+
+
+def rest_bytes(f: Format, name: str) -> str:
+    """Returns the number of bytes of the rest: of those that the read is given, the ones after bytes before it."""
+    given = f"{name}_bytes"
+    for it in f.before_rest:
+        given = f"rest_after({given}, &{it.name})"
+    return given
+
+
+def items_count(kind: m.List) -> str:
+    """Returns the number of items of a list."""
+    if not kind.power:
+        return f"{kind.name}_count"
+    return f"power_count({kind.power.there or 'true'}, {kind.power.field}, {kind.power.plus})"
 
 
 def octets_count(line: Line) -> str:
@@ -273,9 +316,7 @@ def there(f: Format, kind: m.Optional | m.If) -> str:
     """Returns the condition of an optional part."""
     if isinstance(kind, m.Optional):
         return f"has_{kind.name}"
-    return (
-        f"{kind.field}{'.number()' if asked_enum(f, kind) else ''} {kind.how} {kind.value}" if kind.how else kind.field
-    )
+    return f"is_{kind.due}({', '.join(kind.asked)})" if kind.due else test(f, kind.tests[0])
 
 
 def read_item(item: m.Item) -> str:
@@ -331,7 +372,7 @@ def write(line: Line) -> str:
             return write_size(line, kind)
         case m.Check():
             number = f"{kind.word}_of({arguments(line.covers, 'self.')})"
-            number = f"self.{kind.word}()" if kind.lines else number
+            number = f"self.{kind.called}()" if kind.lines else number
             return f"writer.write::<Bits<{kind.width}>, {value_type(kind)}>({number})"
         case m.Verify():
             raise AssertionError(kind)
@@ -351,10 +392,14 @@ def write_size(line: Line, kind: m.Size) -> str:
         length = f"self.{kind.target}.len() as u64"
         if kind.varint:
             return f"write_varint(writer, {length})"
+        if kind.groups:
+            return f"writer.write_vbr::<Bits<{kind.groups.group}>, u64>({length})"
         return f"writer.write::<Bits<{kind.width}>, u64>({f'stored_size({length}{units})' if units else length})"
     bits = f"self.{kind.target}.bits::<u64>()"
     if isinstance(line.measures, m.Fill):
         bits = f"count_{kind.target}(&self.{kind.target})"
+    if kind.groups:
+        return f"write_size_in_groups(writer, {bits})"
     return f"write_{'stored_' * bool(units)}size(writer, {kind.width}, {bits}{units})"
 
 
@@ -373,6 +418,8 @@ def value_type(kind: m.Printed) -> str:
     match kind:
         case m.Flag():
             return "bool"
+        case m.Size(groups=m.Groups() as groups):
+            return groups.integer.base
         case m.Count() | m.Size():
             return "u64"
         case m.Tag():

@@ -2,8 +2,9 @@
 from __future__ import annotations
 
 from describing import model as m
-from describing.layout import Format, Line
+from describing.layout import Format, Line, by_size, is_open
 from describing.model import snake
+from describing.rust.sizes import rest_argument
 from describing.rust.writes import write_head
 from describing.text import article
 
@@ -125,7 +126,7 @@ def read_code(f: Format, line: Line, kind: m.Choose, number: str) -> list[str]:
     alloc = ", alloc: Global" * m.allocates(kind)
     out = ["    /// Reads what follows the number of a case.", *errors(f, line, kind)]
     result = f"Result<{kind.type}, {error}>"
-    size, said = (" size", ", size: u64") if kind.unnamed else ("", "")
+    size, said = (" size", ", size: u64") if by_size(kind) else ("", "")
     out += [f"    pub fn read<R: BitRead>(reader: &mut R{alloc}, number: {number}{said}) -> {result}"]
     out += [f"        requires {{ R.source.order ≡ {f.o} }}"] * any(m.ordered(it.description) for it in m.uses(kind))
     out += [
@@ -145,7 +146,8 @@ def read_code(f: Format, line: Line, kind: m.Choose, number: str) -> list[str]:
 def case_read(kind: m.Choose, arm: m.Arm, part: Line | None) -> str:
     """Returns the expression that reads a case."""
     if part and part.use:
-        return pattern(kind, arm, f"{part.use.name}::read(reader{', alloc' * m.allocating(part.use)})?")
+        size = f", {rest_argument(part.use)}" * is_open(part.use)
+        return pattern(kind, arm, f"{part.use.name}::read(reader{', alloc' * m.allocating(part.use)}{size})?")
     if arm.held:
         return pattern(kind, arm, f"{kind.unnamed}::read(reader, alloc, number, size)?")
     return pattern(kind, arm, "number")

@@ -16,7 +16,7 @@ def list_code(f: Format, line: Line, kind: m.List) -> list[str]:
 def pushes(f: Format, line: Line) -> bool:
     """Returns true if the function that reads a line pushes items, and has the errors of the format."""
     many = isinstance(line.kind, m.List | m.UpToLast) and line.own
-    return many and bool(f.error) or isinstance(line.kind, m.Fill)
+    return bool(f.error) and (many or isinstance(line.kind, m.Fill))
 
 
 def refused_memory(f: Format, line: Line) -> list[str]:

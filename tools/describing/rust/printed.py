@@ -10,6 +10,7 @@ from describing.imports import own_specs, types
 from describing.layout import Format, Line
 from describing.model import snake
 from describing.names import SPECS, uses
+from describing.rust.asked import due_code
 from describing.rust.calls import error_cases, field_comment, imports, number_type, value_type
 from describing.rust.checks import check_code
 from describing.rust.choices import choice_code
@@ -29,7 +30,9 @@ from describing.text import article
 CALLED = {
     "stated": "size_in_units stated_size stored_size write_stored_size",
     "checks": "crc16_low_more crc16_more crc32_more crc32_mpeg_more octets_of_u16 octets_of_u32 octets_of_u8 sum16_more",
-    "rest": "rest_of",
+    "in_groups": "write_size_in_groups",
+    "powers": "power_count",
+    "rest": "bytes_after rest_after rest_of",
     "summed": "sum_of summing_writer",
     "until": "read_until write_until",
     "varint": "read_varint write_varint",
@@ -65,6 +68,8 @@ def declares(f: Format, line: Line) -> list[str]:
         out += check_code(kind, line.covers)
     if line.use and isinstance(kind, m.Optional | m.If):
         out += optional_code(f, line, line.use)
+    if isinstance(kind, m.If) and kind.due:
+        out += due_code(f, kind)
     if isinstance(kind, m.Array) and line.enum:
         out += write_items(kind)
     if isinstance(kind, m.List) and not isinstance(kind.item, m.Octet):
@@ -103,7 +108,7 @@ def imported(f: Format, text: str) -> list[str]:
     traits = "BitReadExt " * ("reader.read" in text) + "BitWriteExt " * ("writer.write" in text)
     code = "\n".join(it for it in text.split("\n") if not it.strip().startswith("///"))
     words = set(re.findall(r"\w+", code + traits))
-    found = {path for it in f.lines for path in imports(it)} | called(code)
+    found = {path for it in (*f.handed, *f.lines) for path in imports(it)} | called(code)
     found |= {"std::alloc::AllocFailed"} if any(pushes(f, it) for it in f.lines) else set()
     paths = sorted(found | {"std::alloc::Global", "std::marker::Model"} if f.grows else found)
     library = f"use bitstream_io::{{{', '.join(it for it in LIBRARY.split() if it in words)}}};"

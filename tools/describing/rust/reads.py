@@ -2,10 +2,10 @@
 from __future__ import annotations
 
 from describing import model as m
-from describing.layout import Format, reader_errors
+from describing.layout import Format, Line, reader_errors
 from describing.rust.calls import reads, value_type
 from describing.rust.clauses import clause, first_of, in_order, memory, of_reader, or_refused, rejections
-from describing.specs.terms import at_bits, fails, holds, known_of, only_constants, seen
+from describing.specs.terms import at_bits, fails, handed, holds, known_of, only_constants, seen
 
 
 def read_code(f: Format) -> list[str]:
@@ -19,28 +19,32 @@ def read_code(f: Format) -> list[str]:
         "    /// have been read.",
     ] * f.grows
     return [
-        f"    /// Reads the fields in order{f', and `{given_name(f)}` bytes of `{f.rest.name}`' if f.rest else ''}.",
+        f"    /// Reads the fields in order{rest_text(f)}.",
+        *[f"    /// `{it.name}` is given, for the checksums that cover it." for it in f.handed],
         "    ///",
         "    /// # Errors",
         "    ///",
         *own,
         f"    /// {'Otherwise the' if f.own else 'The'} reader's errors, after which it has failed.",
-        f"    pub fn read<R: BitRead>(reader: &mut R{memory(f)}{given(f)}) -> Result<{f.type}, {f.e}>",
+        f"    pub fn read<R: BitRead>(reader: &mut R{memory(f)}{given(f.given)}) -> Result<{f.type}, {f.e}>",
         *in_order(f),
-        f"        ensures {{ {outcome} ({f.decoder('R.source.order', given_name(f))}) reader.old result reader.new }}",
+        f"        ensures {{ {outcome} ({f.decoder('R.source.order', f.given_names)}) reader.old result reader.new }}",
         *read_body(f, 0),
         *later_reads(f, outcome),
     ]
 
 
-def given_name(f: Format) -> str:
-    """Returns the name of the number of bytes of the rest."""
-    return f.given[0].name if f.given else ""
+def rest_text(f: Format) -> str:
+    """Returns what is read of the rest."""
+    if not f.rest:
+        return ""
+    names = [f"`{it.name}`" for it in f.before_rest] + [f"`{f.rest.name}`"]
+    return f", and `{f.given[-1].name}` bytes of {' and '.join(names)}"
 
 
-def given(f: Format) -> str:
-    """Returns the parameter for the number of bytes of the rest."""
-    return f", {given_name(f)}: u64" * bool(f.given)
+def given(lines: list[Line]) -> str:
+    """Returns the parameters for what a read is given."""
+    return "".join(f", {it.name}: {value_type(it.kind)}" for it in lines)
 
 
 def read_body(f: Format, k: int) -> list[str]:
@@ -80,7 +84,8 @@ def later_reads(f: Format, outcome: str) -> list[str]:
 def parse_code(f: Format) -> list[str]:
     """Returns the function that reads a slice."""
     name, t, o = f.m, f.type, f.o
-    decoder = f.decoder(o, f"(length packet.now - {f.head})")
+    rest = f"(length packet.now - {f.head})" if f.rest else ""
+    decoder = f.decoder(o, f"{handed(f, '')} {rest}".strip())
     answer = f"(sure_answer (({decoder}).reads 0 (bits {o} packet.now)))"
     reached = f"MayAllocate ({decoder}) 0 (bits {o} packet.now)"
     told = or_refused(f, f"OwnAnswer {f.becomes_name} (λ answer. answer)\n            {answer} result", reached)
@@ -92,7 +97,7 @@ def parse_code(f: Format) -> list[str]:
         bits, few = f"{name}_bits value", f"for fewer than {f.bytes} bytes"
     end, behind = f"`{of_reader(f, 'EndOfInput')}`", "\n            " if f.grows else " "
     more_bits = "" if f.rest else " ++ more"
-    sizes = f"rest_of(packet, {f.head})"
+    same = "".join(f"\n            → value.{it.name} ≡ {it.name}" for it in f.handed)
     return [
         f"    /// Parses {f'`packet`, whose last bytes are `{f.rest.name}`' if f.rest else 'the value at the start of `packet`'}.",
         "    ///",
@@ -101,16 +106,16 @@ def parse_code(f: Format) -> list[str]:
         *[f"    /// {rejections(f)} if bits are rejected."] * bool(rejections(f)),
         f"    /// {end} {few}.",
         *more,
-        f"    pub fn parse(packet: &[u8]{memory(f)}) -> Result<{t}, {f.e}>",
+        f"    pub fn parse(packet: &[u8]{memory(f)}{given(f.handed)}) -> Result<{t}, {f.e}>",
         f"        ensures answer {{ {told if f.own else f'result ≡ {answer[1:-1]}'} }}",
         *(places_code(f) if f.sized else []),
-        f"        ensures back {{ (value : {t}){' (more : List Bool)' * (not f.rest)} → Fits value",
+        f"        ensures back {{ (value : {t}){' (more : List Bool)' * (not f.rest)} → Fits value{same}",
         f"            → bits {o} packet.now ≡ {bits}{more_bits}{behind}→ {or_refused(f, 'result ≡ Ok value')} }}",
         "    {",
         f"        {name}_round_trip();",
-        *[f"        let {it.name} = {sizes};" for it in f.given],
+        *[f"        let {it.name} = rest_of(packet, {f.head});" for it in f.given if it not in f.handed],
         f"        {t}::read(&mut BitReader::<_, {f.order}>::over(packet){', alloc' * f.grows}"
-        f"{f', {given_name(f)}' * bool(f.given)})",
+        f"{''.join(f', {it.name}' for it in f.given)})",
         "    }",
         "",
     ]

@@ -2,8 +2,8 @@
 from __future__ import annotations
 
 from describing import model as m
-from describing.layout import Format, Line, is_octets
-from describing.specs.sizes import error_cases, overrun
+from describing.layout import Format, Line, by_size, head_bits, is_octets
+from describing.specs.sizes import error_cases, is_plain, overrun, reader_error
 from describing.specs.terms import inside, seen
 
 
@@ -16,7 +16,9 @@ def sized_code(f: Format, line: Line, kind: m.Measured, number: str) -> list[str
 
 def ended_code(f: Format, kind: m.Measured) -> list[str]:
     """Returns the function that maps the errors inside the bytes of the size."""
-    wrong, e = overrun_code(kind), f.error
+    wrong, e = overrun_code(kind), f.e
+    if is_plain(kind):
+        return plain_ended_code(kind)
     arms = []
     for case, held in error_cases(f):
         said = f"{e}::{case}{'(error)' * bool(held)}"
@@ -40,6 +42,19 @@ def ended_code(f: Format, kind: m.Measured) -> list[str]:
     ]
 
 
+def plain_ended_code(kind: m.Measured) -> list[str]:
+    """Returns the function for a format that has no error of its own, whose errors stay."""
+    return [
+        f"/// Returns an error inside the bytes of `{kind.name}`, as it is.",
+        f"fn {kind.name}_ended(error: Error) -> Error",
+        f"    ensures {{ result ≡ {kind.name}_ended error }}",
+        "{",
+        "    error",
+        "}",
+        "",
+    ]
+
+
 def overrun_code(kind: m.Measured) -> str:
     """Returns the case of the error for a part that does not fill its size, in code."""
     return "Reader(Error::EndOfInput)" if overrun(kind).startswith("(") else overrun(kind)
@@ -47,14 +62,20 @@ def overrun_code(kind: m.Measured) -> str:
 
 def given(kind: m.Measured, number: str) -> str:
     """Returns the parameter for the number that selects a case."""
-    if not isinstance(kind, m.Choose):
+    return f", number: {number}" * isinstance(kind, m.Choose) + ", size: u64" * by_size(kind)
+
+
+def passed_size(line: Line) -> str:
+    """Returns the argument for the number of bytes that the read of a part takes."""
+    if not by_size(line.kind):
         return ""
-    return f", number: {number}" + ", size: u64" * bool(kind.unnamed)
+    return f", {rest_argument(line.use)}" if line.use else ", size"
 
 
-def unnamed(kind: m.Measured) -> bool:
-    """Returns true if a case holds the bytes after another number."""
-    return isinstance(kind, m.Choose) and bool(kind.unnamed)
+def rest_argument(use: m.Use) -> str:
+    """Returns the number that the read of a part with a rest takes, of the number of its bytes."""
+    head = head_bits(use.description) // 8
+    return f"bytes_after(size, {head})" if head else "size"
 
 
 def inner_allocates(kind: m.Measured) -> bool:
@@ -79,7 +100,7 @@ def in_code(f: Format, line: Line, kind: m.Measured, number: str) -> list[str]:
         f"        ({known} (bits {f.o} bytes.now)) result }}",
         "{",
         f"    let mut inside = SliceReader::<{f.order}>::over(bytes);",
-        f"    match {call}{alloc}{', number' * isinstance(kind, m.Choose)}{', size' * unnamed(kind)}) {{",
+        f"    match {call}{alloc}{', number' * isinstance(kind, m.Choose)}{passed_size(line)}) {{",
         "        Ok(found) => {",
         "            if inside.is_at_end() {",
         "                return Ok(found);",
@@ -95,15 +116,16 @@ def in_code(f: Format, line: Line, kind: m.Measured, number: str) -> list[str]:
 
 def items_code(f: Format, line: Line, kind: m.Fill) -> list[str]:
     """Returns the function that reads items over their bytes."""
-    shape, wrong = f"{overrun(kind)} (λ error. Reader error) {kind.name}_ended", overrun_code(kind)
+    own, wrong = reader_error(kind), overrun_code(kind)
+    shape, found = f"{overrun(kind)} {own} {kind.name}_ended", "error" if is_plain(kind) else f"{f.error}::from(error)"
     return [
         f"/// Parses these bytes as the items of `{kind.name}`, of which there are at most `size`.",
         "///",
         "/// # Errors",
         "///",
         f"/// `{wrong.replace('Error::', '')}` if the items do not fill the bytes. Otherwise the error of an item.",
-        f"fn {kind.name}_in(bytes: &[u8], alloc: Global, size: u64) -> Result<{m.rust_type(kind)}, {f.error}>",
-        "    ensures { UnlessMemory (λ error. Reader error)",
+        f"fn {kind.name}_in(bytes: &[u8], alloc: Global, size: u64) -> Result<{m.rust_type(kind)}, {f.e}>",
+        f"    ensures {{ UnlessMemory {own}",
         f"        (items_from ({inside(f, line, f.o)}) {shape} 0 (bits {f.o} bytes.now) size)",
         "        (result_map (λ found. found.items) result) }",
         "{",
@@ -115,13 +137,13 @@ def items_code(f: Format, line: Line, kind: m.Fill) -> list[str]:
         "        }",
         f"        match {kind.use.name}::read(&mut inside{', alloc' * m.allocating(kind.use)}) {{",
         "            Ok(item) => found.push(item)?,",
-        f"            Err(error) => return Err({kind.name}_ended({f.error}::from(error))),",
+        f"            Err(error) => return Err({kind.name}_ended({found})),",
         "        }",
         "    }",
         "    if inside.is_at_end() {",
         "        return Ok(found);",
         "    }",
-        f"    Err({f.error}::{wrong})",
+        f"    Err({f.e}::{wrong})",
         "}",
         "",
     ]
@@ -152,11 +174,11 @@ def read_code(f: Format, line: Line, kind: m.Measured, number: str) -> list[str]
     """Returns the function that reads the bytes of the size, and then the part."""
     chosen, selects = " number" * isinstance(kind, m.Choose), selecting(kind, number)
     passed = ", alloc" * inner_allocates(kind) + ", number" * isinstance(kind, m.Choose)
-    passed += ", size" * (unnamed(kind) or isinstance(kind, m.Fill))
+    passed += ", size" * (by_size(kind) or isinstance(kind, m.Fill))
     return [
         f"/// Reads `{kind.name}`, which has `size` bytes. No bit after them is read.",
         f"fn read_{kind.name}<R: BitRead>(reader: &mut R, alloc: Global{selects}, size: u64)"
-        f" -> Result<{m.rust_type(kind)}, {f.error}>",
+        f" -> Result<{m.rust_type(kind)}, {f.e}>",
         f"    requires {{ R.source.order ≡ {f.o} }}",
         f"    ensures {{ GrowsOwn R.source {f.becomes_name} ({kind.name}_sized R.source.order{chosen} size)",
         f"        reader.old {answer(kind)} reader.new }}",

@@ -3,12 +3,12 @@ from __future__ import annotations
 
 from describing.layout import Format
 from describing.rust.clauses import memory
-from describing.specs.terms import rest_count
+from describing.specs.terms import of_value
 
 
 def from_code(f: Format) -> list[str]:
     """Returns the impl of `FromBitStream`, which a format has that is read in either order of bits."""
-    if f.ordered or f.rest:
+    if f.ordered or f.given:
         return []
     m, t, e = f.m, f.type, f.e
     reads = f"{m}_decoder" if f.own else f"λ o. plain_reads ({m}_decoder o)"
@@ -62,7 +62,7 @@ def law_code(f: Format) -> list[str]:
     m, ok = f.m, "Ok (Ok value)" if f.own else "Ok value"
     how_many = f"{f.total} bits" if f.sized else f"`{f.m}_size` is their number"
     size = f.total if f.sized else f"{m}_size o value"
-    decoder = f.decoder("o", rest_count(f))
+    decoder = f.decoder("o", of_value(f))
     return [
         "/// A value that fits its bits is read back as it was written, in either order of bits, at any place.",
         f"/// The read takes only the bits that were written: {how_many}.",

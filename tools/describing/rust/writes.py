@@ -55,9 +55,11 @@ def later_writes(f: Format, name: str, writes: str, pieces: list[tuple[Line, ...
 def sum_code(f: Format, kind: m.Check) -> list[str]:
     """Returns the functions that compute the checksum of lines, and write these."""
     name, writes, pieces = f"write_for_{kind.word}", f"{kind.word}_writes", f.covered(kind)
+    what = "number of bytes" if isinstance(kind, m.Computed) else kind.sum
     return [
-        f"    /// Returns the {kind.sum} of its lines as they are written, or 0 if a field of theirs does not fit its bits.",
-        f"    fn {kind.word}(&self) -> u32",
+        *number_code(kind),
+        f"    /// Returns the {what} of its lines as they are written, or 0 if a field of theirs does not fit its bits.",
+        f"    fn {kind.word}(&self) -> u64",
         f"        ensures {{ result ≡ {kind.word}_sum self.now }}",
         "    {",
         f"        let mut writer = summing_writer::<{f.order}, {kind.type}>();",
@@ -67,11 +69,26 @@ def sum_code(f: Format, kind: m.Check) -> list[str]:
         "        }",
         "    }",
         "",
-        f"    /// Writes the lines that the {kind.sum} covers.",
+        f"    /// Writes the lines that the {what} covers.",
         f"    fn {name}<W: BitWrite>(&self, writer: &mut W) -> Result<(), Error>",
         f"        ensures {{ WritesAll W.sink ({writes} W.sink.order self.now) writer.old result writer.new }}",
         *write_body(f, name, pieces, 0),
         *later_writes(f, name, writes, pieces),
+    ]
+
+
+def number_code(kind: m.Check) -> list[str]:
+    """Returns the function that returns the number of units, if the bytes are stored so."""
+    if not isinstance(kind, m.Computed) or not kind.units:
+        return []
+    return [
+        f"    /// Returns the number that states the bytes of its lines, or 2^64 - 1 if none does.",
+        f"    fn {kind.called}(&self) -> u64",
+        f"        ensures {{ result ≡ {kind.called} self.now }}",
+        "    {",
+        f"        stored_size(self.{kind.word}(), {', '.join(kind.units.split())})",
+        "    }",
+        "",
     ]
 
 

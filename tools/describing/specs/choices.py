@@ -2,7 +2,7 @@
 from __future__ import annotations
 
 from describing import model as m
-from describing.layout import Format, Line
+from describing.layout import Format, Line, by_size, is_open, rest_given
 from describing.model import snake
 from describing.specs.terms import here
 
@@ -60,7 +60,8 @@ def made(f: Format, line: Line, kind: m.Choose, arm: m.Arm, part: Line | None) -
     if not part:
         return answer
     behind = f"(part_then (λ it. {answer}))" if part.stops else f"(λ it. {answer})"
-    return f"and_then ({here(f, part)}) {behind}"
+    given = f" {rest_given(part.use, 'k')}" if part.use and is_open(part.use) else ""
+    return f"and_then ({here(f, part)}{given}) {behind}"
 
 
 def read_specs(f: Format, line: Line, kind: m.Choose) -> list[str]:
@@ -69,7 +70,7 @@ def read_specs(f: Format, line: Line, kind: m.Choose) -> list[str]:
     cases = [(arm, made(f, line, kind, arm, part)) for arm, part in line.arms]
     tests = "".join(f"if n == {arm.number} then {read} else " for arm, read in cases[: len(kind.tested)])
     last = f"pure (Err {kind.unknown})" if kind.unknown else cases[-1][1]
-    more, k = ("ℕ → ", " k") if kind.unnamed else ("", "")
+    more, k = ("ℕ → ", " k") if by_size(kind) else ("", "")
     head = ["-- the reads of the case with the number n", f"abbrev pub {s}_read : Order → ℕ → {more}Decoder {result}"]
     return [*head, f"{s}_read o n{k} = {tests}{last}", ""]
 

@@ -3,9 +3,9 @@ from __future__ import annotations
 
 from describing import model as m
 from describing.imports import part_cases
-from describing.layout import Format, Line, enum_bits
+from describing.layout import Format, Line, enum_bits, is_open
 from describing.model import snake
-from describing.specs import choices, last, sizes
+from describing.specs import asked, choices, last, sizes
 from describing.specs.values import array_value, choice_values, enum_laws, enum_value
 from describing.specs.terms import called
 
@@ -23,6 +23,7 @@ def definitions(f: Format, line: Line) -> list[str]:
     found = [said for it in parts if it.use for said in mapped_specs(f, it, it.use)]
     found += choices.definitions(f, line, line.kind) if isinstance(line.kind, m.Choose) else []
     found += last.definitions(line.kind) if isinstance(line.kind, m.UpToLast) else []
+    found += asked.due_specs(f, line.kind) if isinstance(line.kind, m.If) and line.kind.due else []
     if isinstance(line.kind, m.Sized) and line.error and not line.measured:
         found += sizes.stated_specs(f, line, line.kind)
     found += sizes.definitions(f, line, line.measured) if line.measured else []
@@ -100,6 +101,7 @@ def mapped_specs(f: Format, line: Line, use: m.Use) -> list[str]:
     out += ["", "-- a result with these errors", f"abbrev pub {module}_answer : {answers}"]
     out += [f"{module}_answer = error_of {module}_error"]
     out += ["", f"-- the reads of a `{part}`, with the errors of the type"]
-    out += [f"abbrev pub {module}_here : Order → Decoder (Result {part} {f.error})"]
-    here = f"and_then ({module}_decoder o) (λ answer. pure ({module}_answer answer))"
-    return [*out, f"{module}_here o = {here}", ""]
+    rest, n = ("ℕ → ", " n") if is_open(use) else ("", "")
+    out += [f"abbrev pub {module}_here : Order → {rest}Decoder (Result {part} {f.error})"]
+    here = f"and_then ({module}_decoder o{n}) (λ answer. pure ({module}_answer answer))"
+    return [*out, f"{module}_here o{n} = {here}", ""]

@@ -2,11 +2,11 @@
 from __future__ import annotations
 
 from describing import model as m
-from describing.layout import Format, Line, is_octets
+from describing.layout import Format, Line, by_size, is_octets, is_open, rest_given
 from describing.model import snake
 from describing.specs.choices import called, pattern
-from describing.specs.sizes import overrun
-from describing.specs.terms import Of, measured_module, selected, sized_bytes, tag_of
+from describing.specs.sizes import overrun, reader_error
+from describing.specs.terms import Of, measured_module, rest_left, selected, sized_bytes, tag_of
 
 REFL = "refl"
 
@@ -21,7 +21,7 @@ def choice_value(f: Format, line: Line, kind: m.Choose) -> list[str]:
     out = ["-- the number of each case fits its bits"]
     out += [f"pub {s}_small : (it : {kind.type}) → {s}_fits it → {s}_number it < 2 ^ {kind.width}"]
     out += [f"{s}_small {pattern(kind, it)} fits = {small(it)}" for it in kind.arms]
-    read = f"({s}_read o ({s}_number it){f' ({s}_size High it / 8)' * bool(kind.unnamed)})"
+    read = f"({s}_read o ({s}_number it){f' ({s}_size High it / 8)' * by_size(kind)})"
     out += ["", "-- each case is read back behind its number, and its writes are accepted"]
     out += [f"pub {s}_goes : (o : Order) (it : {kind.type}) → {s}_fits it"]
     out += [f"    → CaseGoes {read} ({s}_writes o it) {size} ({s}_size High it)"]
@@ -29,9 +29,9 @@ def choice_value(f: Format, line: Line, kind: m.Choose) -> list[str]:
     out += [
         "",
         "-- the choice",
-        f"abbrev pub {s}_choice : {'ℕ → ' * bool(kind.unnamed)}FormatChoice {kind.type} {result} {ok}",
+        f"abbrev pub {s}_choice : {'ℕ → ' * by_size(kind)}FormatChoice {kind.type} {result} {ok}",
     ]
-    if kind.unnamed:
+    if by_size(kind):
         return [*out, f"{s}_choice = by_size {s}_number {s}_read {s}_writes ({s}_size High) {s}_fits {s}_goes", ""]
     fields = [("number", f"{s}_number"), ("read", f"{s}_read"), ("write", f"{s}_writes"), ("size", f"{s}_size High")]
     fields += [("fits", f"{s}_fits"), ("goes", f"{s}_goes")]
@@ -50,7 +50,9 @@ def arm_goes(f: Format, line: Line, kind: m.Choose, arm: m.Arm, part: Line | Non
         f"ne_eqb {'it.number' if arm.held else 'n'} {it.number} fits.{k + 1}" for k, it in enumerate(kind.tested)
     )
     if part and part.use:
-        known = part_value(f, part, part.use)
+        known = part_value(f, part, part.use, f"({part.use.module}_size High it / 8)")
+        if is_open(part.use):
+            return f"held-goes {known} (λ v. {case} v) o it (fits, omega arith)"
         if part.stops:
             return f"held-goes {known} (λ v. {case} v) o it fits"
         return f"plain_held-goes {known} (λ v. {f'Ok ({case} v)' if line.stops else f'{case} v'}) o it fits"
@@ -64,22 +66,22 @@ def arm_goes(f: Format, line: Line, kind: m.Choose, arm: m.Arm, part: Line | Non
     return f"rw ({misses}) (alone-goes {f'(Ok ({said}))' if line.stops else f'({said})'})"
 
 
-def part_value(f: Format, line: Line, use: m.Use) -> str:
-    """Returns the format of a part, with the errors of the format if there are any."""
-    name = f"{use.module}_format"
+def part_value(f: Format, line: Line, use: m.Use, size: str = "") -> str:
+    """Returns the format of a part, with the errors of the format if there are any; of one with a rest, of `size` bytes."""
+    name = f"({use.module}_format {rest_given(use, size)})" if is_open(use) else f"{use.module}_format"
     return f"(with_error {use.module}_error {name})" if f.mapped(line.kind) else name
 
 
 def choice_of(f: Format, kind: m.Choose, size: str, of: Of) -> str:
     """Returns the format of the case that a choice has at a number, or at a number and a size."""
     s = snake(kind.type)
-    return f"(chosen {f'({s}_choice {size})' if kind.unnamed else f'{s}_choice'} {selected(f, kind, of)})"
+    return f"(chosen {f'({s}_choice {size})' if by_size(kind) else f'{s}_choice'} {selected(f, kind, of)})"
 
 
 def choice_facts(f: Format, kind: m.Choose) -> str:
     """Returns what must fit of a choice: the case, and that it has the number."""
     number = REFL if tag_of(f, kind) else f"fits.{kind.name}_tag"
-    case = f"(fits.{kind.name}, {REFL})" if kind.unnamed else f"fits.{kind.name}"
+    case = f"(fits.{kind.name}, {REFL})" if by_size(kind) else f"fits.{kind.name}"
     return f"({case}, {number})"
 
 
@@ -91,24 +93,38 @@ def size_part(line: Line, kind: m.Size, get: str) -> str:
     assert line.measures
     part = f"(λ s. s.{kind.target})"
     if is_octets(line.measures):
-        return f"field {'varint' if kind.varint else f'(atom.unsigned 64 {kind.width} refl)'} (λ s. {get})"
+        return f"field {size_number(kind)} (λ s. {get})"
+    if kind.groups:
+        strict = "false" if kind.groups.any else "true"
+        return f"size_in_groups {strict} {kind.width} refl refl {measured_written(line.measures)} {part}"
     if kind.units:
         return f"stored_of_part {kind.width} {kind.units} refl refl refl {measured_written(line.measures)} {part}"
     return f"size_of_part {kind.width} refl refl {measured_written(line.measures)} {part}"
+
+
+def size_number(kind: m.Size) -> str:
+    """Returns the format of a size of bytes."""
+    if kind.groups:
+        strict = "false" if kind.groups.any else "true"
+        return f"(atom.groups {strict} {kind.groups.group} {kind.width} refl refl)"
+    return "varint" if kind.varint else f"(atom.unsigned 64 {kind.width} refl)"
 
 
 def measured_written(kind: m.Measured) -> str:
     """Returns what is written of a part whose size is known."""
     name = measured_module(kind)
     if isinstance(kind, m.Choose):
-        return f"{name}_written" if kind.unnamed else f"(of_choice {name}_choice)"
+        return f"{name}_written" if by_size(kind) else f"(of_choice {name}_choice)"
+    if by_size(kind):
+        return f"{kind.name}_written"
     return f"(of_items {kind.use.module}_format)" if isinstance(kind, m.Fill) else f"(of_format {name}_format)"
 
 
 def size_facts(line: Line, kind: m.Size) -> list[str]:
     """Returns what must fit of a size: its number, and the part that it measures."""
     assert line.measures
-    return [f"fits.{line.name}"] + [f"fits.{kind.target}"] * (not is_octets(line.measures))
+    most = [f"fits.{line.name}_most"] * m.is_limited(kind)
+    return [f"fits.{line.name}"] + [f"fits.{kind.target}"] * (not is_octets(line.measures)) + most
 
 
 def written_value(f: Format, kind: m.Choose) -> list[str]:
@@ -125,12 +141,26 @@ def written_value(f: Format, kind: m.Choose) -> list[str]:
     ]
 
 
+def written_part(kind: m.Sized, use: m.Use) -> list[str]:
+    """Returns what is written of a part with a rest, whatever the size is."""
+    fields = [("write", f"{use.module}_writes"), ("size", f"{use.module}_size High"), ("fits", f"{use.name}Fits")]
+    rest = rest_given(use, f"({use.module}_size High it / 8)")
+    fields.append(("packs", f"λ o it fits. ({use.module}_format {rest}).packs o it (fits, omega arith)"))
+    record = f"record {{ {'; '.join(f'{name} = {term}' for name, term in fields)} }}"
+    return [
+        f"-- what is written of `{kind.name}`",
+        f"abbrev pub {kind.name}_written : WrittenPart {use.name}",
+        f"{kind.name}_written = {record}",
+        "",
+    ]
+
+
 # ---- parts of a stated size
 
 
 def measured_format(f: Format, line: Line, kind: m.Measured, of: Of) -> str:
     """Returns the format of a part of a stated size."""
-    bytes_read = of(f, f"{kind.name}_bytes")
+    bytes_read = of(f, f"{kind.name}_bytes") if line.size else rest_left(f, kind.name, of)
     if is_octets(kind):
         return octets_format(line, kind, bytes_read)
     if not line.size or not line.size.units:
@@ -159,11 +189,11 @@ def kind_error(kind: m.Measured) -> str:
 
 def over(f: Format, line: Line, kind: m.Measured, size: str, of: Of) -> str:
     """Returns the format of a part over the bytes of its size."""
-    behind = f"{overrun(kind)} (λ error. Reader error) {kind.name}_ended {size}"
+    behind = f"{overrun(kind)} {reader_error(kind)} {kind.name}_ended {size}"
     if isinstance(kind, m.Choose):
         return f"over_bytes {choice_of(f, kind, size, of)} {behind}"
     assert line.use
-    inner = part_value(f, line, line.use)
+    inner = part_value(f, line, line.use, size)
     inner = inner if f.mapped(kind) else f"(as_own {inner})"
     if isinstance(kind, m.Fill):
         return f"filling {inner} {behind} {kind.name}_wide"
@@ -176,6 +206,8 @@ def measured_bits(kind: m.Measured, term: str) -> str:
         return f"parts_size {kind.use.module}_format.size {term}"
     if isinstance(kind, m.Choose):
         return f"{snake(kind.type)}_size High {term}"
+    if by_size(kind):
+        return f"{measured_module(kind)}_size High {term}"
     return f"{measured_module(kind)}_format.size {term}"
 
 
@@ -194,7 +226,8 @@ def measured_facts(f: Format, line: Line, kind: m.Measured) -> list[str]:
     name, size = kind.name, line.size
     if not size:
         bits = f"λ (k : ℕ). {measured_bits(kind, f's.{name}')} ≡ 8 * k"
-        return [f"fits.{name}", f"subst ({bits}) fits.1 (fits.{name}_whole High)"]
+        left = "(let sum = fits.1 in omega (arith, sum))" if f.before_rest else "fits.1"
+        return [f"fits.{name}", f"subst ({bits}) {left} (fits.{name}_whole High)"]
     if is_octets(kind):
         same = REFL
         if size.units and not kind_error(kind):
@@ -203,5 +236,6 @@ def measured_facts(f: Format, line: Line, kind: m.Measured) -> list[str]:
         octets = [f"fits.{name}", f"({same})" if " " in same else same]
         return octets if not kind_error(kind) else [f"({', '.join(octets)})", f"fits.{name}_bytes", REFL]
     case = choice_facts(f, kind) if isinstance(kind, m.Choose) else f"fits.{name}"
+    case = f"({case}, omega arith)" if by_size(kind) and isinstance(kind, m.Sized) else case
     whole = [case, f"fits.{name}_whole High"]
     return [f"({', '.join(whole)})", f"fits.{name}_bytes", REFL] if size.units else whole

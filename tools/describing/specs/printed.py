@@ -39,7 +39,7 @@ def specs(f: Format) -> str:
     """Returns the text of the definitions."""
     out = becomes(f) + (BITS_AT if f.sized else [])
     out += [line for it in f.lines for line in definitions(f, it)]
-    out += [line for it in f.summed for line in sum_definitions(f, it)]
+    out += [line for it in sums_in_order(f) for line in sum_definitions(f, it)]
     out += [*values.lines(f), *values.reads(f), *values.writes(f)] if f.valued else [*entries(f), *writes(f)]
     out += [*fits_record(f), *sizes(f), *(values.value(f) if f.valued else []), *all_bits(f)]
     out += at_places(f) if f.sized else []
@@ -127,16 +127,33 @@ def after(called: str, pieces: list[tuple[Line, ...]], k: int) -> str:
     return f"{called}_{k + 2} o value" if k + 1 < len(pieces) else "[]"
 
 
+def sums_in_order(f: Format) -> list[m.Check]:
+    """Returns the checksums of lines, each after those that it covers."""
+    found: list[m.Check] = []
+    for it in f.summed:
+        found += [one for one in [*m.sums_below(f.description.kinds, it), it] if one not in found]
+    return found
+
+
 def sum_definitions(f: Format, kind: m.Check) -> list[str]:
     """Returns the definitions of the lines of a checksum, and of the checksum."""
     called = f"{kind.word}_writes"
-    return [
-        *writes_of(f, called, f"the writes that the {kind.sum} covers, in order", f.covered(kind)),
-        f"-- the {kind.sum} of these lines",
+    what = f"number of {kind.sum}" if isinstance(kind, m.Computed) else kind.sum
+    out = [
+        *writes_of(f, called, f"the writes that the {kind.word} covers, in order", f.covered(kind)),
+        f"-- the {what} of these lines",
         f"abbrev pub {kind.word}_sum : {f.type} → ℕ",
-        f"{kind.word}_sum value = lines_sum {kind.word} {f.o} ({called} {f.o} value)",
+        f"{kind.word}_sum value = lines_sum {kind.function} {f.o} ({called} {f.o} value)",
         "",
     ]
+    if isinstance(kind, m.Computed) and kind.units:
+        out += [
+            f"-- the number that states these bytes, in units of {kind.unit}",
+            f"abbrev pub {kind.name}_number : {f.type} → ℕ",
+            f"{kind.name}_number value = stored_size {kind.units} ({kind.word}_sum value)",
+            "",
+        ]
+    return out
 
 
 def written_list(lines: tuple[Line, ...], behind: str) -> list[str]:

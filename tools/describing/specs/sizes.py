@@ -35,7 +35,17 @@ def sized_type(kind: m.Measured) -> str:
 def overrun(kind: m.Measured) -> str:
     """Returns the case of the error for a part that does not fill its size."""
     error = kind.overrun if isinstance(kind, m.Choose) else kind.error
-    return error or "(Reader EndOfInput)"
+    return error or ("EndOfInput" if is_plain(kind) else "(Reader EndOfInput)")
+
+
+def is_plain(kind: m.Measured) -> bool:
+    """Returns true for a rest of a format that has no error of its own."""
+    return isinstance(kind, m.Fill) and kind.plain
+
+
+def reader_error(kind: m.Measured) -> str:
+    """Returns the function from an error of the reader to one of the format."""
+    return "(λ error. error)" if is_plain(kind) else "(λ error. Reader error)"
 
 
 def error_cases(f: Format) -> list[tuple[str, str]]:
@@ -48,8 +58,10 @@ def ended_specs(f: Format, kind: m.Measured) -> list[str]:
     name, wrong = f"{kind.name}_ended", overrun(kind)
     out = [
         f"-- an error inside the bytes of `{kind.name}`: their end is `{wrong.strip('()')}`",
-        f"abbrev pub {name} : {f.error} → {f.error}",
+        f"abbrev pub {name} : {f.e} → {f.e}",
     ]
+    if is_plain(kind):
+        return [*out, f"{name} error = error", ""]
     out += [f"{name} (Reader error) = if is_end error then {wrong.strip('()')} else Reader error"]
     for case, held in error_cases(f):
         said = f"({case} error)" if held else case
@@ -60,11 +72,9 @@ def ended_specs(f: Format, kind: m.Measured) -> list[str]:
 def sized_specs(f: Format, line: Line, kind: m.Measured) -> list[str]:
     """Returns the definition of the reads of a part of n bytes."""
     chosen = isinstance(kind, m.Choose)
-    head = (
-        f"abbrev pub {kind.name}_sized : Order → {'ℕ → ' * chosen}ℕ → Decoder (Result {measured_name(kind)} {f.error})"
-    )
-    inner = inside(f, line, "o").replace(" size", " n")
+    head = f"abbrev pub {kind.name}_sized : Order → {'ℕ → ' * chosen}ℕ → Decoder (Result {measured_name(kind)} {f.e})"
+    inner = inside(f, line, "o", "n")
     decoder = "filled_decoder" if isinstance(kind, m.Fill) else "sized_decoder"
-    read = f"{decoder} (λ o. {inner}) {overrun(kind)} (λ error. Reader error) {kind.name}_ended o n"
+    read = f"{decoder} (λ o. {inner}) {overrun(kind)} {reader_error(kind)} {kind.name}_ended o n"
     said = f"{kind.name}_sized o{' number' * chosen} n = {read}"
     return [f"-- the reads of `{kind.name}`, of n bytes, over these bytes alone", head, said, ""]

@@ -8,7 +8,7 @@ import re
 from typing import Callable, TypeAlias, assert_never
 
 from describing import model as m
-from describing.layout import Format, Line, enum_bits, is_octets
+from describing.layout import Format, Line, by_size, enum_bits, is_octets, rest_given
 from describing.model import snake
 from describing.specs import checks
 
@@ -210,20 +210,40 @@ def sized_bytes(line: Line, number: str) -> str:
     return f"(size_in_units {unit} {less} {number})"
 
 
-def inside(f: Format, line: Line, order: str) -> str:
+def inside(f: Format, line: Line, order: str, size: str = "size") -> str:
     """Returns the read of a part over the bytes of its size; `number` selects the case of a choice."""
     if isinstance(line.kind, m.Choose):
-        return f"{snake(line.kind.type)}_read {order} number" + " size" * bool(line.kind.unnamed)
+        return f"{snake(line.kind.type)}_read {order} number" + f" {size}" * by_size(line.kind)
     read = placed(here(f, line), order)
+    if by_size(line.kind) and line.use:
+        read += f" {rest_given(line.use, size)}"
     return read if f.mapped(line.kind) else f"plain_reads ({read})"
 
 
 def rest_count(f: Format) -> str:
-    """Returns the number of bytes of the rest of a record, or an empty text if there is none."""
+    """Returns the number that the read takes for a record with a rest, or an empty text if there is no rest."""
     line = f.rest_line
     if not line:
         return ""
-    return f"({measured_size(line.measured, 'High')} / 8)" if line.measured else f"(length {value(line)})"
+    last = f"{measured_size(line.measured, 'High')} / 8" if line.measured else f"length {value(line)}"
+    return f"({''.join(f'length {value(it)} + ' for it in f.before_rest)}{last})"
+
+
+def rest_left(f: Format, name: str, of: Of = as_read) -> str:
+    """Returns the number of bytes of the rest: of those that the read is given, the ones after bytes before it."""
+    given = of(f, f"{name}_bytes")
+    taken = "".join(f" - length {of(f, it.name)}" for it in f.before_rest)
+    return f"({given}{taken})" if taken else given
+
+
+def handed(f: Format, before: str = "value.") -> str:
+    """Returns the parts of a record that a read is given."""
+    return " ".join(f"{before}{it.name}" for it in f.handed)
+
+
+def of_value(f: Format) -> str:
+    """Returns what a read is given, of a record."""
+    return f"{handed(f)} {rest_count(f)}".strip()
 
 
 # ---- choices
@@ -289,8 +309,9 @@ def entry(f: Format, line: Line) -> str:
         case m.Unary():
             return f"unary_decoder {bit(kind.stop)}"
         case m.Groups():
-            limit = "" if kind.integer.signed else f" (2 ^ {kind.integer.width})"
-            return f"{groups_call(kind)}_decoder o {kind.group} {kind.integer.width}{limit}"
+            return groups_decoder(kind)
+        case m.Size(groups=m.Groups() as groups):
+            return groups_decoder(groups)
         case m.Golomb():
             return f"{short(kind)}_decoder o"
         case m.Varint() | m.Size(varint=True):
@@ -302,7 +323,7 @@ def entry(f: Format, line: Line) -> str:
         case m.UpToLast():
             return f"up_to_last_decoder ({own_decoder(f, line)}) {kind.name}_last"
         case m.Rest():
-            return f"vec_decoder o {kind.name}_bytes"
+            return f"vec_decoder o {rest_left(f, kind.name)}"
         case m.Count():
             return f"unsigned_decoder o 64 {kind.width}"
         case m.Tag():
@@ -314,7 +335,7 @@ def entry(f: Format, line: Line) -> str:
         case m.Sized() | m.Fill():
             if is_octets(kind) and not kind.error:
                 return f"vec_decoder o {sized_bytes(line, f'{kind.name}_bytes')}"
-            return f"{measured_read(line)} o {kind.name}_bytes"
+            return f"{measured_read(line)} o {f'{kind.name}_bytes' if line.size else rest_left(f, kind.name)}"
         case m.Choose():
             read = measured_read(line) if kind.sized else f"{snake(kind.type)}_read"
             return f"{read} o {selected(f, kind)}" + f" {kind.name}_bytes" * kind.sized
@@ -331,6 +352,12 @@ def entry(f: Format, line: Line) -> str:
         case m.Verify():
             raise AssertionError(kind)
     assert_never(kind)
+
+
+def groups_decoder(kind: m.Groups) -> str:
+    """Returns the read of a number in groups."""
+    limit = "" if kind.integer.signed else f" (2 ^ {kind.integer.width})"
+    return f"{groups_call(kind)}_decoder o {kind.group} {kind.integer.width}{limit}"
 
 
 def measured_read(line: Line) -> str:
@@ -380,7 +407,15 @@ def list_decoder(f: Format, line: Line, kind: m.List) -> str:
     """Returns the read of a list."""
     if isinstance(kind.item, m.Octet):
         return f"vec_decoder o {kind.name}_count"
-    return f"{all_items(line)} ({stored(f, line, kind)}) {kind.name}_count"
+    return f"{all_items(line)} ({stored(f, line, kind)}) {list_count(f, kind)}"
+
+
+def list_count(f: Format, kind: m.List, of: Of = as_read) -> str:
+    """Returns the number of items of a list, of the values before it."""
+    if not kind.power:
+        return of(f, f"{kind.name}_count")
+    there = of(f, kind.power.there) if kind.power.there else "true"
+    return f"(power_count {there} {of(f, kind.power.field)} {kind.power.plus})"
 
 
 def here(f: Format, line: Line) -> str:
@@ -401,35 +436,51 @@ def if_there(f: Format, line: Line, there: str) -> str:
     return f"{own}optional {there} ({here(f, line)})"
 
 
-def asked_enum(f: Format, kind: m.If) -> m.EnumType | None:
-    """Returns the enum that a condition asks for, or None if it asks for a number."""
-    return next((it.kind.enum for it in f.lines if isinstance(it.kind, m.Enum) and it.name == kind.field), None)
+def asked_enum(f: Format, asked: m.Test) -> m.EnumType | None:
+    """Returns the enum that a test asks for, or None if it asks for a number."""
+    return next((it.kind.enum for it in f.lines if isinstance(it.kind, m.Enum) and it.name == asked.field), None)
 
 
-def test(f: Format, kind: m.If, term: str) -> str:
-    """Returns the condition of an optional part, of a term for the field that it asks for."""
-    enum = asked_enum(f, kind)
+def asked_enums(f: Format, kind: m.Kind) -> int:
+    """Returns the number of enums that a condition asks for in code, where a function tests several fields."""
+    return sum(bool(asked_enum(f, it)) for it in kind.tests) if isinstance(kind, m.If) and not kind.due else 0
+
+
+def test(f: Format, asked: m.Test, term: str) -> str:
+    """Returns a test, of a term for the field that it asks for."""
+    enum = asked_enum(f, asked)
     number = enum_number(enum, term) if enum else term
-    match kind.how:
+    match asked.how:
         case "":
             return term
+        case "not":
+            return f"(not {term})"
         case "!=":
-            return f"(not ({number} == {kind.value}))"
+            return f"(not ({number} == {asked.value}))"
         case "<":
-            return f"(nat_lt {number} {kind.value})"
+            return f"(nat_lt {number} {asked.value})"
         case ">=":
-            return f"(nat_le {kind.value} {number})"
-    return f"({number} == {kind.value})"
+            return f"(nat_le {asked.value} {number})"
+    return f"({number} == {asked.value})"
+
+
+def condition(f: Format, kind: m.If, terms: list[str]) -> str:
+    """Returns the condition of an optional part, of a term for each field that it asks for."""
+    if kind.due:
+        return f"({kind.due} {' '.join(terms)})"
+    return test(f, kind.tests[0], terms[0])
 
 
 def when(f: Format, kind: m.Optional | m.If, of: Of = as_read) -> str:
     """Returns the term that an optional part is there, of the values that were read."""
-    return test(f, kind, of(f, kind.field)) if isinstance(kind, m.If) else of(f, f"has_{kind.name}")
+    return condition(f, kind, [of(f, it) for it in kind.asked]) if isinstance(kind, m.If) else of(f, f"has_{kind.name}")
 
 
 def known(f: Format, kind: m.Optional | m.If) -> str:
     """Returns the term that an optional part is there, of the fields of the record."""
-    return test(f, kind, f"value.{kind.field}") if isinstance(kind, m.If) else f"(is_some value.{kind.name})"
+    if isinstance(kind, m.If):
+        return condition(f, kind, [f"value.{it}" for it in kind.asked])
+    return f"(is_some value.{kind.name})"
 
 
 def binds(f: Format, line: Line, behind: str) -> str:
@@ -443,6 +494,9 @@ def binds(f: Format, line: Line, behind: str) -> str:
     if isinstance(kind, m.Verify):
         test_ = f"{m.label(kind.check)} == {checks.read_sum(kind.check, line.covers, [it.name for it in f.fields])}"
         return f"  if {test_} then {behind} else pure (Err {line.error})"
+    if m.is_limited(kind):
+        name, test_ = line.name, f"if nat_le {line.name} {kind.limit} then {behind} else pure (Err {kind.error})"
+        return f"  {name} ← {entry(f, line)}\n  {test_}"
     if line.stops:
         return f"  and_then ({entry(f, line)}) (part_then (λ {line.name}. {behind}))"
     return f"  {line.name} ← {entry(f, line)}"
@@ -497,6 +551,8 @@ def word(line: Line) -> str:
             assert line.measures
             if kind.varint:
                 return f"varint_writes o ({number_stored(line, kind)})"
+            if kind.groups:
+                return grouped_word(line, kind, kind.groups)
             if is_octets(line.measures):
                 return f"unsigned o 64 {kind.width} ({number_stored(line, kind)})"
             encoder = f"stored_encoder o {kind.width} {kind.units}" if kind.units else f"size_encoder o {kind.width}"
@@ -514,6 +570,14 @@ def word(line: Line) -> str:
         case m.Optional() | m.If():
             return f"optional_writes ({kind.use.module}_writes o) {term}"
     assert_never(kind)
+
+
+def grouped_word(line: Line, kind: m.Size, groups: m.Groups) -> str:
+    """Returns the write of a size in groups."""
+    assert line.measures
+    if is_octets(line.measures):
+        return f"vbr o {groups.group} ({number_stored(line, kind)})"
+    return f"grouped_encoder o ({measured_writes(line.measures, 'High')})"
 
 
 def item_writes(item: m.Item) -> str:
@@ -550,6 +614,8 @@ def size(line: Line) -> str:
             return f"blocks_size {term}"
         case m.UpToLast():
             return f"parts_size ({kind.use.module}_size o) {term}"
+        case m.Size(groups=m.Groups(group=group)):
+            return f"length (vbr_word High {group} ({number_stored(line, kind)}))"
         case m.Size():
             return f"varint_size ({number_stored(line, kind)})"
         case m.Part():
@@ -585,10 +651,12 @@ def fits(f: Format, line: Line) -> list[tuple[str, str]]:
     """Returns the fields of `Fits` for a line."""
     kind, term = line.kind, value(line)
     match kind:
-        case m.Bool() | m.Const() | m.Skip() | m.Flag() | m.Tag() | m.Check() | m.Verify():
+        case m.Check():
+            return checks.fits(kind)
+        case m.Bool() | m.Const() | m.Skip() | m.Flag() | m.Tag() | m.Verify():
             return []
         case m.Size():
-            return [(line.name, f"{number_stored(line, kind)} < 2 ^ {kind.width}")]
+            return limited_fits(line, number_stored(line, kind), kind, f"< 2 ^ {kind.width}")
         case m.Rest(item=item) | m.Sized(item=m.Octet() as item):
             return items_fit(kind.name, item, term)
         case m.Sized():
@@ -597,6 +665,8 @@ def fits(f: Format, line: Line) -> list[tuple[str, str]]:
             return [(kind.name, f"All {kind.use.name}Fits {term}"), whole_fits(kind)]
         case m.Choose():
             return choice_fits(f, kind) + [whole_fits(kind)] * kind.sized
+        case m.Number(limit=int()):
+            return limited_fits(line, term, kind, f"< 2 ^ {kind.integer.width}")
         case m.Number():
             return [(kind.name, number_fits(kind.integer, term))]
         case m.NonZero():
@@ -622,11 +692,12 @@ def fits(f: Format, line: Line) -> list[tuple[str, str]]:
         case m.Golomb():
             return [(kind.name, f"unsigned_abs {term} < 2 ^ 31" if kind.signed else f"{term} < 2 ^ 32 - 1")]
         case m.Count():
-            return [(line.name, f"length value.{kind.target} < 2 ^ {kind.width}")]
+            return limited_fits(line, f"length value.{kind.target}", kind, f"< 2 ^ {kind.width}")
         case m.Array():
             return [(f"{kind.name}_count", f"length {term} ≡ {kind.count}"), *items_fit(kind.name, kind.item, term)]
         case m.List():
-            return items_fit(kind.name, kind.item, term)
+            counted = f"length {term} ≡ {list_count(f, kind, lambda f, name: f'value.{name}')}"
+            return items_fit(kind.name, kind.item, term) + [(f"{kind.name}_count", counted)] * bool(kind.power)
         case m.Part():
             return [(kind.name, f"{kind.use.name}Fits {term}")]
         case m.Optional():
@@ -635,6 +706,12 @@ def fits(f: Format, line: Line) -> list[tuple[str, str]]:
             there = (f"{kind.name}_there", f"is_some {term} ≡ {known(f, kind)}")
             return [(kind.name, f"ForSome {term} {kind.use.name}Fits"), there]
     assert_never(kind)
+
+
+def limited_fits(line: Line, term: str, kind: m.Limited, bits: str) -> list[tuple[str, str]]:
+    """Returns the facts that a number fits its bits, and is not above its greatest value if it has one."""
+    most = [(f"{line.name}_most", f"{term} ≤ {kind.limit}")] * m.is_limited(kind)
+    return [(line.name, f"{term} {bits}"), *most]
 
 
 def choice_fits(f: Format, kind: m.Choose) -> list[tuple[str, str]]:

@@ -4,7 +4,7 @@ from __future__ import annotations
 import re
 
 from describing import model as m
-from describing.layout import Format, Line, enum_bits, is_octets
+from describing.layout import Format, Line, by_size, enum_bits, is_octets, is_open
 from describing.model import snake
 from describing.specs import measured
 from describing.specs.terms import (
@@ -13,9 +13,11 @@ from describing.specs.terms import (
     as_read,
     called,
     fits,
+    list_count,
     measured_size,
     number_stored,
     rest_count,
+    rest_left,
     short,
     sign,
     spec_type,
@@ -57,8 +59,10 @@ def choice_values(f: Format, line: Line) -> list[str]:
     """Returns the laws of a line with a choice, or with items that fill a size."""
     kind = line.kind
     if isinstance(kind, m.Choose):
-        written = measured.written_value(f, kind) if kind.unnamed else []
+        written = measured.written_value(f, kind) if by_size(kind) else []
         return measured.choice_value(f, line, kind) + written
+    if isinstance(kind, m.Sized) and line.use and is_open(line.use):
+        return measured.written_part(kind, line.use)
     return measured.wide_value(f, kind) if isinstance(kind, m.Fill) else []
 
 
@@ -124,6 +128,13 @@ def end(f: Format) -> str:
 
 def line_part(f: Format, line: Line, of: Of = as_read) -> str:
     """Returns a line as a part of the record `s`, after the values of the lines before it."""
+    if m.is_limited(line.kind):
+        return f"own_bounded {line.kind.limit} {line.kind.error} ({plain_part(f, line, of)})"
+    return plain_part(f, line, of)
+
+
+def plain_part(f: Format, line: Line, of: Of) -> str:
+    """Returns a line as a part, whatever its greatest value is."""
     kind, get = line.kind, f"(λ s. {of_record(line, 's')})"
     match kind:
         case m.Const():
@@ -133,9 +144,12 @@ def line_part(f: Format, line: Line, of: Of = as_read) -> str:
         case m.If():
             return f"free ({if_there(f, line, kind, get, of)})"
         case m.List():
-            return list_part(f, line, kind, get, of(f, f"{kind.name}_count"))
+            part = list_part(f, line, kind, get, list_count(f, kind, of))
+            return f"free ({part})" if kind.power else part
         case m.Size():
             return measured.size_part(line, kind, of_record(line, "s"))
+        case m.Number() | m.Count():
+            return f"field {line_format(f, line, of)} {get}"
     return f"{'own_' * line.stops}field {line_format(f, line, of)} {get}"
 
 
@@ -206,7 +220,7 @@ def line_format(f: Format, line: Line, of: Of) -> str:
         case m.Blocks():
             return "atom.blocks"
         case m.Rest():
-            return f"(vec {of(f, f'{kind.name}_bytes')})"
+            return f"(vec {rest_left(f, kind.name, of)})"
         case m.Tag():
             return f"(atom.unsigned {tag_bits(kind.width)} {kind.width} refl)"
         case m.UpToLast():
@@ -303,7 +317,7 @@ def rest_given(f: Format) -> str:
 
 def value(f: Format) -> list[str]:
     """Returns the definition of the format: of a rest, for a number of bytes that a record has to have."""
-    made = ["refl"] * sum(isinstance(it.kind, m.List | m.Optional) for it in f.lines) + ["refl {a = s}"]
+    made = ["refl"] * sum(is_made(it) for it in f.lines) + ["refl {a = s}"]
     facts = [fact for it in f.lines for fact in line_facts(f, it)]
     names = "; ".join(f"{it.removeprefix('fits.')} = facts{place(k, len(facts))}" for k, it in enumerate(facts))
     kind = f"OwnFormat {f.e}" if f.own else "PlainFormat"
@@ -323,6 +337,11 @@ def value(f: Format) -> list[str]:
     return [*out, ""]
 
 
+def is_made(line: Line) -> bool:
+    """Returns true for a line whose number of items, or whose flag, a line before it has."""
+    return isinstance(line.kind, m.Optional) or isinstance(line.kind, m.List) and not line.kind.power
+
+
 def line_facts(f: Format, line: Line) -> list[str]:
     """Returns the terms of what must fit of a line, in the order of its part."""
     kind = line.kind
@@ -338,7 +357,7 @@ def line_facts(f: Format, line: Line) -> list[str]:
         case m.Choose() | m.Sized() | m.Fill():
             return measured.measured_facts(f, line, kind)
         case m.Rest():
-            return [f"fits.{kind.name}", "fits.1"]
+            return [f"fits.{kind.name}", "let sum = fits.1 in omega (arith, sum)" if f.before_rest else "fits.1"]
     return [f"fits.{name}" for name, _ in fits(f, line)]
 
 
