@@ -81,6 +81,22 @@ class Sheet:
         self.others[module] = description(inner, self.draw.randint(1, 3))
         return f"{inner.type} of {module}", inner
 
+    def open_part(self) -> str:
+        """Draws the description of a part that ends with the bytes of its size, and returns `TYPE of MODULE`."""
+        module = f"{self.module.split('_')[0]}_{chr(ord('a') + len(self.others))}"
+        self.others[module] = ""
+        inner = Sheet(self.draw, module, self.others, self.order, self.depth - 1, self.lists)
+        for _ in range(self.draw.randrange(3)):
+            if self.draw.random() < 0.5:
+                inner.add(f"{inner.name()} {self.draw.choice(('u8 8', 'i16 16', 'bytes 3'))}")
+                continue
+            inner.add(f"size {(name := inner.name())} 8")
+            inner.add(f"sized {name} bytes")
+        item = inner.part(lists=False, wide=True) if self.depth > 1 and self.draw.random() < 0.5 else "bytes"
+        head = [f"struct {inner.type}: A record.", f"order {inner.order}"]
+        self.others[module] = "\n".join([*head, *inner.lines, f"rest {inner.name()} {item}", ""])
+        return f"{inner.type} of {module}"
+
 
 def integer(draw: Random, signed: bool | None = None, most: int = 128) -> tuple[str, int]:
     """Returns a type and a width."""
@@ -183,12 +199,16 @@ def varying(sheet: Sheet) -> None:
     sheet.add(f"{name} {said}")
     if not signed:
         sheet.asked.append((name, [str(draw.randrange(5)) for _ in range(2)], True))
+    if draw.random() < 0.3:
+        base, width = integer(draw, False)
+        most = draw.randrange((1 << width) - 1)
+        sheet.add(f"{sheet.name()} {base} {width} max {most} {sheet.error()}")
 
 
 def condition(draw: Random, asked: str, values: list[str], whole: bool) -> str:
     """Returns a condition that asks for a field."""
     how = draw.choice(("==", "!=", "<", ">=") if whole else ("==", "!="))
-    return f"{asked} {how} {draw.choice(values)}" if values else asked
+    return f"{asked} {how} {draw.choice(values)}" if values else f"{draw.choice(('', 'not '))}{asked}"
 
 
 def part(sheet: Sheet) -> None:
@@ -205,14 +225,17 @@ def part(sheet: Sheet) -> None:
         sheet.add(f"flag {name}")
         sheet.later.append(f"option {name} {sheet.part(lists=True)}")
         return
-    asked, values, whole = draw.choice(sheet.asked)
-    sheet.add(f"if {condition(draw, asked, values, whole)} {name} {sheet.part(lists=True)}")
+    tests = draw.sample(sheet.asked, draw.randint(1, min(3, len(sheet.asked))))
+    said = draw.choice((" and ", " or ")).join(condition(draw, *it) for it in tests)
+    sheet.add(f"if {said} {name} {sheet.part(lists=True)}")
 
 
 def listed(sheet: Sheet) -> None:
     """Adds a count, and later its list."""
     draw, name = sheet.draw, sheet.name()
-    sheet.add(f"count {name} {draw.randint(1, 9)}")
+    size, limited = draw.randint(1, 9), draw.random() < 0.3
+    limit = f"{size + 3} max {draw.randint(4, (1 << size + 3) - 2)} {sheet.error()}"
+    sheet.add(f"count {name} {limit if limited else size}")
     width = draw.randint(1, 9)
     base, bits = integer(draw)
     match draw.choice(("bytes", "numbers", "enum", "enum", *["parts"] * (sheet.depth > 0))):
@@ -233,7 +256,8 @@ def arms(sheet: Sheet, among: Sequence[int], octets: bool) -> str:
     numbers = draw.sample(among, draw.randint(1, min(3, len(among))))
     said = []
     for index, number in enumerate(sorted(numbers)):
-        said.append(f"{number} Arm{index}" + (f" {sheet.part(lists=True)}" if draw.random() < 0.6 else ""))
+        part = sheet.open_part() if octets and draw.random() < 0.4 else sheet.part(lists=True)
+        said.append(f"{number} Arm{index}" + (f" {part}" if draw.random() < 0.6 else ""))
     if len(numbers) < len(among) and draw.random() < 0.5:
         said.append(".. Else bytes" if octets and draw.random() < 0.8 else ".. Else")
     return ", ".join(said)
@@ -252,7 +276,7 @@ def choice(sheet: Sheet) -> None:
     sized = sheet.lists and draw.random() < 0.5
     sheet.add(f"tag {name} {width}")
     if sized:
-        sheet.add(f"size {name} {draw.choice((8, 12, 16))}")
+        sheet.add(f"size {name} {draw.choice((8, 12, 16, grouped(sheet)))}")
     said = arms(sheet, range(1 << width), sized)
     sheet.later.append(f"choose {name} {sheet.new('Choice')}{f' sized {sheet.error()}' * sized}: {said}")
 
@@ -263,17 +287,39 @@ def sized(sheet: Sheet) -> None:
     width = draw.choice((8, 12, 16, 20))
     match draw.choice(("part", "bytes", "bytes", "bytes", "fill")):
         case "part":
-            sheet.add(f"size {name} {width}")
-            sheet.later.append(f"sized {name} {sheet.part(lists=True)} {sheet.error()}")
+            sheet.add(f"size {name} {draw.choice((width, grouped(sheet)))}")
+            part = sheet.open_part() if draw.random() < 0.4 else sheet.part(lists=True)
+            sheet.later.append(f"sized {name} {part} {sheet.error()}")
         case "fill":
             sheet.add(f"size {name} {width}")
             sheet.later.append(f"fill {name} {sheet.part(lists=True, wide=True)} {sheet.error()}")
         case _:
             sign, unit = draw.choice(("", "", "plus", "less")), draw.choice(("", "", " by 2", " by 4"))
             stored = f"{width}{f' {sign} {draw.randint(1, 20)}' * bool(sign)}{unit}"
-            sheet.add(f"size {name} {'varint quic' if draw.random() < 0.25 else stored}")
+            sheet.add(f"size {name} {draw.choice((stored, stored, stored, 'varint quic', grouped(sheet)))}")
             error = f" {sheet.error()}" if " plus " in sheet.lines[-1] else ""
             sheet.later.append(f"sized {name} bytes{error}")
+
+
+def grouped(sheet: Sheet) -> str:
+    """Returns a number in groups of 8 bits that states a size, which may have a greatest value."""
+    draw = sheet.draw
+    said = draw.choice(("leb128 u32", "leb128 u16", "vbr 8 u32", "vbr 8 u32 any"))
+    return said + f" max {draw.choice((1000, 60000))} {sheet.error()}" * (draw.random() < 0.5)
+
+
+def powered(sheet: Sheet) -> None:
+    """Adds a number, and later a list of a power of two items, which may be there by a bit."""
+    draw, number, name = sheet.draw, sheet.name(), sheet.name()
+    sheet.add(f"{number} u8 {draw.randint(1, 2)}")
+    there, item = "", "{} {}".format(*integer(draw))
+    if draw.random() < 0.5:
+        there = sheet.name()
+        sheet.add(f"{there} bool")
+    if sheet.depth > 0 and draw.random() < 0.5:
+        item = sheet.part(lists=True)
+    plus = draw.choice(("", " plus 1"))
+    sheet.later.append(f"list {name} {item} power {number}{plus}{f' if {there}' * bool(there)}")
 
 
 def ended(sheet: Sheet) -> None:
@@ -300,7 +346,7 @@ def up_to_last(sheet: Sheet) -> None:
         for it in text
         if it.startswith(("list ", "blocks ")) or it.startswith("until ") and " if " not in it
     ]
-    tests = [condition(sheet.draw, *it) for it in inner.asked] + [f"empty {it}" for it in lists]
+    tests = [condition(sheet.draw, *it).removeprefix("not ") for it in inner.asked] + [f"empty {it}" for it in lists]
     said = " or ".join(sheet.draw.sample(tests, sheet.draw.randint(1, min(2, len(tests))))) if tests else ""
     sheet.add(f"until {name} {part} if {said}" if said else f"{name} {part}")
 
@@ -316,8 +362,7 @@ def summed(sheet: Sheet) -> None:
     if not names or draw.random() < 0.6:
         names.append(sheet.name())
         lines.append(f"{names[-1]} bytes {draw.randint(1, 5)}")
-    sums = [it for it in m.SUMS if not any(one.startswith(f"check {it} ") for one in sheet.lines)]
-    check = f"check {draw.choice(sums)} over {' '.join(names)} {sheet.error()}"
+    check = f"check {unused_sum(sheet)} over {' '.join(names)} {sheet.error()}"
     lines.insert(draw.randint(0, len(lines)), check)
     for line in lines:
         sheet.add(line)
@@ -330,13 +375,51 @@ def summed_lines(sheet: Sheet) -> None:
     middle = draw.choice(("", "any 8", f"const 8 {draw.randrange(256)} {sheet.error()}"))
     lines = [f"{first} u16 {width}", *[middle] * bool(middle), f"{last} u32 {-width % 8 + 8}"]
     over = f"all to {last}" if not sheet.lines else f"{first} to {last}"
-    check = f"check {draw.choice(list(m.SUMS))} over {over} {sheet.error()}"
+    check = f"check {unused_sum(sheet)} over {over} {sheet.error()}"
     lines.insert(draw.randint(0, len(lines)), check)
     for line in lines:
         sheet.add(line)
 
 
-# The functions that add a line, each with what it needs: parts, and lists.
+def unused_sum(sheet: Sheet) -> str:
+    """Returns a checksum that the lines do not have yet."""
+    return sheet.draw.choice([it for it in m.SUMS if not any(one.startswith(f"check {it} ") for one in sheet.lines)])
+
+
+def computed(sheet: Sheet) -> None:
+    """Adds lines, some of which vary in their bytes, with the number of these."""
+    draw, first, last = sheet.draw, sheet.name(), sheet.name()
+    width, middle = draw.randint(1, 15), ""
+    if draw.random() < 0.6:
+        middle = f"until {sheet.name()} bytes 0"
+    size = (width + -width % 8 + 8) // 8
+    stored = draw.choice(("", f" plus {draw.randint(1, 40)}", f" less {draw.randint(1, size)}"))
+    if not middle and draw.random() < 0.5:
+        unit = draw.choice((2, 3, 4))
+        stored = f" plus {-size % unit or unit} by {unit}"
+    lines = [f"{first} u16 {width}", *[middle] * bool(middle), f"{last} u32 {-width % 8 + 8}"]
+    at = draw.choice((0, len(lines)))
+    lines.insert(
+        at, f"computed {sheet.name()} {draw.choice((8, 16, 24))}{stored} over {first} to {last} {sheet.error()}"
+    )
+    for line in lines:
+        sheet.add(line)
+
+
+def given(sheet: Sheet) -> None:
+    """Adds a part that the caller gives, and a number, with the checksum of both."""
+    module, number = f"{sheet.module}_{chr(ord('a') + len(sheet.others))}", sheet.name()
+    inner = Sheet(sheet.draw, module, sheet.others, sheet.order, 0, False)
+    for line in sheet.draw.sample(("u16 16", "bytes 3", "u32 32", "i8 8"), 2):
+        inner.add(f"{inner.name()} {line}")
+    sheet.others[module] = "\n".join([f"struct {inner.type}: A record.", f"order {sheet.order}", *inner.lines, ""])
+    name = sheet.name()
+    sheet.add(f"given {name} {inner.type} of {module}")
+    sheet.add(f"{number} u16 16")
+    sheet.add(f"check {unused_sum(sheet)} over {name} {number} {sheet.error()}")
+
+
+# The functions that add a line, each with what it needs: parts, and lists, or that the format is no part.
 LINES: dict[Adds, str] = {
     simple: "",
     varying: "",
@@ -345,14 +428,21 @@ LINES: dict[Adds, str] = {
     choice: "parts",
     sized: "parts lists",
     ended: "lists",
+    powered: "lists",
 }
-LINES |= {summed: "parts", up_to_last: "parts lists", summed_lines: "parts"}
+LINES |= {
+    summed: "parts",
+    up_to_last: "parts lists",
+    summed_lines: "parts",
+    computed: "parts lists",
+    given: "parts whole",
+}
 
 
 def description(sheet: Sheet, count: int, first: Adds = simple) -> str:
     """Draws a description of some lines, the first one by a function, and returns its text without the rows."""
     draw = sheet.draw
-    there = {"parts": sheet.depth > 0, "lists": sheet.lists}
+    there = {"parts": sheet.depth > 0, "lists": sheet.lists, "whole": "_" not in sheet.module}
     kinds = [it for it, needs in LINES.items() if all(there[one] for one in needs.split())]
     first(sheet)
     for _ in range(count - 1):
@@ -448,13 +538,13 @@ def field_value(draw: Random, it: m.Described, said: m.Description, found: Recor
             return many_values(draw, it.item, it.count)
         case m.Unary():
             return draw.choice((0, 1, draw.randrange(40)))
-        case m.Part():
+        case m.Part() | m.Given():
             return record(draw, it.use.description)
         case m.Optional():
             return record(draw, it.use.description) if draw.random() < 0.5 else None
         case m.If():
-            asked = next(one for one in said.fields if one.name == it.field)
-            return record(draw, it.use.description) if it.holds(number_of(asked, found[it.field])) else None
+            numbers = {one.name: number_of(one, found[one.name]) for one in said.fields if one.name in it.asked}
+            return record(draw, it.use.description) if it.holds(numbers) else None
         case m.Choose():
             return chosen_value(draw, it, said, found)
         case m.Sized(item=m.Use() as use):
@@ -471,6 +561,9 @@ def field_value(draw: Random, it: m.Described, said: m.Description, found: Recor
             size = next(one for one in said.kinds if isinstance(one, m.Size) and one.target == it.name)
             least = -(-max(size.plus, 0) // size.unit)
             return draw.randbytes((least + draw.choice((0, 1, 2, 4))) * size.unit - size.plus)
+        case m.List(power=m.Power() as power):
+            there = not power.there or found[power.there] is True
+            return many_values(draw, it.item, power.count(int(str(found[power.field])), there))
         case m.List() | m.Fill() | m.Rest():
             item = it.use if isinstance(it, m.Fill) else it.item
             return many_values(draw, item, draw.choice((0, 1, 2, 4)))

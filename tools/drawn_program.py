@@ -146,7 +146,7 @@ def field_text(kind: m.Described, value: Value) -> str:
             return case_text(value)
         case m.Array() | m.List() | m.Rest() | m.Until() | m.Sized(item=m.Octet()):
             return many_text(kind.item, value)
-        case m.Fill():
+        case m.Fill() | m.UpToLast():
             return many_text(kind.use, value)
         case m.Blocks():
             assert isinstance(value, list)

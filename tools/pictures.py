@@ -195,6 +195,8 @@ HOLDS = {
     "bitstream_format": "formats as values, with their laws",
     "bitstream_callers": "callers that the guide shows",
     "bitstream_messages": "printed formats, choices and sizes",
+    "network_messages": "messages of networks, printed",
+    "media_messages": "messages of media, printed",
     "protocols": "headers of protocols, printed from descriptions",
     "bitstream_formats": "FLAC, H.264, AV1 and others",
     "bitfields_core": "layouts of bit fields",
