@@ -1,5 +1,5 @@
 //! The start of a file of any reader (sections 6 and 8), in constant memory.
-ghost use Rattle.std.specs.Prelude.{◌≡◌, ◌≤◌, drop, length, IfOk, IfSome, OnOk, Ok, Some};
+ghost use Rattle.std.specs.Prelude.{◌≡◌, ◌+◌, ◌*◌, ◌≤◌, drop, length, max, true, IfOk, IfSome, None, OnOk, Ok, Some};
 ghost use Rattle.std.specs.Io.KnownBytes.{Keeps};
 ghost use Rattle.bitstream_io.specs.Callers.{result_map};
 ghost use Rattle.flac_codec.specs.File.{bytes_there, info_at, metadata_at, stream_info_in};
@@ -91,11 +91,19 @@ impl<R: Read> MetadataReader<R> {
     ///
     /// The errors of [`next_block`](MetadataReader::next_block).
     pub fn fetch_block(&mut self) -> Result<Option<Metadata>, FlacError>
-        // If the bytes left are known, they stay the same.
+        // If the bytes left are known, they decide the result, as in `next_block`, unless an allocation or the reader fails.
+        ensures meant { IfSome (bytes_left R.remaining self.old.input) (λ bytes.
+            IsUnlessFailure (block_left self.old.done bytes) result) }
+        // After the last block nothing fails.
+        ensures none { self.old.done ≡ true → result ≡ Ok None }
+        // If the bytes left are known, they stay the same, also after an error.
         ensures left { Keeps (bytes_left R.remaining self.old.input) (bytes_left R.remaining self.new.input) }
         ensures info { self.new.info ≡ self.old.info }
         ensures done { self.new.done ≡ self.old.done }
         ensures within { IfOk result (λ block. block_size block ≤ length (fetched self.new.input)) }
+        // The bytes that are there are no more than before, or than twice the block's and a piece.
+        ensures most { IfOk result (λ block.
+            length (fetched self.new.input) ≤ max (length (fetched self.old.input)) (2 * block_size block + 16384)) }
     {
         if self.done {
             return Ok(None);
@@ -200,8 +208,11 @@ fn skip_blocks<R: Read>(input: &mut Input<R>, done: bool) -> Result<(), FlacErro
 
 /// Fetches a block of metadata, and returns its header. Takes no byte.
 fn fetch_block<R: Read>(input: &mut Input<R>) -> Result<Metadata, FlacError>
+    ensures meant { IfSome (bytes_left R.remaining input.old) (λ bytes. IsUnlessFailure (metadata_at bytes) result) }
     ensures left { Keeps (bytes_left R.remaining input.old) (bytes_left R.remaining input.new) }
     ensures within { IfOk result (λ block. block.size ≤ length (fetched input.new)) }
+    ensures most { IfOk result (λ block.
+        length (fetched input.new) ≤ max (length (fetched input.old)) (2 * block.size + 16384)) }
 {
     if !input.fill(4)? {
         return Err(FlacError::Reader(Error::EndOfInput));
