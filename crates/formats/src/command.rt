@@ -1,6 +1,6 @@
 //! The work of the program on a file.
 
-use crate::encode::encode;
+use crate::encode::encode_bytes;
 use crate::options::Style;
 use crate::print::Printer;
 use crate::readers::audio::{AdtsUnits, FlacUnits, Output};
@@ -102,7 +102,7 @@ pub fn play<W: Write, P: Write>(
             let mut units = FlacUnits::over(alloc, file, Output::Wav);
             decode(alloc, name, &mut units, out, report)
         }
-        Command::FlacEncode(encoding) => encode(alloc, encoding, name, file, out, report),
+        Command::FlacEncode(encoding) => encode_bytes(alloc, encoding, name, file, out, report),
         Command::Gunzip => {
             let mut units = GzipUnits::over(alloc, file)?;
             decode(alloc, name, &mut units, out, report)

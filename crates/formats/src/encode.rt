@@ -1,143 +1,80 @@
 //! Encodes the samples of a WAV file, or samples without a header, as FLAC.
-ghost use Rattle.std.specs.Prelude.{◌≤◌};
 
 use crate::report::Report;
-use crate::settings::{ByteOrder, Encoding, PAIRS, Raw, Stereo};
+use crate::samples::{Ending, NoSamples, Samples, Sound};
+use crate::seek_table::SeekTable;
+use crate::settings::{Encoding, PAIRS, Stereo};
 use crate::status::Status;
 use anyhow::{Error, anyhow};
-use bitstream_formats::wav::Wav;
 use flac_codec::stream_info::StreamInfo;
 use flac_codec::{Channels, FrameHeader, best_channels, encode_frame, is_frame};
 use md5::{Digest, Md5};
 use std::alloc::{AllocError, Global};
-use std::io::Write;
-use std::num::NonZero;
+use std::io::{Read, Seek, SeekFrom, Write};
 
-/// Samples that FLAC can encode, and their properties.
-#[derive(Clone, Copy)]
-struct Sound<'a> {
-    // One to eight.
-    channels: u8,
-    // Below 2^20.
-    sample_rate: u32,
-    // 4 to 32.
-    bits: u8,
-    // The samples of all channels in turn, the lowest byte of each first.
-    data: &'a [u8],
-    // False if 128 is to be taken off each sample. It has 8 bits then.
-    is_signed: bool,
-    // True if the file has no byte after the last whole sample.
-    is_whole: bool,
+/// The place of STREAMINFO in a file, in bytes, after the marker and the header of the block.
+const STREAM_INFO: u64 = 8;
+
+/// The place of the seek points, after STREAMINFO and the header of their block.
+const SEEK_POINTS: u64 = 46;
+
+/// The number of samples per channel from which on STREAMINFO has no room for it.
+const TOO_MANY: u64 = 0x10_0000_0000;
+
+/// The greatest size of a frame that STREAMINFO has room for.
+const LARGEST: usize = 0xff_ffff;
+
+/// The totals of the samples and frames so far.
+#[derive(Drop)]
+struct Totals {
+    md5: Md5,
+    // The number of samples per channel.
+    samples: u64,
+    // The sizes of the smallest and of the largest frame in bytes, or 0 before the first one.
+    smallest: u32,
+    largest: u32,
 }
 
-impl<'a> Sound<'a> {
-    /// Returns the samples of a WAV file.
-    fn of_wav(file: &'a [u8]) -> Result<Sound<'a>, Error> {
-        let Wav { format, data } = Wav::parse(file)?;
-        let channels = format.channels;
-        if channels < 1 || channels > 8 {
-            return Err(anyhow!("{channels} channels; FLAC has one to eight"));
-        }
-        let bits = format.bits_per_sample.div_ceil(8).saturating_mul(8);
-        if bits < 8 || bits > 32 {
-            let bits = format.bits_per_sample;
-            return Err(anyhow!("{bits} bits per sample; 1 to 32 are encoded"));
-        }
-        let sample_rate = format.sample_rate;
-        if sample_rate == 0 || sample_rate >= 0x10_0000 {
-            return Err(anyhow!("{sample_rate} samples per second; FLAC has 1 to 1048575"));
-        }
-        Ok(Sound {
-            channels: channels as u8,
-            sample_rate,
-            bits: bits as u8,
-            data,
-            is_signed: bits > 8,
-            is_whole: true,
-        })
-    }
-
-    /// Returns samples without a header, of which the lowest byte is first.
-    fn of_raw(raw: Raw, data: &'a [u8]) -> Sound<'a> {
-        Sound {
-            channels: raw.channels,
-            sample_rate: raw.rate,
-            bits: raw.bits,
-            data,
-            is_signed: true,
-            is_whole: true,
+impl Totals {
+    /// Returns the totals of no sample.
+    fn new() -> Totals {
+        Totals {
+            md5: Md5::new(),
+            samples: 0,
+            smallest: 0,
+            largest: 0,
         }
     }
 
-    /// Leaves out the bytes after the last whole sample of all channels.
-    fn whole(self) -> Sound<'a> {
-        let rest = self.data.len() % self.step();
-        Sound {
-            data: &self.data[..self.data.len() - rest],
-            is_whole: rest == 0,
-            ..self
+    /// Adds a block.
+    fn add_block(&mut self, sound: Sound, block: &[u8]) {
+        self.md5.update(block);
+        let count = (block.len() / sound.step()) as u64;
+        self.samples = self.samples.saturating_add(count);
+    }
+
+    /// Adds a frame of this size.
+    fn add_frame(&mut self, size: usize) {
+        let size = size.min(LARGEST) as u32;
+        if self.smallest == 0 || size < self.smallest {
+            self.smallest = size;
         }
+        self.largest = self.largest.max(size);
     }
 
-    /// Returns the number of bytes of a sample.
-    fn size(&self) -> usize {
-        self.bits.div_ceil(8) as usize
-    }
-
-    /// Returns the number of bytes of one sample of all channels, at least 1.
-    fn step(&self) -> usize
-        ensures { 1 ≤ result }
-    {
-        (self.channels as usize).saturating_mul(self.size()).max(1)
-    }
-
-    /// Returns the properties of the file, whose blocks have `block_size` samples.
-    fn stream_info(&self, block_size: u16) -> Result<StreamInfo, Error> {
-        let (Some(channels), Some(bits_per_sample)) = (
-            NonZero::<u8>::new(self.channels),
-            NonZero::<u8>::new(self.bits),
-        ) else {
-            return Err(anyhow!("no channel, or no bit"));
-        };
+    /// Returns the properties of a file with these totals.
+    fn stream_info(self, sound: Sound, block_size: u16) -> Result<StreamInfo, Error> {
         Ok(StreamInfo {
-            minimum_block_size: block_size,
-            maximum_block_size: block_size,
-            minimum_frame_size: 0,
-            maximum_frame_size: 0,
-            sample_rate: self.sample_rate,
-            channels,
-            bits_per_sample,
-            total_samples: (self.data.len() / self.step()) as u64,
-            checksum: self.md5(),
+            minimum_frame_size: self.smallest,
+            maximum_frame_size: self.largest,
+            total_samples: if self.samples < TOO_MANY {
+                self.samples
+            } else {
+                0
+            },
+            checksum: self.md5.finalize(),
+            ..sound.stream_info(block_size)?
         })
-    }
-
-    /// Returns the MD5 of the samples, each with a sign, the lowest byte first.
-    fn md5(&self) -> [u8; 16] {
-        let mut sum = Md5::new();
-        if self.is_signed {
-            sum.update(self.data);
-            return sum.finalize();
-        }
-        let mut block = [0u8; 4096];
-        for bytes in self.data.chunks(4096) {
-            for (to, byte) in block.iter_mut().zip(bytes.iter()) {
-                *to = *byte ^ 0x80;
-            }
-            sum.update(&block[..bytes.len().min(4096)]);
-        }
-        sum.finalize()
-    }
-
-    /// Returns the number that the bytes of a sample spell.
-    fn sample(&self, bytes: &[u8]) -> i64 {
-        let number = signed(bytes);
-        if self.is_signed {
-            number
-        } else {
-            // The highest bit is turned, which takes 128 off.
-            number ^ -128
-        }
     }
 }
 
@@ -153,24 +90,19 @@ fn signed(bytes: &[u8]) -> i64 {
 }
 
 /// Returns the samples of a channel in a block.
-fn channel(
-    alloc: Global,
-    sound: Sound<'_>,
-    block: &[u8],
-    at: usize,
-) -> Result<Vec<i64>, AllocError> {
+fn channel(alloc: Global, sound: Sound, block: &[u8], at: usize) -> Result<Vec<i64>, AllocError> {
     let size = sound.size();
     let first = at.saturating_mul(size);
     let mut samples = Vec::new(alloc);
     for bytes in block.chunks_exact(sound.step()) {
         let sample = bytes.get(first..first.saturating_add(size)).unwrap_or(&[]);
-        samples.push(sound.sample(sample))?;
+        samples.push(signed(sample))?;
     }
     Ok(samples)
 }
 
 /// Returns the header of a frame of a block.
-fn header(sound: Sound<'_>, number: u64, channels: Channels, block: &[Vec<i64>]) -> FrameHeader {
+fn header(sound: Sound, number: u64, channels: Channels, block: &[Vec<i64>]) -> FrameHeader {
     let rate = sound.sample_rate;
     // Other rates and numbers of bits are only in STREAMINFO.
     let has_rate = rate < 65_536 || (rate % 10 == 0 && rate < 655_360);
@@ -192,7 +124,7 @@ fn header(sound: Sound<'_>, number: u64, channels: Channels, block: &[Vec<i64>])
 /// Returns the frame of a block with these channels.
 fn frame_of(
     alloc: Global,
-    sound: Sound<'_>,
+    sound: Sound,
     header: &FrameHeader,
     channels: &[Vec<i64>],
 ) -> Result<Vec<u8>, Error> {
@@ -207,7 +139,7 @@ fn frame_of(
 /// Returns the shortest frame of a block of two channels.
 fn shortest_frame(
     alloc: Global,
-    sound: Sound<'_>,
+    sound: Sound,
     number: u64,
     channels: &[Vec<i64>],
 ) -> Result<Vec<u8>, Error> {
@@ -225,7 +157,7 @@ fn shortest_frame(
 /// Returns the frame of a block.
 fn frame(
     alloc: Global,
-    sound: Sound<'_>,
+    sound: Sound,
     stereo: Stereo,
     number: u64,
     block: &[u8],
@@ -245,33 +177,203 @@ fn frame(
     frame_of(alloc, sound, &header, channels)
 }
 
-/// Writes the marker, STREAMINFO, and the padding, if there is any.
+/// Writes the header of a block of metadata.
+fn write_head<W: Write>(out: &mut W, kind: u8, is_last: bool, size: u32) -> Result<(), Error> {
+    let [_, a, b, c] = size.to_be_bytes();
+    let last = if is_last { 0x80 } else { 0 };
+    out.write_all(&[last | kind, a, b, c])?;
+    Ok(())
+}
+
+/// Writes the marker, STREAMINFO, the seek points, which are filled in later, and the padding, if there are any.
 fn write_metadata<W: Write>(
     alloc: Global,
-    sound: Sound<'_>,
     encoding: Encoding,
+    info: &StreamInfo,
     out: &mut W,
 ) -> Result<(), Error> {
-    let mut info = [0u8; 34];
-    sound
-        .stream_info(encoding.block_size)?
-        .pack_into(&mut info)?;
-    let last = if encoding.padding == 0 { 0x80 } else { 0 };
+    let mut bytes = [0u8; 34];
+    info.pack_into(&mut bytes)?;
+    let Encoding {
+        seek_points,
+        padding,
+        ..
+    } = encoding;
     out.write_all(b"fLaC")?;
-    out.write_all(&[last, 0, 0, 34])?;
-    out.write_all(&info)?;
-    if encoding.padding > 0 {
-        let [_, a, b, c] = encoding.padding.to_be_bytes();
-        let mut padding = Vec::new(alloc);
-        padding.resize(encoding.padding as usize, 0)?;
-        out.write_all(&[0x81, a, b, c])?;
-        out.write_all(padding.as_slice())?;
+    write_head(out, 0, seek_points == 0 && padding == 0, 34)?;
+    out.write_all(&bytes)?;
+    if seek_points > 0 {
+        let points = SeekTable::new(alloc, seek_points).to_bytes(alloc)?;
+        write_head(out, 3, padding == 0, seek_points.saturating_mul(18))?;
+        out.write_all(points.as_slice())?;
+    }
+    if padding > 0 {
+        let mut zeros = Vec::new(alloc);
+        zeros.resize(padding as usize, 0)?;
+        write_head(out, 1, true, padding)?;
+        out.write_all(zeros.as_slice())?;
     }
     Ok(())
 }
 
-/// Writes the samples of a file as FLAC.
-pub fn encode<W: Write, P: Write>(
+/// The properties of a file and its seek points, after its last frame.
+#[derive(Drop)]
+struct Written {
+    info: StreamInfo,
+    points: SeekTable,
+}
+
+/// Writes the frames of all samples.
+fn write_frames<R: Read + Drop, W: Write>(
+    alloc: Global,
+    encoding: Encoding,
+    samples: &mut Samples<R>,
+    out: &mut W,
+) -> Result<Written, Error> {
+    let sound = samples.sound();
+    let mut totals = Totals::new();
+    let mut points = SeekTable::new(alloc, encoding.seek_points);
+    for number in 0..u64::MAX {
+        if !samples.next_block()? {
+            break;
+        }
+        let block = samples.block();
+        let frame = frame(alloc, sound, encoding.stereo, number, block)?;
+        out.write_all(frame.as_slice())?;
+        let first = totals.samples;
+        totals.add_block(sound, block);
+        totals.add_frame(frame.len());
+        points.add_frame(alloc, first, totals.samples, frame.len())?;
+    }
+    let info = totals.stream_info(sound, encoding.block_size)?;
+    Ok(Written { info, points })
+}
+
+/// Returns the number of samples and their MD5, in the properties of the file that they are encoded as, or `None` if the
+/// input is rejected.
+///
+/// # Errors
+///
+/// A read or an allocation failed.
+pub fn measure<R: Read + Drop>(
+    alloc: Global,
+    encoding: Encoding,
+    reader: R,
+) -> Result<Option<StreamInfo>, Error> {
+    let mut samples = match Samples::open(alloc, encoding, reader) {
+        Ok(samples) => samples,
+        Err(NoSamples::Rejected(_)) => return Ok(None),
+        Err(NoSamples::Failed(error)) => return Err(error),
+    };
+    let sound = samples.sound();
+    let mut totals = Totals::new();
+    for _ in 0..u64::MAX {
+        if !samples.next_block()? {
+            break;
+        }
+        totals.add_block(sound, samples.block());
+    }
+    Ok(Some(totals.stream_info(sound, encoding.block_size)?))
+}
+
+/// Returns the samples of an input. If it is rejected, reports that, and returns `None`.
+fn open<R: Read + Drop, P: Write>(
+    alloc: Global,
+    encoding: Encoding,
+    name: &str,
+    reader: R,
+    report: &mut Report<P>,
+) -> Result<Option<Samples<R>>, Error> {
+    match Samples::open(alloc, encoding, reader) {
+        Ok(samples) => Ok(Some(samples)),
+        Err(NoSamples::Failed(error)) => Err(error),
+        Err(NoSamples::Rejected(error)) => {
+            report.refuse(name, &error);
+            Ok(None)
+        }
+    }
+}
+
+/// Reports samples that do not end as they should, and returns the status.
+fn end<P: Write>(name: &str, ending: Ending, report: &mut Report<P>) -> Status {
+    match ending {
+        Ending::Whole => Status::Read,
+        Ending::Part => {
+            report.say(name, "the last sample is not whole, and is left out");
+            Status::Warned
+        }
+        Ending::Cut => {
+            report.say(name, "the file ends inside its samples");
+            Status::Refused
+        }
+    }
+}
+
+/// Writes the samples of an input as FLAC. `known` has the number and the MD5 of the samples, if they were measured. Else
+/// the file has the number that the header of the input states, and no MD5.
+///
+/// # Errors
+///
+/// A read, a write or an allocation failed, a sample has too many bits, or the samples are others than those that were measured.
+pub fn encode<R: Read + Drop, W: Write, P: Write>(
+    alloc: Global,
+    encoding: Encoding,
+    name: &str,
+    reader: R,
+    known: Option<StreamInfo>,
+    out: &mut W,
+    report: &mut Report<P>,
+) -> Result<Status, Error> {
+    let Some(mut samples) = open(alloc, encoding, name, reader, report)? else {
+        return Ok(Status::Refused);
+    };
+    let first = match known {
+        Some(info) => info,
+        None => StreamInfo {
+            total_samples: samples.stated(),
+            ..samples.sound().stream_info(encoding.block_size)?
+        },
+    };
+    write_metadata(alloc, encoding, &first, out)?;
+    let Written { info, points: _ } = write_frames(alloc, encoding, &mut samples, out)?;
+    if known.is_some() && info.checksum != first.checksum {
+        return Err(anyhow!("the file changed while it was read"));
+    }
+    Ok(end(name, samples.ending(), report))
+}
+
+/// Writes the samples of an input as FLAC, and then writes STREAMINFO and the seek points again, which are known at the end.
+///
+/// # Errors
+///
+/// A read, a write, a seek or an allocation failed, or a sample has too many bits.
+pub fn encode_and_return<R: Read + Drop, W: Write + Seek, P: Write>(
+    alloc: Global,
+    encoding: Encoding,
+    name: &str,
+    reader: R,
+    out: &mut W,
+    report: &mut Report<P>,
+) -> Result<Status, Error> {
+    let Some(mut samples) = open(alloc, encoding, name, reader, report)? else {
+        return Ok(Status::Refused);
+    };
+    let first = samples.sound().stream_info(encoding.block_size)?;
+    write_metadata(alloc, encoding, &first, out)?;
+    let Written { info, points } = write_frames(alloc, encoding, &mut samples, out)?;
+    let mut bytes = [0u8; 34];
+    info.pack_into(&mut bytes)?;
+    out.seek(SeekFrom::Start(STREAM_INFO))?;
+    out.write_all(&bytes)?;
+    if encoding.seek_points > 0 {
+        out.seek(SeekFrom::Start(SEEK_POINTS))?;
+        out.write_all(points.to_bytes(alloc)?.as_slice())?;
+    }
+    Ok(end(name, samples.ending(), report))
+}
+
+/// Writes the samples of the bytes of a file as FLAC.
+pub fn encode_bytes<W: Write, P: Write>(
     alloc: Global,
     encoding: Encoding,
     name: &str,
@@ -279,50 +381,6 @@ pub fn encode<W: Write, P: Write>(
     out: &mut W,
     report: &mut Report<P>,
 ) -> Result<Status, Error> {
-    let sound = match encoding.raw {
-        Some(raw) if raw.order == ByteOrder::Big => {
-            let mut turned = Vec::new(alloc);
-            turned.extend_from_slice(file)?;
-            raw.order.turn(raw.bits, turned.as_mut_slice());
-            let sound = Sound::of_raw(raw, turned.as_slice());
-            return encode_sound(alloc, encoding, name, sound, out, report);
-        }
-        Some(raw) => Ok(Sound::of_raw(raw, file)),
-        None => Sound::of_wav(file),
-    };
-    match sound {
-        Ok(sound) => encode_sound(alloc, encoding, name, sound, out, report),
-        Err(error) => {
-            report.refuse(name, &error);
-            Ok(Status::Refused)
-        }
-    }
-}
-
-/// Writes samples as FLAC.
-fn encode_sound<W: Write, P: Write>(
-    alloc: Global,
-    encoding: Encoding,
-    name: &str,
-    sound: Sound<'_>,
-    out: &mut W,
-    report: &mut Report<P>,
-) -> Result<Status, Error> {
-    let sound = sound.whole();
-    write_metadata(alloc, sound, encoding, out)?;
-    let block = (encoding.block_size as usize)
-        .saturating_mul(sound.step())
-        .max(1);
-    let mut done = 0u64;
-    for (number, bytes) in sound.data.chunks(block).enumerate() {
-        let frame = frame(alloc, sound, encoding.stereo, number as u64, bytes)?;
-        out.write_all(frame.as_slice())?;
-        done = done.saturating_add(bytes.len() as u64);
-        report.done(done);
-    }
-    if sound.is_whole {
-        return Ok(Status::Read);
-    }
-    report.say(name, "the last sample is not whole, and is left out");
-    Ok(Status::Warned)
+    let known = measure(alloc, encoding, file)?;
+    encode(alloc, encoding, name, file, known, out, report)
 }

@@ -121,14 +121,19 @@ Writes the samples of FLAC as a WAV file. A sample of other than whole bytes fil
         Command::FlacEncode(_) => "\
 usage: formats flac-encode [OPTION..] [-o FILE] FILE..
 
-Writes the samples of a WAV file, of one to eight channels and at most 32 bits, as FLAC, with their MD5. The encoder of
-its frames is proved lossless.
+Writes the samples of a WAV file, of one to eight channels and at most 32 bits, as FLAC, in constant memory. The encoder
+of its frames is proved lossless. A file that ends inside its samples has status 1, after the samples that are there.
+
+STREAMINFO has the number of samples and their MD5. With `-o FILE` it is completed at the end, with the sizes of frames.
+Without `-o`, or if FILE cannot seek, an input file is read twice. From a pipe to standard output there is no MD5, and the
+number is the one that the WAV header states, or else 0: not known.
 
   -0 .. -8, --level N   0 to 2: blocks of 1152 samples, 3 to 8: of 4096. 0 and 3: each channel is coded by itself;
                         6 to 8: two channels are coded in all four ways, and the shortest is kept; the others: in the
                         way that seems shortest. The predictions are the same at each level. Without a level: 5
   --block-size N        blocks of N samples, 16 to 65535
   --padding N           N empty bytes for tags, 0 to 16777215; without the option: 8192
+  --seek-points N       at most N seek points, 0 to 1000, with -o; without the option: 0
   --raw                 FILE has samples and no header: whole bytes with a sign, of all channels in turn. It needs:
     --channels N        1 to 8
     --bits N            bits of a sample, 4 to 32

@@ -4,6 +4,7 @@
 mod command;
 mod damaged;
 mod encode;
+mod encode_file;
 mod help;
 mod options;
 mod print;
@@ -11,6 +12,8 @@ mod readers;
 mod report;
 mod rows;
 mod run;
+mod samples;
+mod seek_table;
 mod settings;
 mod status;
 mod unit;

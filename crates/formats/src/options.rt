@@ -97,6 +97,8 @@ pub enum Usage {
     NoFile,
     /// An output is named for several files.
     OneOutput,
+    /// Seek points are wanted, and no output is named.
+    NoOutput,
     /// A command that writes the contents of a file prints no elements, and has no option for them.
     NoElements,
     /// An allocation failed.
@@ -236,6 +238,7 @@ impl Arguments {
             | "--level"
             | "--block-size"
             | "--padding"
+            | "--seek-points"
             | "--channels"
             | "--bits"
             | "--rate"
@@ -261,7 +264,7 @@ impl Arguments {
                 self.raw.order = wanted(order, option, value, "`little` or `big`")?;
                 self.of_order = Some(option.clone()?);
             }
-            "--level" | "--block-size" | "--padding" => {
+            "--level" | "--block-size" | "--padding" | "--seek-points" => {
                 self.set_encoding(option, value)?;
                 self.of_encoder = Some(option.clone()?);
             }
@@ -286,6 +289,10 @@ impl Arguments {
                 self.encoding.block_size = wanted(size, option, value, "16 to 65535")?.min(
                     65_535,
                 ) as u16;
+            }
+            "--seek-points" => {
+                let points = number(value, 0, 1000);
+                self.encoding.seek_points = wanted(points, option, value, "0 to 1000")?;
             }
             _ => {
                 let padding = number(value, 0, 0xff_ffff);
@@ -331,6 +338,9 @@ impl Arguments {
         }
         if arguments.options.output.is_some() && arguments.files.len() > 1 {
             return Err(Usage::OneOutput);
+        }
+        if arguments.encoding.seek_points > 0 && arguments.options.output.is_none() {
+            return Err(Usage::NoOutput);
         }
         Ok(Call::Read(command, arguments.options, arguments.files))
     }

@@ -2,17 +2,19 @@
 
 use crate::command::{Command, play};
 use crate::damaged::play_damaged;
+use crate::encode::encode_and_return;
 use crate::options::{Call, Options, Style, parse_command};
 use crate::print::Printer;
 use crate::report::{Extent, Report};
 use crate::run::read_directory;
-use crate::settings::ByteOrder;
+use crate::settings::{ByteOrder, Encoding};
 use crate::status::Status;
 use anyhow::{Error, anyhow, bail};
 use bitstream_formats::flac::{encode_with_md5, has_md5};
 use flac_codec::{decode_file, is_file};
 use std::alloc::{AllocError, Global};
 use std::fs;
+use std::io::Cursor;
 
 /// The output of a command on a file.
 #[derive(Drop)]
@@ -168,7 +170,7 @@ fn play_line(
     match (word, options) {
         ("encoded", _) => {
             let command = command_with(rt.alloc(), "flac-encode", options)?;
-            compare_encoded(rt, command, path, other)
+            compare_encoded(rt, command, path, other, case)
         }
         ("summed", _) => compare_sums(rt, path, other),
         ("damaged", _) => play_damaged(rt, command_of(path)?, other),
@@ -257,18 +259,20 @@ fn compare(
     Ok(())
 }
 
-/// Encodes a file as FLAC, and compares what is decoded with a file of samples.
+/// Encodes a file as FLAC, and compares what is decoded with a file of samples. Encodes it also over bytes that can seek, and
+/// compares these bytes, but for the sizes of frames and the seek points.
 fn compare_encoded(
     rt: &HostRuntime,
     command: Command,
     path: &str,
     other: &str,
+    case: Case,
 ) -> Result<(), Error> {
     let file = fs::read(rt, path)?;
     let wanted = fs::read(rt, other)?;
     let alloc = rt.alloc();
     let encoded = outcome_of(alloc, command, Style::Rows, file.as_slice())?;
-    if encoded.status != Status::Read {
+    if case.refused != (encoded.status != Status::Read) {
         bail!("{path}: {:?}: {}", encoded.status, encoded.first_error());
     }
     let decoder = Command::Flac(ByteOrder::Little);
@@ -276,8 +280,47 @@ fn compare_encoded(
     if decoded.status != Status::Read || decoded.out.as_slice() != wanted.as_slice() {
         bail!("{path}: the samples are not those of {other}");
     }
+    let Command::FlacEncode(encoding) = command else {
+        bail!("{path}: another command");
+    };
+    let returned = returned_of(alloc, encoding, file.as_slice())?;
+    if !is_same_file(encoding, encoded.out.as_slice(), returned.as_slice()) {
+        bail!("{path}: what is encoded over a file that can seek is another file");
+    }
     println!(rt; "{path}: {} bytes of samples, the same", decoded.out.len())?;
+    if case.refused {
+        println!(rt; "{path}: {}", encoded.first_error())?;
+    }
     Ok(())
+}
+
+/// Returns the FLAC file that is encoded over bytes that can seek.
+fn returned_of(alloc: Global, encoding: Encoding, file: &[u8]) -> Result<Vec<u8>, Error> {
+    let mut out = Cursor::new(Vec::new(alloc));
+    let mut report = Report::new(Vec::new(alloc), false, Extent::unknown());
+    encode_and_return(alloc, encoding, "FILE", file, &mut out, &mut report)?;
+    Ok(out.into_inner())
+}
+
+/// Returns true if FLAC files are the same but for the sizes of frames and the seek points, which the second one has.
+fn is_same_file(encoding: Encoding, one: &[u8], other: &[u8]) -> bool {
+    let rest = match encoding.seek_points {
+        0 => 42,
+        points => (points as usize).saturating_mul(18).saturating_add(46),
+    };
+    let sizes = other.get(12..18).unwrap_or(&[]);
+    let points = other.get(46..rest).unwrap_or(&[]);
+    sizes != [0; 6].as_slice()
+        && !points.starts_with([0xff; 8].as_slice())
+        && one.len() == other.len()
+        && is_same_part(one, other, 0, 12)
+        && is_same_part(one, other, 18, 42)
+        && is_same_part(one, other, rest, one.len())
+}
+
+/// Returns true if files have the same bytes in a range.
+fn is_same_part(one: &[u8], other: &[u8], from: usize, to: usize) -> bool {
+    one.get(from..to).unwrap_or(&[]) == other.get(from..to).unwrap_or(&[])
 }
 
 /// Compares the MD5 of a FLAC file with its samples, and with the one that is made for another file of the same samples.

@@ -2,6 +2,8 @@
 
 use crate::command::{Command, decode, play, show};
 use crate::damaged::play_damaged;
+use crate::encode::{encode, measure};
+use crate::encode_file::encode_file;
 use crate::help::{HELP, VERSION, help_of};
 use crate::options::{Call, Options, Style, Usage, parse};
 use crate::print::Printer;
@@ -9,11 +11,13 @@ use crate::readers::audio::{FlacUnits, Output};
 use crate::readers::compressed::GzipUnits;
 use crate::report::{Extent, Report, Watched};
 use crate::rows::play_rows;
+use crate::settings::Encoding;
 use crate::status::{Status, USAGE};
 use crate::walk::{Unread, Walk};
 use anyhow::{Error, anyhow};
+use flac_codec::stream_info::StreamInfo;
 use std::fs::File;
-use std::io::{BufWriter, ErrorKind, IsTerminal, Read, Write};
+use std::io::{BufWriter, ErrorKind, IsTerminal, Read, Seek, Write};
 use std::os::unix::fs::MetadataExt;
 use std::{env, fs, io};
 
@@ -62,6 +66,7 @@ fn refuse(rt: &HostRuntime, usage: Usage) -> io::Result<()> {
         Usage::NoRaw(word) => eprintln!(rt; "formats: {} needs --raw", word.as_str())?,
         Usage::NoFile => eprintln!(rt; "formats: no file is named, or too many are")?,
         Usage::OneOutput => eprintln!(rt; "formats: an output is named, and several files are")?,
+        Usage::NoOutput => eprintln!(rt; "formats: --seek-points needs -o")?,
         Usage::NoElements => {
             eprintln!(rt;
                 "formats: this command prints no elements, so it has no options for them"
@@ -111,15 +116,21 @@ fn read_files(
         return write_files(rt, command, options, files, out);
     };
     let path = path.as_str();
-    let file = match create(rt, path, files) {
+    let mut file = match create(rt, path, files) {
         Ok(file) => file,
         Err(error) => {
             eprintln!(rt; "formats: {path}: {error}")?;
             return Ok(Status::Failed.code());
         }
     };
+    let can_seek = file.stream_position().is_ok();
     let out = BufWriter::with_capacity(alloc, OUT, file)?;
-    write_files(rt, command, options, files, out)
+    match (command, files) {
+        (Command::FlacEncode(encoding), [name]) if can_seek => {
+            encode_file(rt, encoding, name.as_str(), out)
+        }
+        _ => write_files(rt, command, options, files, out),
+    }
 }
 
 /// Creates a file for the output of the first of some files, if that one exists and is another file.
@@ -162,6 +173,12 @@ fn write_files<W: Write + Drop>(
             }
         }
     }
+    flush(rt, status, out)
+}
+
+/// Writes what is left of the output, and returns the exit status.
+pub fn flush<W: Write + Drop>(rt: &HostRuntime, status: Status, out: W) -> io::Result<u8> {
+    let mut out = out;
     match out.flush() {
         Ok(()) => Ok(status.code()),
         Err(error) if error.kind() == ErrorKind::BrokenPipe => Ok(Status::Failed.code()),
@@ -252,6 +269,14 @@ fn read_file<W: Write + Drop>(
     )
 }
 
+/// Returns the number and the MD5 of the samples of an input, if it is a file, which can be read twice.
+fn known_of(rt: &HostRuntime, encoding: Encoding, name: &str) -> Result<Option<StreamInfo>, Error> {
+    if name == "-" || !fs::metadata(rt, name)?.is_file() {
+        return Ok(None);
+    }
+    measure(rt.alloc(), encoding, File::open(rt, name)?)
+}
+
 /// Runs a command on a reader.
 fn read_from<R: Read + Drop, W: Write>(
     rt: &HostRuntime,
@@ -291,6 +316,10 @@ fn read_from<R: Read + Drop, W: Write>(
         Command::FlacHeaders => {
             let mut units = FlacUnits::over(alloc, reader, Output::Headers);
             show(alloc, name, &mut units, printer, out, &mut report)
+        }
+        Command::FlacEncode(encoding) => {
+            let known = known_of(rt, encoding, name)?;
+            encode(alloc, encoding, name, reader, known, out, &mut report)
         }
         _ => {
             let mut file = Vec::new(alloc);

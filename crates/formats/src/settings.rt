@@ -79,6 +79,8 @@ pub struct Encoding {
     pub stereo: Stereo,
     /// The number of bytes of a block of metadata that is left empty, below 2^24. Without bytes there is no block.
     pub padding: u32,
+    /// The greatest number of seek points. Without points there is no block of them.
+    pub seek_points: u32,
     /// The form of the samples, or `None` for a WAV file.
     pub raw: Option<Raw>,
 }
@@ -89,6 +91,7 @@ impl Encoding {
         block_size: 4096,
         stereo: Stereo::Estimated,
         padding: 8192,
+        seek_points: 0,
         raw: None,
     };
 
