@@ -330,8 +330,15 @@ def ended(sheet: Sheet) -> None:
 
 
 def to_end(sheet: Sheet) -> None:
-    """Adds the bytes, or the parts, to the end as the last line."""
-    parts = sheet.draw.random() < 0.4
+    """Adds the bytes, the parts or the choice to the end as the last line."""
+    draw, kind = sheet.draw, sheet.draw.random()
+    if kind < 0.2 and sheet.depth > 0:
+        name, width = sheet.name(), draw.randint(1, 8)
+        sheet.add(f"tag {name} {width}")
+        said = arms(sheet, range(1 << width), True)
+        sheet.rest = f"choose {name} {sheet.new('Choice')} rest {sheet.error()}: {said}"
+        return
+    parts = kind > 0.6
     if parts:
         constant(sheet, "const")
     sheet.rest = f"rest {sheet.name()} {sheet.part(lists=False, wide=True) if parts else 'bytes'}"
@@ -642,8 +649,9 @@ def closed(text: str, path: str, module: str, align: bool) -> str:
     said = parsed(text, beside(path, (module,), lambda it: None))
     if any(m.error(it) for it in said.kinds):
         text = text.replace("\n", f"\nerror {said.name}Error\n", 1)
-    bits = m.total([it for it in said.kinds if not isinstance(it, m.Rest)])
+    bits = m.total([it for it in said.kinds if not m.is_rest(it)])
     if bits is not None and bits % 8:
-        head, rest, tail = text.partition("\nrest ")
-        text = f"{head.rstrip()}\n{'align' if align else f'any {-bits % 8}'}{rest or chr(10)}{tail}"
+        *lines, last = text.rstrip().split("\n")
+        fill = "align" if align else f"any {-bits % 8}"
+        text = "\n".join([*lines, fill, last, ""] if any(map(m.is_rest, said.kinds)) else [*lines, last, fill, ""])
     return text

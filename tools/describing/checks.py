@@ -78,7 +78,7 @@ def check_type_name(name: str, at: Position) -> None:
 def check_sum_name(it: m.Description, kind: m.Kind) -> None:
     """Refuses a field with a name that code has for a checksum, or for the number of bytes of the rest."""
     sums = [one.word for one in it.kinds if isinstance(one, m.Check)]
-    rests = [name for one in it.kinds if isinstance(one, m.Rest) for name in (f"{one.name}_bytes", "all_bytes")]
+    rests = [name for one in it.kinds if m.is_rest(one) for name in (f"{one.name}_bytes", "all_bytes")]
     words = [it.format(one) for one in sums for it in ("{}", "is_{}", "{}_sum", "{}_writes")]
     words += [one.called for one in it.kinds if isinstance(one, m.Computed)]
     if m.is_field(kind) and kind.name in words:

@@ -230,8 +230,10 @@ def check(description: m.Description, example: m.Example) -> None:
         raise Refused("an example has its fields, or its error, after a colon: `example 10 FF: FIELD = VALUE, ..`")
     if said and isinstance(said, str) and held(description, said) and not names_own(description, said):
         raise Refused(f"`{said}` holds an error of the part: give the example in its description")
-    if isinstance(said, str) and said not in [*reader_errors(description), *errors_of(description)]:
-        raise Refused(f"an example answers `{said}`, which is no case of the error")
+    cases = [*errors_of(description), *reader_errors(description)]
+    if isinstance(said, str) and said not in cases:
+        known = ", ".join(f"`{it}`" for it in dict.fromkeys(cases))
+        raise Refused(f"an example answers `{said}`, which is no case of the error: it has {known}")
     try:
         data = bytes.fromhex(example.digits)
     except ValueError:

@@ -203,7 +203,7 @@ def lines_of(description: m.Description) -> tuple[Line, ...]:
     return tuple(found)
 
 
-def given_line(kind: m.Rest) -> Line:
+def given_line(kind: m.Rest | m.Choose) -> Line:
     """Returns a line for the number of bytes of the rest, which a read is given."""
     return Line(m.Size(kind.at, "", kind.name, 64, 1, 0), -1, None, "", False, ())
 
@@ -294,10 +294,10 @@ def check_printed(description: m.Description, kind: m.Printed) -> None:
         case m.Size(varint=True):
             if not is_octets(measured_by(description, kind)):
                 raise Refused(f"{UNPRINTED}: a size by `varint quic` is printed for bytes", kind.at)
-        case m.Rest():
-            check_rest(description, kind)
         case m.Size() if kind.most >= MOST_BYTES:
             raise Refused(f"{UNPRINTED}: a size of fewer than 2^60 bytes is printed", kind.at)
+    if m.is_rest(kind):
+        check_rest(description, kind)
     for use in m.uses(kind):
         if m.open_ended(use.description) and not is_bounded(description, kind, use):
             raise Refused(f"{UNPRINTED}: `{use.module}` reads to the end of the bytes", kind.at)
@@ -305,15 +305,11 @@ def check_printed(description: m.Description, kind: m.Printed) -> None:
             raise Refused(f"`{use.module}` has sizes, so its order must be {description.order} as here", kind.at)
 
 
-def check_rest(description: m.Description, kind: m.Rest) -> None:
+def check_rest(description: m.Description, kind: m.Rest | m.Choose) -> None:
     """Refuses a rest that is no bytes, that a line follows, or whose first byte is not known."""
     head = tuple(it for it in description.kinds if it is not kind and not isinstance(it, m.Verify))
-    if not isinstance(kind.item, m.Octet | m.Use):
-        raise Refused(f"{UNPRINTED}: in code the rest is bytes or parts", kind.at)
-    if isinstance(kind.item, m.Use) and not description.error and m.allocating(kind.item):
-        raise Refused(f"{UNPRINTED}: in code a rest of parts with lists stands in a format with an `error`", kind.at)
-    if isinstance(kind.item, m.Use) and least_bits(kind.item) < 8:
-        raise Refused("a part of the rest has at least 8 bits of constant width", kind.at)
+    if isinstance(kind, m.Rest):
+        check_rest_item(description, kind)
     if description.kinds.index(kind) != len(head):
         raise Refused(f"{UNPRINTED}: in code the rest is the last line", kind.at)
     if m.total(tuple(it for it in head if not is_length(it))) is None:
@@ -322,6 +318,16 @@ def check_rest(description: m.Description, kind: m.Rest) -> None:
         raise Refused(f"{UNPRINTED}: in code the lines before the rest have whole bytes", kind.at)
     if any(is_length(it) for it in head) and not all_values(description.kinds):
         raise Refused(f"{UNPRINTED}: no checksum stands with a rest after bytes of variable length", kind.at)
+
+
+def check_rest_item(description: m.Description, kind: m.Rest) -> None:
+    """Refuses a rest of other items than bytes and parts of at least a byte."""
+    if not isinstance(kind.item, m.Octet | m.Use):
+        raise Refused(f"{UNPRINTED}: in code the rest is bytes or parts", kind.at)
+    if isinstance(kind.item, m.Use) and not description.error and m.allocating(kind.item):
+        raise Refused(f"{UNPRINTED}: in code a rest of parts with lists stands in a format with an `error`", kind.at)
+    if isinstance(kind.item, m.Use) and least_bits(kind.item) < 8:
+        raise Refused("a part of the rest has at least 8 bits of constant width", kind.at)
 
 
 def is_length(kind: m.Kind) -> bool:
@@ -336,7 +342,7 @@ def head_bits(description: m.Description) -> int:
 
 def is_open(use: m.Use) -> bool:
     """Returns true for a part whose last line is a rest."""
-    return isinstance(use.description.kinds[-1], m.Rest)
+    return m.is_rest(use.description.kinds[-1])
 
 
 def by_size(kind: m.Kind) -> bool:
@@ -410,7 +416,7 @@ class Format:
         self.checks = [it.kind for it in self.lines if isinstance(it.kind, m.Check)]
         self.summed = [it for it in self.checks if it.lines]
         self.total = description.bits if description.whole and not self.checks else None
-        self.rest = next((it for it in description.kinds if isinstance(it, m.Rest)), None)
+        self.rest = next((it for it in description.kinds if m.is_rest(it)), None)
         self.handed = [handed_line(it) for it in m.given(description)]  # the parts that a read is given
         rests = [given_line(self.rest)] if self.rest else []
         self.given = [*self.handed, *rests]

@@ -444,9 +444,10 @@ class Arm:
 
 @dataclass(frozen=True, slots=True)
 class Choose(Field):
-    """choose NAME TYPE [by FIELD] [sized ERROR]: ARM, ..; DOC
+    """choose NAME TYPE [by FIELD] [sized ERROR | rest ERROR]: ARM, ..; DOC
 
-    `overrun` is the error of a wrong size, and `width` the number of bits of the number that selects a case.
+    `overrun` is the error of a wrong size, and `width` the number of bits of the number that selects a case. `sized` is also
+    true of a choice `to_end`, whose size is that of the bytes to the end.
     """
 
     type: str
@@ -455,6 +456,7 @@ class Choose(Field):
     overrun: str
     arms: tuple[Arm, ...]
     width: int = 32
+    to_end: bool = False
 
     @property
     def other(self) -> Arm | None:
@@ -811,12 +813,17 @@ def fixed_bits(description: Description) -> int | None:
 def open_ended(description: Description) -> bool:
     """Returns true if a record reads up to the end of the bytes."""
     for it in description.kinds:
-        if isinstance(it, Rest) or isinstance(it, Choose) and not it.sized and any_octets(it):
+        if is_rest(it) or isinstance(it, Choose) and not it.sized and any_octets(it):
             return True
         limited = isinstance(it, Sized | Fill) or isinstance(it, Choose) and it.sized
         if not limited and any(open_ended(use.description) for use in uses(it)):
             return True
     return False
+
+
+def is_rest(kind: Kind) -> TypeGuard[Rest | Choose]:
+    """Returns true for a line that reads to the end of the bytes."""
+    return isinstance(kind, Rest) or isinstance(kind, Choose) and kind.to_end
 
 
 def any_octets(kind: Choose) -> bool:

@@ -62,7 +62,7 @@ STARTS = {
     "`size NAME vbr BITS TYPE [any] [max N ERROR]` or `size NAME leb128 TYPE [max N ERROR]`",
     "sized": "`sized NAME TYPE of MODULE ERROR` or `sized NAME bytes [ERROR]`",
     "fill": "`fill NAME TYPE of MODULE ERROR`",
-    "choose": f"`choose NAME TYPE [by FIELD] [sized ERROR]: {ARMS}`",
+    "choose": f"`choose NAME TYPE [by FIELD] [sized ERROR | rest ERROR]: {ARMS}`",
     "rest": LIST.format("rest"),
     "blocks": "`blocks NAME`",
     "check": "`check SUM over FIELD.. ERROR`, `check SUM over all [to FIELD] ERROR` or `check SUM over FIELD to FIELD ERROR`",
@@ -536,9 +536,12 @@ def choose_line(words: Words, context: Context, at: Position) -> m.Kind:
     name, type = words.next(), words.next()
     by = words.next() if words.peek() == "by" and words.next() else name
     place = words.place(1)
-    overrun = words.next() if words.peek() == "sized" and words.next() else ""
+    to_end = words.peek() == "rest"
+    overrun = words.next() if words.peek() in ("sized", "rest") and words.next() else ""
     sized = context.measured(name)
-    if bool(overrun) != sized:
+    if to_end and sized:
+        raise Refused(f"`{name}` has a size: `sized ERROR`, and not `rest ERROR`", place)
+    if not to_end and bool(overrun) != sized:
         why = f"no `size {name} BITS` before it" if overrun else f"`sized ERROR`: `{name}` has a size"
         raise Refused(why, place)
     width = tag_width(context, by, place)
@@ -547,7 +550,7 @@ def choose_line(words: Words, context: Context, at: Position) -> m.Kind:
     said, doc = cases_of(words)
     arms = tuple(arm(words, context, it.split(), width) for it in said.split(","))
     check_arms(arms, width, place)
-    return m.Choose(at, doc.strip(), name, type, by, sized, overrun, arms, width)
+    return m.Choose(at, doc.strip(), name, type, by, sized or to_end, overrun, arms, width, to_end)
 
 
 def tag_width(context: Context, by: str, place: Position) -> int:

@@ -54,7 +54,7 @@ def said(kind: m.Kind, kinds: tuple[m.Kind, ...]) -> str:
             return f"{of}{size} bytes"
         case m.Choose():
             names = [it.case for it in kind.arms]
-            return ", ".join(names[:-1]) + " or " * (len(names) > 1) + names[-1]
+            return ", ".join(names[:-1]) + " or " * (len(names) > 1) + names[-1] + " to the end" * kind.to_end
         case m.Rest():
             return "bytes to the end" if isinstance(kind.item, m.Octet) else f"{m.item_type(kind.item)} to the end"
         case m.Blocks():

@@ -323,8 +323,13 @@ def up_to_last(kind: m.UpToLast) -> Composite:
 
 def remaining(row: Input) -> bytes:
     """Takes all bytes up to the end."""
+    return row.bytes(bytes_left(row))
+
+
+def bytes_left(row: Input) -> int:
+    """Returns the number of bytes up to the end."""
     row.finish()
-    return row.bytes((row.end - row.at) // 8)
+    return (row.end - row.at) // 8
 
 
 def within(row: Input, size: int, error: str, read: Callable[[], tuple[Value, list[Node]]]) -> tuple[Value, list[Node]]:
@@ -383,7 +388,8 @@ def choice(kind: m.Choose) -> Composite:
         number = scope[kind.by]
         if not kind.sized:
             return held(row, number)
-        return within(row, scope[f"{kind.name}_bytes"], kind.overrun, lambda: held(row, number))
+        size = bytes_left(row) if kind.to_end else scope[f"{kind.name}_bytes"]
+        return within(row, size, kind.overrun, lambda: held(row, number))
 
     return read
 

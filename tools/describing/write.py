@@ -376,11 +376,13 @@ def arm_number(kind: m.Choose, value: Value, name: str) -> int:
 def put_choice(bits: Bits, kind: m.Choose, value: Value, name: str) -> None:
     """Writes what a case holds."""
     arm, held = arm_of(kind, value, name)
-    inner = f"{name}.{arm.case}"
+    inner, start = f"{name}.{arm.case}", bits.count
     if isinstance(arm.held, m.Use):
         put_item(bits, inner, arm.held, held)
     elif isinstance(arm.held, m.Octet):
         put_items(bits, inner, arm.held, other_of(held, inner)[1] if arm.number is None else held, None)
+    if kind.to_end and (bits.count - start) % 8:
+        raise Unfit(f"`{name}` has {bits.count - start} bits, which are no whole bytes")
 
 
 def check_selected(kind: m.Choose, description: m.Description, whole: Record, path: str) -> None:

@@ -318,6 +318,8 @@ def tests(f: Format, kind: Crossed) -> list[str]:
             return [f"{v} <= {2**62 - 1}"]
         case m.Golomb():
             return [f"{v} > {-(2**31)}" if kind.signed else f"{v} < {2**32 - 1}"]
+        case m.Number(limit=int() as limit):
+            return [f"{v} <= {limit}"]
         case m.Number() | m.Groups():
             return [f"{v} >= {kind.integer.least}"] * kind.integer.signed + [f"{v} <= {kind.integer.most}"]
         case m.NonZero():
@@ -342,14 +344,21 @@ def tests(f: Format, kind: Crossed) -> list[str]:
 
 def fit_code(f: Format) -> list[str]:
     """Returns the function that tests whether all fields fit their bits."""
-    found = [test for it in fields(f.description) for test in tests(f, it)] or ["true"]
+    firsts = {f"{it.use.module}_fits(&value.{it.name})": f"{it.name}_fit" for it in optional.listed(f)}
+    found = [test for it in fields(f.description) for test in tests(f, it) if test not in firsts] or ["true"]
+    body = ["    " + "\n        && ".join(found)]
+    if firsts:
+        body = [f"    let rest_fits ={body[0][3:]};"]
+        for test, name in firsts.items():
+            body += [f"    let {name} = {test};", f"    if !{name} {{", "        return false;", "    }"]
+        body += ["    rest_fits"]
     return [
         "/// Returns true if each field fits its bits.",
         INLINE,
         f"pub(crate) fn is_fit(value: &{varying.given(f)}) -> bool",
         f"    ensures {{ IsTrue result ↔ Fits {varying.value_of(f, 'value.now')} }}",
         "{",
-        "    " + "\n        && ".join(found),
+        *body,
         "}",
         "",
     ]

@@ -67,8 +67,8 @@ def check(description: m.Description) -> None:
     for it in description.kinds:
         if isinstance(it, m.Check):
             raise Refused("a checksum does not cross to C yet", it.at)
-        if m.is_limited(it) or isinstance(it, m.Size) and it.groups:
-            raise Refused("a greatest value, or a size in groups, does not cross to C yet", it.at)
+        if isinstance(it, m.Size) and it.groups:
+            raise Refused("a size in groups does not cross to C yet", it.at)
     for kind in description.fields:
         if not crosses(kind):
             raise Refused(f"`{kind.name}` {OTHERS[type(kind)]}", kind.at)
@@ -107,17 +107,14 @@ def check_field(kind: Crossed) -> None:
     if isinstance(kind, m.If) and kind.due:
         raise Refused(f"`{kind.name}` has a condition over several fields, which does not cross to C yet", kind.at)
     if isinstance(kind, m.Choose) and kind.sized:
-        raise Refused(f"`{kind.name}` is a choice with a size, which does not cross to C yet", kind.at)
+        what = "reads to the end of the bytes" if kind.to_end else "is a choice with a size"
+        raise Refused(f"`{kind.name}` {what}, which does not cross to C yet", kind.at)
     if not isinstance(kind, m.Part | m.Optional | m.If | m.Choose) and base(kind).endswith("128"):
         raise Refused(f"`{kind.name}` has a number of 128 bits, which C does not have", kind.at)
     if isinstance(kind, m.Sized) and isinstance(kind.item, m.Use):
         raise Refused(f"`{kind.name}` is a part with a size, which does not cross to C yet", kind.at)
     if isinstance(kind, m.List) and kind.power:
         raise Refused(f"`{kind.name}` is a list of a power of two items, which does not cross to C yet", kind.at)
-    if isinstance(kind, m.List) and isinstance(kind.item, m.EnumType) and not kind.item.error:
-        raise Refused(
-            f"`{kind.name}` is a list of an enum that refuses no number, which does not cross to C yet", kind.at
-        )
     for use in m.uses(kind):
         try:
             check(use.description)
@@ -166,7 +163,12 @@ def target(description: m.Description, line: m.Count | m.Size) -> m.Kind:
 def most_items(description: m.Description, kind: Listed) -> int:
     """Returns the greatest number of items of a list."""
     line = counted(description, kind)
-    return line.most if isinstance(line, m.Size) else (1 << line.width) - 1
+    return line.most if isinstance(line, m.Size) else most_counted(line)
+
+
+def most_counted(line: m.Count) -> int:
+    """Returns the greatest number that counts the items of a list."""
+    return (1 << line.width) - 1 if line.limit is None else line.limit
 
 
 def item_width(kind: Listed | m.Array) -> int:
@@ -311,6 +313,8 @@ def partial(description: m.Description) -> list[Crossed]:
 def limits(kind: Crossed) -> str:
     """Returns the sentence about the range of a field as C sees it, or an empty text."""
     match kind:
+        case m.Number(limit=int() as limit):
+            return f"At most {limit}."
         case m.Number():
             said = integer_range(kind.integer)
             return f"{said.capitalize()}." if said else ""
@@ -347,7 +351,8 @@ def list_comment(description: m.Description, kind: Listed) -> str:
     if isinstance(kind.item, m.EnumType):
         other = f", or another one below 2^{kind.item.width}" if kind.item.other else ""
         said = f"a number of `{m.snake(kind.item.name)}`{other}"
-    return f"{comment(kind)} Fewer than 2^{line.width}{f', each {said}' if said else ''}."
+    most = f"Fewer than 2^{line.width}" if line.limit is None else f"At most {line.limit}"
+    return f"{comment(kind)} {most}{f', each {said}' if said else ''}."
 
 
 def size_limits(line: m.Size) -> str:

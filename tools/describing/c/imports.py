@@ -92,7 +92,9 @@ def lemma_uses(t: Target, text: str) -> list[str]:
     f = t.f
     shared = {f"Rattle.{t.crate}.proofs.SharedLemmas": "failed", f.lemmas_path: f"{f.m}_packs {f.m}_goes told"}
     parts_most = {
-        f"Rattle.{t.crate}.proofs.{spec_of(it.module)}Lemmas": f"{it.module}_most" for it in parts(f.description)
+        f"Rattle.{t.crate}.proofs.{spec_of(it.module)}Lemmas": f"{it.module}_most"
+        for it in parts(f.description)
+        if it.description.bits is None
     }
     return uses(text, own_names(t), own_specs(f), types(f), shared, parts_most, varied(t), LEMMAS)
 

@@ -14,7 +14,7 @@ from describing.proofs import calls
 from describing.proofs.chains import Answers, Call
 from describing.proofs.loops import write_answers, write_invariants
 from describing.proofs.parts import write_answers as part_writes
-from describing.specs.terms import asked_enums
+from describing.specs.terms import asked_enums, by_enum
 
 RESIDUAL = re.compile(r"c\.from_residual(?:-in_err-[^\s.]+)?\.ensures\.1")
 
@@ -32,7 +32,9 @@ class Reads(Answers):
     def laid_out(self, head: str, text: str) -> str:
         """Returns a term after its head, as what a lemma takes."""
         found = RESIDUAL.search(text)
-        if found and "returns-" in head:
+        if "returns-then-not-is_" in head:
+            text = self.term(f"refused_by ({text}) refl")
+        elif found and "returns-" in head:
             text = f"stopped _ {found[0]} (λ s residual. {text.replace(found[0], 'residual')})"
         else:
             kept = " ".join(f"c.in_ok-{label(self.f, it)}.ensures.keeps" for it in lists(self.f.description))
@@ -50,7 +52,8 @@ def read_answers(f: Format) -> str:
     labels, steps, made = calls.Labels(), calls.Labels(), list[Call]()
     for it in f.lines:
         form, fact, wide = calls.read_call(f, it)
-        known = (f"c.{steps.next('number')}.ensures",) if asked_enums(f, it.kind) else ()
+        asks = asked_enums(f, it.kind) or isinstance(it.kind, m.Choose) and by_enum(f, it.kind) is not None
+        known = (f"c.{steps.next('number')}.ensures",) if asks else ()
         named = calls.read_label(it)
         if cross.is_listed(it.kind):
             own = is_stated(it.kind) or is_mapped(it.kind) and it.own
@@ -59,6 +62,9 @@ def read_answers(f: Format) -> str:
                 (f"c.size_in_units-{count_name(f, it.kind)}.ensures",) if it.units and not is_stated(it.kind) else ()
             )
         made.append(Call(form, fact, labels.next(named), "", wide=wide, known=known))
+        if m.is_limited(it.kind):
+            test = f"not-is_{it.name}"
+            made.append(Call("most", "", test, test, "if", "not"))
     answers = Reads(f)
     parts = answers.all(made)
     return "\n\n".join([answers.uses("GOALS"), *parts])
@@ -331,7 +337,8 @@ def files(t: Target) -> dict[str, str]:
             [f"-- {t.made}", *answer_uses(t, function, text), "", text]
         )
     crate = f"Rattle.{t.crate}.proofs"
-    lemmas = f"use {crate}.{f.spec}Lemmas.{{read_done, stopped}}\nuse Rattle.std.proofs.Common.{{rules}}\n"
+    refused = "refused_by, " * any(map(m.is_limited, f.description.kinds))
+    lemmas = f"use {crate}.{f.spec}Lemmas.{{read_done, {refused}stopped}}\nuse Rattle.std.proofs.Common.{{rules}}\n"
     goals = f"{crate}.{f.m}.read.Goals"
     found[f"{home}/read/Answers.antt"] = f"-- {t.made}\n{lemmas}{read_answers(f).replace('GOALS', goals)}\n"
     goals = f"{crate}.{f.m}.{given(f)}.write.Goals"

@@ -86,7 +86,7 @@ def fields_code(f: Format, from_c: Callable[[Crossed], str], let_code: Callable[
 def tests(f: Format, kind: Listed) -> list[str]:
     """Returns the tests that a list fits its bits."""
     line, count = cross.counted(f.description, kind), f"value.{kind.name}.len()"
-    most = (1 << line.width) - 1
+    most = cross.most_counted(line) if isinstance(line, m.Count) else (1 << line.width) - 1
     if one := part_lists.shape(f, kind):
         return part_lists.tests(f, kind, one)
     if isinstance(line, m.Size) and line.units:
@@ -481,7 +481,7 @@ pub stopped : {{R : Type 0}} {{K : BitSource R}} {{old new : R}} {given_} {{P : 
 stopped (Ok c) bad reads = absurd bad
 stopped (Err e) is reads = record {{ found = Err e; reads = reads (Err e) is; told = refl;{none} }}
 
--- a read of all fields
+{refused_lemma(f, reads, given_, was, now, none)}-- a read of all fields
 pub read_done : {{R : Type 0}} {{K : BitSource R}} {{old new : R}} {given_} {{value : {t}}}
     {{r : Result {t}C {f.e}}} → {reads} (Ok value) new → r ≡ Ok ({mod}_to_c value){kept}
     → {t}Read K old {was} r new {now}
@@ -503,6 +503,19 @@ packed value bytes {names} fits is =
     ∙ ap ({mod}_answer {names}) (({mod}_goes {f.o} value fits).back 0 0 _)
     ∙ ap (λ k. {mod}_answer {names} (Done k (Ok (Ok value)))) (all.size 0)
 {varying.most_lemma(f)}"""
+
+
+def refused_lemma(f: Format, reads: str, given_: str, was: str, now: str, none: str) -> str:
+    """Returns the lemma about a read that a test ended, for a format with greatest values."""
+    if not any(map(m.is_limited, f.description.kinds)):
+        return ""
+    t = f.type
+    return f"""-- a read that a test ended
+pub refused_by : {{R : Type 0}} {{K : BitSource R}} {{old new : R}} {given_} {{e : {f.e}}} {{r : Result {t}C {f.e}}}
+    → {reads} (Err e) new → r ≡ Err e → {t}Read K old {was} r new {now}
+refused_by {{e = e}} reads is = record {{ found = Err e; reads = reads; told = is;{none} }}
+
+"""
 
 
 def parse_answers(f: Format) -> str:

@@ -36,6 +36,27 @@ def tests(f: Format, kind: Maybe) -> list[str]:
     return [f"{module}_fits({v})", f"is_{module}_there({v}, {test(f, kind.tests[0], 'value.')})"]
 
 
+def listed(f: Format) -> list[Maybe]:
+    """Returns the fields that may be there or not of which a search needs to be given that they fit.
+
+    It finds that of parts of bits and unsigned numbers alone.
+    """
+    found = [it for it in f.description.fields if isinstance(it, m.Optional | m.If)]
+    return [it for it in found if not all(map(is_simple, it.use.description.kinds))]
+
+
+def is_simple(kind: m.Kind) -> bool:
+    """Returns true for a line of bits, and for an unsigned number."""
+    return isinstance(kind, m.Bool | m.Skip | m.Const) or isinstance(kind, m.Number) and not kind.integer.signed
+
+
+def fit_answers(f: Format) -> str:
+    """Returns the answer of the function that tests the fields."""
+    facts = [f"c.{it.use.module}_fits-{it.name}_fit.ensures.0 c.if-not-{it.name}_fit.false" for it in listed(f)]
+    lets = "".join(f"    let fit_{k} = {it} in\n" for k, it in enumerate(facts))
+    return f"pub returns : goal.returns\nreturns c =\n{lets}    search rules\n"
+
+
 def code(f: Format) -> list[str]:
     """Returns the functions for each part that may be there or not."""
     asked = {it.use.module for it in f.description.fields if isinstance(it, m.If)}

@@ -263,7 +263,7 @@ def fits_code(one: Shape) -> list[str]:
 
 def tests(f: Format, kind: Listed, one: Shape) -> list[str]:
     """Returns the tests that a list fits its bits."""
-    most = (1 << cross.counted(f.description, kind).width) - 1
+    most = cross.most_items(f.description, kind)
     fit = [f"all_{one.word}_fit(value.{kind.name})"] * bool(one.fits)
     return [f"count_{one.word}(value.{kind.name}) <= {most}", *fit]
 

@@ -11,7 +11,7 @@ from describing.names import Table, uses
 
 # The lemmas that these proofs use.
 LEMMAS: Table = {
-    "Rattle.std.proofs.Common": "≡ ∙ + ++ ∷ [] Ok Err length map refl sym arith length-append",
+    "Rattle.std.proofs.Common": "≡ < ^ ∙ + ++ ∷ [] Ok Err length map refl sym arith length-append",
     "Rattle.std.proofs.lemmas.List": "length-map",
     "Rattle.bitstream_io.specs.Callers": "Reads ReadsOwn items_decoder list_item parts_decoder optional_writes unsigned",
     "Rattle.bitstream_io.specs.Loop": "ItemsWritten",

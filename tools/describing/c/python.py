@@ -265,6 +265,8 @@ def fields_code(t: Target) -> list[str]:
 def span(kind: Crossed) -> str:
     """Returns the least and the greatest number of a field, or of each item."""
     match kind:
+        case m.Number(limit=int() as limit):
+            return f"0, {limit}"
         case m.Number(integer=number) | m.Array(item=m.Integer() as number) | m.Groups(integer=number):
             return f"{number.least}, {number.most}"
         case m.Varint() | m.Golomb():

@@ -113,8 +113,8 @@ def read_answers(f: Format, k: int) -> str:
             known = (f"c.{steps.next('size_in_units')}.ensures",)
         if isinstance(it.kind, m.List) and it.kind.power:
             known = (f"c.{steps.next('power_count')}.ensures",)
-        if f.rest and isinstance(it.kind, m.Rest | m.Fill) and it.name == f.rest.name:
-            known = tuple(known_after(f, steps))
+        if f.rest and it.name == f.rest.name:
+            known = (*known, *known_after(f, steps))
         calls.append(Call(form, fact, labels.next(read_label(it)), "", wide=wide, known=known))
         if m.is_limited(it.kind):
             label = f"not-is_{it.name}"

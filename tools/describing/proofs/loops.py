@@ -45,9 +45,9 @@ def write_invariants(f: Format, kind: Many) -> Answers:
 
 
 def has_non_zero(use: m.Use) -> bool:
-    """Returns true if a part has a `NonZero`, or an optional one."""
+    """Returns true if a part has a `NonZero`, or an optional one, also in a part of its own."""
     kinds, own = use.description.kinds, (m.NonZero, m.MaybeNonZero)
-    return any(isinstance(it, own) or isinstance(it, m.Part) and has_non_zero(it.use) for it in kinds)
+    return any(isinstance(it, own) or any(map(has_non_zero, m.uses(it))) for it in kinds)
 
 
 def write_answers(f: Format, kind: Many) -> Answers:

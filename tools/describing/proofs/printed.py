@@ -78,7 +78,7 @@ def line_answers(f: Format, line: Line) -> Answers:
         found |= parts.answers(f, it, it.use) if it.use else {}
     if isinstance(kind, m.Choose):
         found |= choices.answers(f, line, kind)
-        found |= to_answers(f, kind.type) if kind.sized else {}
+        found |= to_answers(f, kind.type) if line.size else {}
     if line.measured:
         found |= sizes.answers(f, line, line.measured)
     elif isinstance(kind, m.Sized) and kind.error:

@@ -146,13 +146,13 @@ def error_cases(line: Line) -> dict[str, list[str]]:
     if kind.by != kind.name:
         why = f"`{kind.type}` has no case for `{kind.by}`."
     own = {kind.unknown: [f"    /// {why}", f'    #[error("{shown(why)}")]', f"    {kind.unknown},"]}
-    own = (own if kind.unknown else {}) | (overrun_case(kind.name, kind.overrun) if kind.sized else {})
+    own = (own if kind.unknown else {}) | (overrun_case(kind.name, kind.overrun, kind.to_end) if kind.sized else {})
     return own | {it.error: error_case(it) for it in line.parts if it.error}
 
 
-def overrun_case(name: str, error: str) -> dict[str, list[str]]:
-    """Returns the case of the error for a part that does not fill its size."""
-    why = f"`{name}` does not fill the bytes that its size states."
+def overrun_case(name: str, error: str, to_end: bool = False) -> dict[str, list[str]]:
+    """Returns the case of the error for a part that does not fill its size, or the bytes to the end."""
+    why = f"`{name}` does not fill the bytes {'to the end' if to_end else 'that its size states'}."
     return {error: [f"    /// {why}", f'    #[error("{shown(why)}")]', f"    {error},"]}
 
 
@@ -247,7 +247,8 @@ def read(f: Format, line: Line) -> str:
         case m.Choose():
             if kind.sized:
                 selects = selecting(f, kind)
-                return f"read_{'stated_' * bool(line.units)}{kind.name}(reader, alloc, {selects}, {bytes_read(line)})"
+                size = rest_bytes(f, kind.name) if kind.to_end else bytes_read(line)
+                return f"read_{'stated_' * bool(line.units)}{kind.name}(reader, alloc, {selects}, {size})"
             return f"{kind.type}::read(reader{', alloc' * m.allocates(kind)}, {selecting(f, kind)})"
         case m.Part():
             return f"{kind.use.name}::read(reader{', alloc' * m.allocating(kind.use)})"

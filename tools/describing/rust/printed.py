@@ -56,7 +56,7 @@ def declares(f: Format, line: Line) -> list[str]:
         out += part_error(f, it, it.use) if it.use else []
     if isinstance(kind, m.Choose):
         out += choice_code(f, line, kind, number_type(f, kind))
-        out += to_impl(kind.type, f"{snake(kind.type)}_writes") if kind.sized else []
+        out += to_impl(kind.type, f"{snake(kind.type)}_writes") if line.size else []
     if isinstance(kind, m.Fill):
         out += [*refused_memory(f, line), *write_items(kind), *(count_code(kind) if line.size else [])]
     if line.measured:

@@ -78,10 +78,10 @@ def choice_of(f: Format, kind: m.Choose, size: str, of: Of) -> str:
     return f"(chosen {f'({s}_choice {size})' if by_size(kind) else f'{s}_choice'} {selected(f, kind, of)})"
 
 
-def choice_facts(f: Format, kind: m.Choose) -> str:
-    """Returns what must fit of a choice: the case, and that it has the number."""
+def choice_facts(f: Format, kind: m.Choose, size: str = REFL) -> str:
+    """Returns what must fit of a choice: the case, of a number of bytes by the term `size`, and that it has the number."""
     number = REFL if tag_of(f, kind) else f"fits.{kind.name}_tag"
-    case = f"(fits.{kind.name}, {REFL})" if by_size(kind) else f"fits.{kind.name}"
+    case = f"(fits.{kind.name}, {size})" if by_size(kind) else f"fits.{kind.name}"
     return f"({case}, {number})"
 
 
@@ -227,7 +227,8 @@ def measured_facts(f: Format, line: Line, kind: m.Measured) -> list[str]:
     if not size:
         bits = f"λ (k : ℕ). {measured_bits(kind, f's.{name}')} ≡ 8 * k"
         left = "(let sum = fits.1 in omega (arith, sum))" if f.before_rest else "fits.1"
-        return [f"fits.{name}", f"subst ({bits}) {left} (fits.{name}_whole High)"]
+        fact = f"subst ({bits}) {left} (fits.{name}_whole High)"
+        return [choice_facts(f, kind, left) if isinstance(kind, m.Choose) else f"fits.{name}", fact]
     if is_octets(kind):
         same = REFL
         if size.units and not kind_error(kind):

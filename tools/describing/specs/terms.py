@@ -338,7 +338,8 @@ def entry(f: Format, line: Line) -> str:
             return f"{measured_read(line)} o {f'{kind.name}_bytes' if line.size else rest_left(f, kind.name)}"
         case m.Choose():
             read = measured_read(line) if kind.sized else f"{snake(kind.type)}_read"
-            return f"{read} o {selected(f, kind)}" + f" {kind.name}_bytes" * kind.sized
+            size = rest_left(f, kind.name) if kind.to_end else f"{kind.name}_bytes"
+            return f"{read} o {selected(f, kind)}" + f" {size}" * kind.sized
         case m.Part():
             return here(f, line)
         case m.Optional() | m.If():

@@ -59,7 +59,7 @@ def choice_values(f: Format, line: Line) -> list[str]:
     """Returns the laws of a line with a choice, or with items that fill a size."""
     kind = line.kind
     if isinstance(kind, m.Choose):
-        written = measured.written_value(f, kind) if by_size(kind) else []
+        written = measured.written_value(f, kind) if by_size(kind) and not kind.to_end else []
         return measured.choice_value(f, line, kind) + written
     if isinstance(kind, m.Sized) and line.use and is_open(line.use):
         return measured.written_part(kind, line.use)
