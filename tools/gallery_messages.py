@@ -5,7 +5,7 @@ import struct
 from random import Random
 from typing import Any
 
-from protocol_messages import RAW_IP, Message, Values, case_of, options, summed, to_port
+from protocol_messages import RAW_IP, Message, Values, case_of, summed, to_port
 from protocols import Made
 
 Json = Any
@@ -86,6 +86,16 @@ def igmp_query(r: Random) -> Made:
     return igmp(head + struct.pack(">H", len(sources) // 4) + sources)
 
 
+def options(r: Random) -> bytes:
+    """The options of an IPv6 packet, and padding to a length of 6 more than a multiple of 8.
+
+    The last one is no single byte, since tshark does not show one.
+    """
+    found = b"".join(r.choice((b"\0", b"\5\2" + r.randbytes(2), b"\1\3\0\0\0")) for _ in range(r.randrange(3)))
+    missing = (4 - len(found)) % 8
+    return found + bytes([1, missing]) + bytes(missing)
+
+
 def ipv6_headers(r: Random) -> Made:
     """An IPv6 packet with some of its headers in the recommended order, after which nothing follows."""
     kinds = [it for it in (0, 60, 43, 44) if r.getrandbits(1)]
@@ -114,6 +124,12 @@ def rtp(r: Random) -> Made:
         words = r.randrange(5)
         head += struct.pack(">2H", r.randrange(0x1100, 0xBEDE), words) + r.randbytes(4 * words)
     return Made(head, r.randbytes(8))
+
+
+def rtp_datagram(r: Random) -> Made:
+    """An RTP packet with its payload."""
+    made = rtp(r)
+    return Made(made.header + r.randbytes(r.randrange(1, 40)))
 
 
 def ccsds(r: Random) -> Made:
@@ -322,10 +338,9 @@ def ipv6_headers_values(record: Json) -> Values:
     return values
 
 
-def rtp_values(record: Json) -> Values:
-    """The header of an RTP packet."""
-    extension = record["extension"]
-    values: Values = {"rtp.ext": [int(extension is not None)], "rtp.cc": [len(record["csrc"])]}
+def rtp_head(record: Json, sources: list[int | str]) -> Values:
+    """The fields of each RTP packet."""
+    values: Values = {"rtp.cc": [len(sources)], "rtp.csrc.item": sources}
     for name, field in (
         ("padding", "padding"),
         ("marker", "marker"),
@@ -335,12 +350,34 @@ def rtp_values(record: Json) -> Values:
         ("ssrc", "ssrc"),
     ):
         values[f"rtp.{name}"] = [int(record[field])]
-    values["rtp.csrc.item"] = list(record["csrc"])
+    return values
+
+
+def words(data: str) -> list[int | str]:
+    """Returns bytes as numbers of 32 bits."""
+    return [int(data[k : k + 8], 16) for k in range(0, len(data), 8)]
+
+
+def rtp_datagram_values(record: Json) -> Values:
+    """An RTP packet with its payload."""
+    case, body = case_of(record["body"])
+    data = body.get("data", "")
+    values = rtp_head(record, words(record["csrc"]))
+    values["rtp.ext"] = [int(case == "Extended")]
+    values["rtp.ext.profile"] = [body["profile"]] if case == "Extended" else []
+    values["rtp.ext.len"] = [len(data) // 8] if case == "Extended" else []
+    return values | {"rtp.hdr_ext": words(data), "rtp.payload": [body["payload"]]}
+
+
+def rtp_values(record: Json) -> Values:
+    """The header of an RTP packet."""
+    extension = record["extension"]
+    values = rtp_head(record, list(record["csrc"]))
+    values["rtp.ext"] = [int(extension is not None)]
     data = extension["data"] if extension else ""
     values["rtp.ext.profile"] = [extension["profile"]] if extension else []
     values["rtp.ext.len"] = [len(data) // 8] if extension else []
-    values["rtp.hdr_ext"] = [int(data[k : k + 8], 16) for k in range(0, len(data), 8)]
-    return values
+    return values | {"rtp.hdr_ext": words(data)}
 
 
 def ccsds_values(record: Json) -> Values:
@@ -407,5 +444,6 @@ GALLERY = {
     "ipv6_headers": Message("ipv6", ipv6_headers, ipv6_headers_values),
     "ccsds_packet": Message("ccsds", ccsds, ccsds_values),
     "rtp_packet": Message("rtp", rtp, rtp_values),
+    "rtp_datagram": Message("rtp", rtp_datagram, rtp_datagram_values),
     "gif_file": Message("image-gif", gif, gif_values),
 }

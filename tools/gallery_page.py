@@ -20,7 +20,7 @@ How far protocols in use are described, and what of it is proved. `.ci/gallery` 
 
 *Whole* means that all that the first column names is described; the last column has what the protocol lacks beyond that, or what is missing of it.
 
-*Compared* is the number of fields of 1,000 random records of each description for which TShark 4.0 (of AV1: ffmpeg 5.1) shows what `./format --show` prints, by `tools/test_protocols 1000`. No field differs. TShark reads no ADS-B, GPS subframes or ADTS; [FORMATS.md](../FORMATS.md) has what was compared of ADTS and FLAC.
+*Compared* is the number of fields of 1,000 random records of each description for which TShark 4.0 (of AV1: ffmpeg 5.1) shows what `./format --show` prints, by `tools/test_protocols 1000`. No field differs. TShark reads no ADS-B, GPS subframes, ADTS or WAV, which `tools/test_show` compares with ffprobe; [FORMATS.md](../FORMATS.md) has what was compared of ADTS and FLAC.
 """
 ORDER = ("in the gate", "once", "printed", "shown")
 
@@ -44,10 +44,10 @@ FIELDS = {
     13840, "ipv4_packet": 8000, "ipv6_header": 8000, "ipv6_headers": 11705, "j1939_frame": 6000, "lldp_unit": 12490,
     "mac_header": 10751, "modbus_exception": 4000, "modbus_request": 6617, "modbus_response": 7247, "mp3_header":
     12000, "mpls_stack": 11872, "mqtt_header": 2234, "mqtt_packet": 4605, "netflow_export": 288288, "ntp_message":
-    6000, "ntp_packet": 13000, "png_file": 12608, "quic_long_header": 4627, "quic_packet": 4432, "radius_packet":
-    9936, "rip_message": 28742, "rtcp_compound": 25628, "rtp_packet":
-    17152, "tcp_header": 16000, "tcp_segment": 6255, "tftp_data": 3000, "tftp_request": 3000, "tls_record": 3509,
-    "ts_header": 7000, "ts_pat": 47458, "udp_datagram": 5000, "vrrp_advertisement": 8517,
+    6000, "ntp_packet": 13000, "pcap_file": 9748, "png_file": 12608, "quic_long_header": 4627, "quic_packet": 4432,
+    "radius_packet": 9936, "rip_message": 28742, "rtcp_compound": 25628, "rtp_datagram": 18723, "rtp_packet": 17152,
+    "tcp_header": 16000, "tcp_segment": 6255, "tftp_data": 3000, "tftp_request": 3000, "tls_record": 3509,
+    "ts_header": 7000, "ts_pat": 47458, "udp_datagram": 5000, "vrrp_advertisement": 8517, "vxlan_packet": 5000,
 }  # fmt: skip
 # The protocols that the gallery was asked for.
 WANTED = (
@@ -75,7 +75,12 @@ WANTED = (
         "what a pointer refers to: a place to go back to",
     ),
     Protocol("NTP", "ntp_packet messages/ntp_message", True),
-    Protocol("RTP", "rtp_packet", False, "the payload: a `rest` after lists of numbers"),
+    Protocol(
+        "RTP",
+        "rtp_packet messages/rtp_datagram",
+        True,
+        "padding apart from the payload: the last byte states its size",
+    ),
     Protocol(
         "RTCP",
         "rtcp_compound",
@@ -116,7 +121,7 @@ WANTED = (
     Protocol("MP3 frame headers", "mp3_header", True),
     Protocol("ADTS", "adts_header", True),
     Protocol("FLAC metadata blocks", "flac_metadata", True),
-    Protocol("WAV", "wav_file messages/wav_chunks", False, "a byte of padding after a chunk of an odd size"),
+    Protocol("WAV", "wav_file messages/wav_chunks", True),
     Protocol("GIF", "gif_comment gif_file", True),
     Protocol("PNG chunks with CRC", "png_file", True),
     Protocol(
@@ -151,6 +156,7 @@ OTHERS = (
     Protocol("VRRP, version 2", "messages/vrrp_advertisement", True),
     Protocol("RIP, version 2", "messages/rip_message", True),
     Protocol("pcap files", "messages/pcap_file", True),
+    Protocol("VXLAN", "messages/vxlan_packet", True),
 )
 
 
