@@ -469,9 +469,12 @@ def verify(check: m.Check, nodes: list[Node], description: m.Description) -> Non
         found = checksum_of(check, description, values)
     except Unfit as it:
         raise ReadError(check.error, stored.start, why=str(it)) from None
-    what = f"number is {found}" if isinstance(check, m.Computed) else f"{check.sum} is {found:#x}"
-    if stored.value != found:
-        raise ReadError(check.error, stored.start, why=f"The {what}.")
+    if stored.value == found:
+        return
+    if isinstance(check, m.Computed):
+        why = f"{check.doc} The number is {stored.value}, and {found} is right."
+        raise ReadError(check.error, stored.start, check.name, why)
+    raise ReadError(check.error, stored.start, why=f"The {check.sum} is {found:#x}.")
 
 
 def given_node(kind: m.Given, given: Mapping[str, Value], row: Input) -> Node:
