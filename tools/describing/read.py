@@ -472,7 +472,7 @@ def verify(check: m.Check, nodes: list[Node], description: m.Description) -> Non
     if stored.value == found:
         return
     if isinstance(check, m.Computed):
-        why = f"{check.doc} The number is {stored.value}, and {found} is right."
+        why = f"{check.doc} The number is {number_in(stored.value)}, and {found} is right."
         raise ReadError(check.error, stored.start, check.name, why)
     raise ReadError(check.error, stored.start, why=f"The {check.sum} is {found:#x}.")
 
