@@ -20,7 +20,7 @@
 //! - [`ogg`]: Ogg: pages and packets, and the first byte of a packet of Opus
 //! - [`riff_chunk`] and [`wav_format`]: parts of WAV files, printed by `./format`
 //! - [`ts`]: MPEG transport streams: packets, the tables of programs, and the headers of PES packets
-//! - [`wav`]: WAV: the format of the samples, and their bytes
+//! - [`wav`]: WAV: the format of the samples, and the bytes before them
 #![tactic(auto)]
 
 pub mod adts;

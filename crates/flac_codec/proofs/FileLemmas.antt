@@ -210,14 +210,17 @@ module _ (info : StreamInfo) (packed : List ℕ) (fits : Fits info) (is : bits H
   info-found true more = rw (marker true more) (after-ok _ (block true more) (after-ok _ (sym (info-back more)) refl))
   info-found false more = rw (marker false more) (after-ok _ (block false more) (after-ok _ (sym (info-back more)) refl))
 
-  pub metadata-found : IsMetadata info (start_of true ++ packed)
-  metadata-found =
+  pub metadata-found : (last : Bool) → IsMetadata info last (start_of last ++ packed)
+  metadata-found true =
       let long : length (start_of true ++ packed) ≡ 42 = let short = size in omega (arith, short) in
       (long, λ more. sym (info-found true more))
+  metadata-found false =
+      let long : length (start_of false ++ packed) ≡ 42 = let short = size in omega (arith, short) in
+      (long, λ more. sym (info-found false more))
 
 -- ---- a file that was encoded: its frames
 
-same_either : {A : Type 0} (b : Bool) (x : A) → (if b then x else x) ≡ x
+pub same_either : {A : Type 0} (b : Bool) (x : A) → (if b then x else x) ≡ x
 same_either b x = elim b as (λ v. (if v then x else x) ≡ x) [ true ↦ refl | false ↦ refl ]
 
 count-same : (info : StreamInfo) (channels : List (List ℤ)) → info.total_samples ≡ sample_count channels
@@ -225,7 +228,7 @@ count-same : (info : StreamInfo) (channels : List (List ℤ)) → info.total_sam
 count-same info channels is =
     rw (eq-eqb (sample_count channels) info.total_samples (sym is)) (sym (same_either (info.total_samples == 0) (Ok tt)))
 
-pub file-found : (info : StreamInfo) (start frames : List ℕ) (channels : List (List ℤ)) → IsMetadata info start
+pub file-found : (info : StreamInfo) (start frames : List ℕ) (channels : List (List ℤ)) → IsMetadata info true start
     → channels_at info frames ≡ Ok channels → info.total_samples ≡ sample_count channels
     → file_at (start ++ frames) ≡ Ok (file_header info, channels)
 file-found info start frames channels metadata found count =
@@ -353,7 +356,7 @@ take_nil : {A : Type 0} (n : ℕ) → take {A = A} n [] ≡ []
 take_nil zero = refl
 take_nil (suc n) = refl
 
-take-sum : {A : Type 0} (m n : ℕ) (xs : List A) → take (m + n) xs ≡ take m xs ++ take n (drop m xs)
+pub take-sum : {A : Type 0} (m n : ℕ) (xs : List A) → take (m + n) xs ≡ take m xs ++ take n (drop m xs)
 take-sum zero n xs = ap (λ k. take k xs) (zero-add n)
 take-sum (suc m) n [] = take_nil (suc m + n) ∙ sym (take_nil n)
 take-sum (suc m) n (x ∷ xs) =

@@ -7,6 +7,7 @@ mod StreamInfoRows
 pub mod ChannelLemmas
 pub mod ChecksumLemmas
 pub mod CodedLemmas
+pub mod EncodingLemmas
 pub mod FileLemmas
 pub mod FoundLemmas
 pub mod HeaderLemmas

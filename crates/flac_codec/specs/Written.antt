@@ -19,9 +19,9 @@ WritesPart K decoder value old result new =
     MatchResult result (λ _. WritesValue K decoder value old (Ok tt) new)
     (λ error. MakesCalls K old (Err error) new ⊎ (error ≡ OutOfMemory))
 
--- bytes of a file up to its frames: STREAMINFO is the only block of metadata
-abbrev pub IsMetadata : StreamInfo → List ℕ → Type 0
-IsMetadata info bytes = (length bytes ≡ 42) × ((more : List ℕ) → info_at (bytes ++ more) ≡ Ok (info, true))
+-- the first bytes of a file: the marker, and STREAMINFO, which is the last block of metadata or not
+abbrev pub IsMetadata : StreamInfo → Bool → List ℕ → Type 0
+IsMetadata info last bytes = (length bytes ≡ 42) × ((more : List ℕ) → info_at (bytes ++ more) ≡ Ok (info, last))
 
 -- bytes of a frame with these channels, in each file whose samples have `sample_size` bits in `count` channels
 abbrev pub IsBlock : ℕ → ℕ → List ℕ → List (List ℤ) → Type 0

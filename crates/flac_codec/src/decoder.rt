@@ -79,13 +79,6 @@ impl<R: Read> Decoder<R> {
         &self.info
     }
 
-    /// Returns the number of samples of a channel that were decoded, up to 2^64 - 1.
-    pub fn samples_done(&self) -> u64
-        ensures { result ≡ self.now.samples }
-    {
-        self.samples
-    }
-
     /// Returns the bytes that were fetched after the last frame that was decoded.
     pub fn bytes(&self) -> &[u8] {
         self.input.bytes()

@@ -6,7 +6,7 @@ ghost use Rattle.bitstream_io.specs.Callers.{FitsSignedBits, OutOfMemory};
 ghost use Rattle.flac_codec.specs.Encodable.{count_of, IsFile, IsFormat};
 ghost use Rattle.flac_codec.specs.File.{channels_at, file_at, file_header};
 ghost use Rattle.flac_codec.specs.StreamInfo.{Fits};
-ghost use Rattle.flac_codec.specs.Written.{IsBlock, IsMetadata};
+ghost use Rattle.flac_codec.specs.Written.{IsBlock};
 ghost use Rattle.flac_codec.specs.declared.error.FlacError.TheVariants.{Reader};
 ghost use Rattle.flac_codec.specs.declared.stream_info.StreamInfo.{StreamInfo};
 
@@ -15,6 +15,7 @@ use crate::file::{File, FileHeader, decode_file, sample_count};
 use crate::fits::bytes_fit;
 use crate::framing::encode_frame;
 use crate::header::FrameHeader;
+use crate::starting::encode_info;
 use crate::stereo::best_channels;
 use crate::stream_info::StreamInfo;
 use bitstream_io::Error;
@@ -39,7 +40,7 @@ pub fn encode_file(
         (λ error. error ≡ OutOfMemory) }
 {
     let info = stream_info_of(header, block_size, channels);
-    let mut bytes = encode_metadata(alloc, &info)?;
+    let mut bytes = encode_info(alloc, &info, true)?;
     let frames = encode_blocks(alloc, header.sample_size, block_size, channels)?;
     bytes.extend_from_slice(frames.as_slice())?;
     Ok(bytes)
@@ -98,19 +99,6 @@ fn non_zero(number: u8) -> NonZero<u8>
         Some(found) => found,
         None => NonZero::<u8>::MIN,
     }
-}
-
-/// Returns the marker, and STREAMINFO as the only block of metadata.
-fn encode_metadata(alloc: Global, info: &StreamInfo) -> Result<Vec<u8>, Error>
-    requires { Fits info.now }
-    ensures { MatchResult result (λ bytes. IsMetadata info.now bytes.items) (λ error. error ≡ OutOfMemory) }
-{
-    let mut bytes = Vec::new(alloc);
-    bytes.extend_from_slice(b"fLaC\x80\x00\x00\x22")?;
-    let mut buffer = [0; 34];
-    let packed = info.pack_into(&mut buffer)?;
-    bytes.extend_from_slice(packed.as_slice())?;
-    Ok(bytes)
 }
 
 /// Returns frames of all samples.

@@ -45,6 +45,11 @@ pub(crate) fn bytes_fit(bytes: &[u8])
     ensures { All (λ byte. byte < 2 ^ 8) bytes.now }
 {}
 
+/// A number of 16 bits is below 2^16.
+pub(crate) fn size_fits(size: u16)
+    ensures { size < 2 ^ 16 }
+{}
+
 /// Returns the number of channels of a coding.
 pub(crate) fn channel_count(channels: Channels) -> u8
     ensures { result ≡ channel_count channels }

@@ -1,5 +1,5 @@
 //! The metadata of a file (section 8): blocks, of which the first is STREAMINFO.
-ghost use Rattle.std.specs.Prelude.{◌≡◌, ◌≤◌, length, true, IfOk};
+ghost use Rattle.std.specs.Prelude.{◌≡◌, ◌+◌, ◌%◌, ◌^◌, ◌<◌, ◌≤◌, ◌++◌, ℕ, List, length, nat_le, true, IfOk};
 ghost use Rattle.bitstream_io.specs.Callers.{result_map};
 ghost use Rattle.flac_codec.specs.File.{has_marker, info_at, is_stream_info, metadata_at, metadata_end, metadata_head};
 
@@ -16,6 +16,36 @@ pub struct Metadata {
     pub kind: u8,
     /// The number of bytes, with the 4 bytes of the header.
     pub size: usize,
+}
+
+impl Metadata {
+    /// Returns the 4 bytes of the header.
+    pub fn to_bytes(&self) -> [u8; 4]
+        requires kind { self.now.kind < 128 }
+        requires some { 4 ≤ self.now.size }
+        requires few { self.now.size < 4 + 2 ^ 24 }
+        // The header is read from them, whatever bytes follow.
+        ensures back { (more : List ℕ) → metadata_head (result ++ more) ≡ self.now }
+        ensures size { length result ≡ 4 }
+    {
+        let first = first_byte(self.last, self.kind);
+        let size = self.size - 4;
+        [
+            first,
+            (size / 65536) as u8,
+            (size / 256 % 256) as u8,
+            (size % 256) as u8,
+        ]
+    }
+}
+
+/// Returns the first byte of the header of a block.
+fn first_byte(last: bool, kind: u8) -> u8
+    requires { kind < 128 }
+    ensures last { nat_le 128 result ≡ last }
+    ensures kind { result % 128 ≡ kind }
+{
+    if last { 128 + kind } else { kind }
 }
 
 // STREAMINFO of a file.

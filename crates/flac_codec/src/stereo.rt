@@ -5,6 +5,31 @@ ghost use Rattle.flac_codec.specs.Header.{IsChannels};
 
 use crate::header::Channels;
 
+/// The ways in which the coding of two channels is chosen for a frame.
+#[derive(Clone, Copy, Debug, PartialEq, Eq)]
+pub enum Stereo {
+    /// Each channel is coded by itself.
+    Apart,
+    /// The coding that seems shortest.
+    Estimated,
+    /// The shortest one of the four codings.
+    Tried,
+}
+
+/// Returns a coding of `count` channels: by themselves for `Apart`, and else the one that seems shortest.
+pub(crate) fn coding_of(stereo: Stereo, count: u8, block: &[Vec<i64>]) -> Channels
+    requires one { 1 ≤ count }
+    requires eight { count ≤ 8 }
+    ensures valid { IsChannels result }
+    ensures count { channel_count result ≡ count }
+{
+    if stereo == Stereo::Apart {
+        Channels::Independent(count)
+    } else {
+        best_channels(count, block)
+    }
+}
+
 /// Returns the coding of `count` channels, one to eight, with which a block of their samples seems shortest.
 pub fn best_channels(count: u8, block: &[Vec<i64>]) -> Channels
     requires one { 1 ≤ count }
