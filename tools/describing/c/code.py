@@ -5,7 +5,7 @@ import re
 from typing import assert_never
 
 from describing import model as m
-from describing.c import choices, cross, decided, lists, optional, part_lists, varying
+from describing.c import choices, cross, decided, fills, lists, optional, part_lists, varying
 from describing.c.cross import Crossed, Listed, Member, base, enums, fields, is_narrow, is_partial, members, parts
 from describing.c.imports import ghost_uses
 from describing.c.status import DOES_NOT_FIT, END_OF_INPUT, NO_ROOM, own
@@ -21,7 +21,7 @@ EXPORT = "#[unsafe(no_mangle)]"
 def code(t: Target) -> str:
     """Returns the text of the module."""
     f = t.f
-    body = [*struct_code(f), *parsed_code(f), *conversions(f), *helpers(f), *fit_code(f)]
+    body = [*struct_code(f), *parsed_code(f), *conversions(f), *helpers(f), *fills.tests_code(f), *fit_code(f)]
     if cross.lists(f.description):
         body += lists_code(f)
     elif f.sized:
@@ -150,7 +150,7 @@ def from_c(kind: Crossed) -> str:
             return optional.from_c(kind)
         case m.Choose():
             return choices.from_c(kind)
-        case m.List(item=m.Use() as use):
+        case m.List(item=m.Use() as use) | m.Fill(use=use):
             return f"{use.module}_items({kind.name}_items)"
         case m.List(item=m.EnumType() as enum):
             return f"{m.snake(enum.name)}_items({kind.name}_items)"
@@ -337,7 +337,7 @@ def tests(f: Format, kind: Crossed) -> list[str]:
             return optional.tests(f, kind)
         case m.Choose():
             return choices.tests(f, kind)
-        case m.List() | m.Sized():
+        case m.List() | m.Sized() | m.Fill():
             return lists.tests(f, kind)
     assert_never(kind)
 
@@ -345,6 +345,7 @@ def tests(f: Format, kind: Crossed) -> list[str]:
 def fit_code(f: Format) -> list[str]:
     """Returns the function that tests whether all fields fit their bits."""
     firsts = {f"{it.use.module}_fits(&value.{it.name})": f"{it.name}_fit" for it in optional.listed(f)}
+    firsts |= fills.firsts(f)
     found = [test for it in fields(f.description) for test in tests(f, it) if test not in firsts] or ["true"]
     body = ["    " + "\n        && ".join(found)]
     if firsts:

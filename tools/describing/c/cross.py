@@ -11,9 +11,9 @@ from describing.rust.calls import integer_range
 
 Crossed: TypeAlias = (
     m.Bool | m.Number | m.NonZero | m.MaybeNonZero | m.Enum | m.Array | m.Groups | m.Golomb | m.Varint | m.Part
-    | m.Optional | m.If | m.List | m.Sized | m.Choose
+    | m.Optional | m.If | m.List | m.Sized | m.Fill | m.Choose
 )  # fmt: skip
-Listed: TypeAlias = m.List | m.Sized  # items in storage of the caller
+Listed: TypeAlias = m.List | m.Sized | m.Fill  # items in storage of the caller
 
 # The most bytes of a format whose size varies: `pack` holds them on the stack.
 MOST_BYTES = 4096
@@ -21,7 +21,6 @@ MOST_BYTES = 4096
 # Why a field of another kind does not cross to C.
 OTHERS = {
     m.UpToLast: "ends at its last part, which does not cross to C yet",
-    m.Fill: "has as many parts as fill a size, which does not cross to C yet",
     m.Rest: "reads to the end of the bytes, which does not cross to C yet",
     m.Until: "has items up to a last one, which does not cross to C yet",
     m.Blocks: "has bytes in blocks, which does not cross to C yet",
@@ -67,12 +66,16 @@ def check(description: m.Description) -> None:
     for it in description.kinds:
         if isinstance(it, m.Check):
             raise Refused("a checksum does not cross to C yet", it.at)
-        if isinstance(it, m.Size) and it.groups:
-            raise Refused("a size in groups does not cross to C yet", it.at)
+        if isinstance(it, m.Pad):
+            raise Refused("zeros up to a multiple of bits do not cross to C yet", it.at)
+        if isinstance(it, m.Size) and (it.groups or m.is_limited(it)):
+            raise Refused("a size in groups, or with a greatest value, does not cross to C yet", it.at)
     for kind in description.fields:
         if not crosses(kind):
             raise Refused(f"`{kind.name}` {OTHERS[type(kind)]}", kind.at)
         check_field(kind)
+        if isinstance(kind, m.Fill):
+            check_fill(description, kind)
     check_types(description)
     names = [it.name for it in members(description)]
     if lists(description) and len(description.kinds) > LONG:
@@ -115,16 +118,33 @@ def check_field(kind: Crossed) -> None:
         raise Refused(f"`{kind.name}` is a part with a size, which does not cross to C yet", kind.at)
     if isinstance(kind, m.List) and kind.power:
         raise Refused(f"`{kind.name}` is a list of a power of two items, which does not cross to C yet", kind.at)
+    if isinstance(kind, m.List) and kind.count and (kind.less or kind.count.golomb):
+        raise Refused(f"`{kind.name}` has a count by `ue` or `less`, which does not cross to C yet", kind.at)
     for use in m.uses(kind):
         try:
             check(use.description)
         except Refused as why:
             raise Refused(f"`{use.module}`: {why}", kind.at) from None
         for holds, what in ((m.allocating(use), "a list"), (bool(choices(use.description)), "a choice")):
-            if holds and isinstance(kind, m.List):
+            if holds and isinstance(kind, m.List | m.Fill):
                 raise Refused(f"`{kind.name}` has parts with {what}, which do not cross to C yet", kind.at)
             if holds:
                 raise Refused(f"`{kind.name}` is a part with {what}, which does not cross to C yet", kind.at)
+
+
+def check_fill(description: m.Description, kind: m.Fill) -> None:
+    """Refuses parts that fill a size in units or next to a list other than bytes, or whose number of bits varies."""
+    line, others = counted(description, kind), [it for it in lists(description) if it is not kind]
+    if not all(isinstance(it.item, m.Octet) for it in others):
+        raise Refused(
+            f"`{kind.name}` fills a size next to a list other than bytes, which does not cross to C yet", kind.at
+        )
+    if isinstance(line, m.Size) and line.units:
+        raise Refused(f"`{kind.name}` fills a size in units, which does not cross to C yet", kind.at)
+    if kind.use.description.bits is None:
+        raise Refused(
+            f"`{kind.name}` has parts of several sizes that fill a size, which do not cross to C yet", kind.at
+        )
 
 
 def listed_enums(description: m.Description) -> list[m.EnumType]:
@@ -135,7 +155,7 @@ def listed_enums(description: m.Description) -> list[m.EnumType]:
 
 def is_mapped(kind: m.Kind) -> bool:
     """Returns true for a list of parts or of an enum, of whose items C has something else."""
-    return isinstance(kind, m.List) and isinstance(kind.item, m.Use | m.EnumType)
+    return isinstance(kind, m.Fill) or isinstance(kind, m.List) and isinstance(kind.item, m.Use | m.EnumType)
 
 
 def spec_item(kind: Listed) -> str:
@@ -147,7 +167,7 @@ def spec_item(kind: Listed) -> str:
 
 def is_listed(kind: m.Kind) -> TypeGuard[Listed]:
     """Returns true for a field whose items are in storage of the caller."""
-    return isinstance(kind, m.List | m.Sized)
+    return isinstance(kind, m.List | m.Sized | m.Fill)
 
 
 def counted(description: m.Description, kind: Listed) -> m.Count | m.Size:
@@ -163,7 +183,9 @@ def target(description: m.Description, line: m.Count | m.Size) -> m.Kind:
 def most_items(description: m.Description, kind: Listed) -> int:
     """Returns the greatest number of items of a list."""
     line = counted(description, kind)
-    return line.most if isinstance(line, m.Size) else most_counted(line)
+    if isinstance(line, m.Count):
+        return most_counted(line)
+    return line.most // (item_width(kind) // 8) if isinstance(kind, m.Fill) else line.most
 
 
 def most_counted(line: m.Count) -> int:
@@ -199,8 +221,17 @@ def most_of(description: m.Description, kind: m.Kind) -> int:
             return 64
         case m.List() | m.Sized():
             return most_items(description, kind) * item_width(kind)
+        case m.Fill():
+            return most_size(description, kind)
     wide = [most(use.description) for use in m.uses(kind)]
     return max([0, *wide]) if isinstance(kind, m.Choose) else sum(wide)
+
+
+def most_size(description: m.Description, kind: m.Fill) -> int:
+    """Returns a number of bits that parts whose size in bytes fits do not exceed."""
+    line = counted(description, kind)
+    assert isinstance(line, m.Size)
+    return 8 * line.most + 7
 
 
 def lists(description: m.Description) -> list[Listed]:
@@ -243,7 +274,7 @@ def members_of(description: m.Description, kind: Crossed) -> list[Member]:
             return [there, Member(kind.name, base(kind), comment(kind), kind.use.module)]
         case m.Array():
             return [Member(kind.name, base(kind), comment(kind), count=kind.count)]
-        case m.List() | m.Sized():
+        case m.List() | m.Sized() | m.Fill():
             said, module = list_comment(description, kind), kind.item.module if isinstance(kind.item, m.Use) else ""
             return [Member(kind.name, "usize", said, item=base(kind), of=module)]
         case m.Choose():
@@ -275,7 +306,7 @@ def base(kind: Crossed) -> str:
             return kind.integer.base
         case m.Enum():
             return f"u{enum_bits(kind.enum)}"
-        case m.Array() | m.List() | m.Sized():
+        case m.Array() | m.List() | m.Sized() | m.Fill():
             if isinstance(kind.item, m.Use):
                 return f"{kind.item.name}C"
             if isinstance(kind.item, m.EnumType):
@@ -295,7 +326,7 @@ def is_partial(kind: Crossed) -> bool:
     match kind:
         case m.Enum():
             return bool(kind.enum.error) or is_narrow(kind.enum)
-        case m.List() | m.Sized():
+        case m.List() | m.Sized() | m.Fill():
             return is_mapped(kind)
     return isinstance(kind, m.NonZero | m.Part | m.Optional | m.If | m.Choose)
 
@@ -345,6 +376,8 @@ def comment(kind: Crossed) -> str:
 def list_comment(description: m.Description, kind: Listed) -> str:
     """Returns the comment of a list, with its range."""
     line = counted(description, kind)
+    if isinstance(kind, m.Fill):
+        return f"{comment(kind)} At most {most_items(description, kind)}."
     if isinstance(line, m.Size):
         return f"{comment(kind)} {size_limits(line)}."
     said = integer_range(kind.item) if isinstance(kind.item, m.Integer) else ""

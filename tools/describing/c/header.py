@@ -3,7 +3,7 @@ from __future__ import annotations
 
 from describing import model as m
 from describing.c.cross import Member, choice_members, choices, enums, layout, lists, members, parts
-from describing.c.status import numbers, own, rooms, statuses
+from describing.c.status import numbers, own, rooms, statuses, unless_refused
 from describing.c.target import Target
 from describing.c.words import c_comment, c_name, drawn, in_comment, paragraph, quoted
 from describing.model import snake
@@ -164,7 +164,7 @@ def parse_comment(t: Target) -> str:
     refusals = [*own(f), *numbers(f)]
     own_errors = "".join(f"{up}_{it.name} if {it.short}; " for it in refusals)
     in_order = "the first in the order of the bits: " if own_errors else ""
-    here = ", if nothing in them is refused" if own_errors else ""
+    here = unless_refused(f) if own_errors else ""
     few = f"for fewer than {f.bytes} bytes" if f.sized else "if the bytes end before the fields do"
     taken = "" if f.sized else ", sets `*taken` to the number of bytes that they take unless `taken` is null"
     after = "" if f.sized else ", and `*taken` is 0"

@@ -39,6 +39,7 @@ def own_names(t: Target) -> Table:
         f"Rattle.{t.crate}.specs.Varied": "IsDecided reader_status",
         f"Rattle.{t.crate}.specs.Lists": "ReadsInto ReadsStated ItemsKept stored",
         f"Rattle.{t.crate}.specs.Parts": "ItemsInto PartsInto PartsKept ItemFits all_made",
+        f"Rattle.{t.crate}.specs.Fills": "FillsInto PartsFilled",
         f"{base}.{f.m}.{f.type}Given": f"{f.type}Given",
         f"Rattle.{t.crate}.specs.Shared": "PacksInto",
         f"{base}.{f.m}.{f.type}C": f"{f.type}C",

@@ -4,7 +4,7 @@ from __future__ import annotations
 import re
 
 from describing import model as m
-from describing.c import cross, part_lists, part_proofs, varying
+from describing.c import cross, fill_proofs, part_lists, part_proofs, varying
 from describing.c.cross import Listed, base, is_mapped, is_stated, lists, spec_item
 from describing.c.imports import answer_uses
 from describing.c.lists import count_name, decoder, given, parse_answers
@@ -44,7 +44,7 @@ class Reads(Answers):
 
 def label(f: Format, kind: Listed) -> str:
     """Returns the name of the call that reads a list."""
-    return count_name(f, kind) if is_stated(kind) else f"read_{kind.name}"
+    return count_name(f, kind) if is_stated(kind) or isinstance(kind, m.Fill) else f"read_{kind.name}"
 
 
 def read_answers(f: Format) -> str:
@@ -56,7 +56,7 @@ def read_answers(f: Format) -> str:
         known = (f"c.{steps.next('number')}.ensures",) if asks else ()
         named = calls.read_label(it)
         if cross.is_listed(it.kind):
-            own = is_stated(it.kind) or is_mapped(it.kind) and it.own
+            own = is_stated(it.kind) or isinstance(it.kind, m.Fill) or is_mapped(it.kind) and it.own
             form, fact, named = "part" if own else "read", "reads", label(f, it.kind)
             known = (
                 (f"c.size_in_units-{count_name(f, it.kind)}.ensures",) if it.units and not is_stated(it.kind) else ()
@@ -80,6 +80,8 @@ class Writes(calls.Writes):
     def known(self, line: Line) -> tuple[str, ...]:
         """Returns the equations of the arguments of a call."""
         kind = line.kind
+        if isinstance(line.measures, m.Fill):
+            return (f"size-wrote _ _ _ _ _ _ _ _ c.{line.measures.name}_bits.ensures",)
         if isinstance(kind, m.Size):
             return (f"c.{self.steps.next('stored_size')}.ensures",) if kind.units else ()
         if cross.is_listed(kind) and (one := part_lists.shape(self.f, kind)):
@@ -360,8 +362,7 @@ def files(t: Target) -> dict[str, str]:
         found |= optional_files(t, use)
     for it in lists(f.description):
         found[f"{home}/{part_lists.keep(f, it)}/Answers.antt"] = keep_answers(t, it)
-    found |= part_proofs.files(t)
-    return found
+    return found | part_proofs.files(t) | fill_proofs.files(t)
 
 
 def loops(t: Target, kind: m.List) -> dict[str, str]:

@@ -4,7 +4,7 @@ from __future__ import annotations
 from typing import Callable, TypeGuard
 
 from describing import model as m
-from describing.c import cross, part_lists, varying
+from describing.c import cross, fills, part_lists, varying
 from describing.c.cross import Crossed, Listed, base, is_partial, is_stated, lists, spec_item
 from describing.c.status import DOES_NOT_FIT, END_OF_INPUT, NO_ROOM, rooms
 from describing.layout import Format, Line
@@ -23,7 +23,7 @@ def given(f: Format) -> str:
 def uses(f: Format) -> list[str]:
     """Returns the names of the library in the code."""
     ends = {"BitRead", "BitReadExt", "BitWrite", "BitWriteExt", "Bits", "Error", "ToBitStream", "pack_into"}
-    return sorted(ends | set(varying.uses(f)))
+    return sorted(ends | set(["BitsWritten", "SliceReader"] * bool(fills.fills(f))) | set(varying.uses(f)))
 
 
 def paths(f: Format, text: str) -> list[str]:
@@ -133,7 +133,7 @@ def keep_code(f: Format, kind: Listed) -> list[str]:
 def read_list_code(f: Format, kind: Listed) -> list[str]:
     """Returns the function that reads a list."""
     if one := part_lists.shape(f, kind):
-        return part_lists.read_code(f, kind, one)
+        return fills.read_code(f, kind, one) if isinstance(kind, m.Fill) else part_lists.read_code(f, kind, one)
     number, octets = base(kind), isinstance(kind.item, m.Octet)
     return [
         f"/// Reads `count` items of `{kind.name}`, and keeps those for which there is room.",
@@ -157,8 +157,10 @@ def read_statement(f: Format, line: Line) -> str:
     if not cross.is_listed(line.kind):
         return rust.reads(f, line)
     name, count = line.name, count_name(f, line.kind)
-    if is_stated(line.kind):
+    if is_stated(line.kind) or isinstance(line.kind, m.Fill) and line.units:
         return f"let {count} = read_stated_{name}(reader, {name}_items, {name}_bytes)?;"
+    if isinstance(line.kind, m.Fill):
+        return f"let {count} = read_{name}(reader, {name}_items, {name}_bytes)?;"
     read = f"read_{name}(reader, {name}_items, {count})?;"
     return f"let {count} = {rust.octets_count(line)};\n    {read}" if line.units else read
 
@@ -166,7 +168,8 @@ def read_statement(f: Format, line: Line) -> str:
 def count_name(f: Format, kind: Listed) -> str:
     """Returns the name of the number of items of a list in the function that reads it."""
     line = cross.counted(f.description, kind)
-    return f"{kind.name}_count" if isinstance(line, m.Size) and line.units else m.label(line)
+    counted = isinstance(kind, m.Fill) or isinstance(line, m.Size) and line.units
+    return f"{kind.name}_count" if counted else m.label(line)
 
 
 def stated_code(f: Format, line: Line) -> list[str]:
@@ -205,6 +208,7 @@ def read_code(f: Format, to_c: Terms) -> list[str]:
     return [
         "/// Reads the fields, and keeps the items of lists for which there is room.",
         f"fn read<R: BitRead>(reader: &mut R, {', '.join(items_parameters(f, '&mut '))}) -> Result<{f.type}C, {f.e}>",
+        *[f"    requires {{ R.source.order ≡ {f.o} }}"] * f.ordered,
         f"    ensures {{ {f.type}Read R.source reader.old {old} result reader.new {new} }}",
         "{",
         *[f"    {read_statement(f, it)}" for it in f.lines],
@@ -299,6 +303,7 @@ def writing_code(f: Format) -> list[str]:
     return [
         *[line for it in lists(f.description) if needs_loop(it) for line in write_code(it)],
         *part_lists.writing_code(f),
+        *fills.writing_code(f),
         f"impl {t}<'_> {{",
         "    /// Writes the fields in order.",
         "    fn write<W: BitWrite>(&self, writer: &mut W) -> Result<(), Error>",

@@ -50,9 +50,9 @@ def is_simple(kind: m.Kind) -> bool:
     return isinstance(kind, m.Bool | m.Skip | m.Const) or isinstance(kind, m.Number) and not kind.integer.signed
 
 
-def fit_answers(f: Format) -> str:
-    """Returns the answer of the function that tests the fields."""
-    facts = [f"c.{it.use.module}_fits-{it.name}_fit.ensures.0 c.if-not-{it.name}_fit.false" for it in listed(f)]
+def fit_answers(f: Format, more: list[str]) -> str:
+    """Returns the answer of the function that tests the fields, with more facts."""
+    facts = [f"c.{it.use.module}_fits-{it.name}_fit.ensures.0 c.if-not-{it.name}_fit.false" for it in listed(f)] + more
     lets = "".join(f"    let fit_{k} = {it} in\n" for k, it in enumerate(facts))
     return f"pub returns : goal.returns\nreturns c =\n{lets}    search rules\n"
 

@@ -39,7 +39,7 @@ class Shape:
 def shape(f: Format, kind: m.Kind) -> Shape | None:
     """Returns the item of a list of parts or of an enum, or None for another line."""
     match kind:
-        case m.List(item=m.Use() as use):
+        case m.List(item=m.Use() as use) | m.Fill(use=use):
             return part_shape(use)
         case m.List(item=m.EnumType() as enum):
             return enum_shape(f, enum)
@@ -265,6 +265,8 @@ def tests(f: Format, kind: Listed, one: Shape) -> list[str]:
     """Returns the tests that a list fits its bits."""
     most = cross.most_items(f.description, kind)
     fit = [f"all_{one.word}_fit(value.{kind.name})"] * bool(one.fits)
+    if isinstance(kind, m.Fill):
+        return [f"{kind.name}_fit(value.{kind.name})", *fit]
     return [f"count_{one.word}(value.{kind.name}) <= {most}", *fit]
 
 
@@ -301,6 +303,9 @@ def counting(f: Format, line: Line, written: str) -> str:
         target = line.kind.target
         one = shape(f, cross.target(f.description, line.kind))
         return written.replace(f"self.{target}.len() as u64", f"count_{one.word}(self.{target})") if one else written
+    if isinstance(line.kind, m.Size) and isinstance(line.measures, m.Fill):
+        target = line.kind.target
+        return written.replace(f"count_{target}(&self.{target})", f"{target}_bits(self.{target})")
     return written
 
 

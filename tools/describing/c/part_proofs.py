@@ -1,6 +1,7 @@
 """The proofs of the functions for C of lists of parts and of enums."""
 from __future__ import annotations
 
+from describing import model as m
 from describing.c import part_lists
 from describing.c.cross import Listed, lists
 from describing.c.imports import own_names, varied
@@ -92,9 +93,11 @@ returns c =
 def list_files(t: Target, kind: Listed, one: Shape) -> dict[str, str]:
     """Returns the proofs of the functions that read and write a list, by their places in the crate."""
     read, write, home = f"read_{kind.name}", f"write_{kind.name}", f"proofs/{t.f.m}"
-    return {
+    reads = {
         f"{home}/{read}/Invariants.antt": laid_out(t, read, invariant(t, kind, one), "Given"),
         f"{home}/{read}/Answers.antt": laid_out(t, read, read_answers(t, kind, one)),
+    }
+    return ({} if isinstance(kind, m.Fill) else reads) | {
         f"{home}/{write}/Invariants.antt": laid_out(t, write, write_invariant(kind, one), "Given"),
         f"{home}/{write}/Answers.antt": laid_out(t, write, write_answers(kind, one)),
     }

@@ -6,7 +6,7 @@ import os
 import re
 import tempfile
 
-from describing.c import header, list_shared, python, rust, shared, varied
+from describing.c import fills, header, list_shared, python, rust, shared, varied
 from describing.c.code import code
 from describing.c.cross import check, is_mapped, lists, parts, stated
 from describing.c.proofs import answer_files
@@ -35,6 +35,8 @@ def files_of(t: Target, plain: Target) -> dict[str, str]:
         found |= varied.files(t.crate)
     if lists(f.description):
         found |= list_shared.files(t.crate, bool(stated(f.description)), any(map(is_mapped, f.description.kinds)))
+    if fills.fills(f):
+        found |= fills.files(t.crate)
     shown = {shown_for_c(place, ".rt"): shown_for_c(text, place) for place, text in found.items()}
     return shown | binding_files(plain)
 
@@ -101,6 +103,7 @@ def listed(t: Target) -> dict[str, list[str]]:
             *["pub mod Varied"] * more,
             *["pub mod Lists"] * some,
             *["pub mod Parts"] * any(map(is_mapped, t.f.description.kinds)),
+            *["pub mod Fills"] * bool(fills.fills(t.f)),
         ],
         "proofs/Lib.antt": [
             f"pub mod {t.f.spec}Lemmas",
@@ -108,6 +111,7 @@ def listed(t: Target) -> dict[str, list[str]]:
             *["pub mod VariedLemmas"] * more,
             *["pub mod ListLemmas"] * some,
             *["pub mod PartLemmas"] * any(map(is_mapped, t.f.description.kinds)),
+            *["pub mod FillLemmas"] * bool(fills.fills(t.f)),
             *["pub mod StatedLemmas"] * bool(stated(t.f.description)),
         ],
     }

@@ -2,7 +2,7 @@
 from __future__ import annotations
 
 from describing import model as m
-from describing.c import cross, decided, list_proofs, lists, optional, varying
+from describing.c import cross, decided, fill_proofs, fills, list_proofs, lists, optional, varying
 from describing.c.cross import base, fields
 from describing.c.imports import answer_uses, lemma_uses, parse_uses
 from describing.c.target import Target
@@ -132,10 +132,9 @@ def answer_files(t: Target) -> dict[str, str]:
     numbers = [base(it) for it in fields(t.f.description) if isinstance(it, m.NonZero | m.MaybeNonZero)]
     found = {f"proofs/{m_}/option_{it}/Answers.antt": option_answers(t, it) for it in numbers}
     found[f"proofs/{t.f.spec}Lemmas.antt"] = lemmas(t)
-    if optional.listed(t.f):
-        goal = f"use Rattle.{t.crate}.proofs.{m_}.is_fit.Goals as goal"
-        head = [f"-- {t.made}", "use Rattle.std.proofs.Common.{rules}", goal, ""]
-        found[f"proofs/{m_}/is_fit/Answers.antt"] = "\n".join([*head, optional.fit_answers(t.f)])
+    if optional.listed(t.f) or fills.beside(t.f):
+        text = optional.fit_answers(t.f, fill_proofs.whole(t.f))
+        found[f"proofs/{m_}/is_fit/Answers.antt"] = fill_proofs.laid_out(t, "is_fit", text)
     if t.f.sized:
         found[f"proofs/{m_}/proved_{m_}_parse/Answers.antt"] = parse_answers(t)
         return found | {f"proofs/{m_}/put/Answers.antt": put_answers(t)}

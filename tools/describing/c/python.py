@@ -22,7 +22,7 @@ from describing.c.cross import (
     parts,
     said_of_enum,
 )
-from describing.c.status import NO_ROOM, Status, numbers, own, refused, rooms
+from describing.c.status import NO_ROOM, Status, numbers, own, refused, rooms, unless_refused
 from describing.c.target import Target
 from describing.c.words import drawn, in_docstring, paragraph, python_name, quoted
 
@@ -231,7 +231,7 @@ def hint(kind: Crossed) -> str:
             return f"_{kind.use.module}.{kind.use.name} | None"
         case m.Choose():
             return kind.type
-        case m.List(item=m.Use() as use):
+        case m.List(item=m.Use() as use) | m.Fill(use=use):
             return f"list[_{use.module}.{use.name}]"
         case m.List(item=m.EnumType() as enum):
             return f"list[{enum.name}{' | int' if enum.other else ''}]"
@@ -334,7 +334,7 @@ def from_c(kind: Crossed) -> str:
             return f"_{kind.use.module}.{kind.use.name}._from_c({v}) if out.has_{kind.name} else None"
         case m.Choose():
             return f"_{kind.name}_chosen({v})"
-        case m.List(item=m.Use() as use):
+        case m.List(item=m.Use() as use) | m.Fill(use=use):
             return f"[_{use.module}.{use.name}._from_c(it) for it in {v}.items[: {v}.length]]"
         case m.List(item=m.EnumType() as enum):
             return f"[{f'_{m.snake(enum.name)}' if enum.other else enum.name}(it) for it in {v}.items[: {v}.length]]"
@@ -461,7 +461,7 @@ def refusals(t: Target) -> str:
         else "`EndOfInput` if the bytes end before the fields do"
     )
     cases = ", ".join(f"`{it.camel}`" for it in [*own(f), *numbers(f)])
-    return f"the first in the order of the bits: {cases}; {few}, if nothing in them is refused" if cases else few
+    return f"the first in the order of the bits: {cases}; {few}{unless_refused(f)}" if cases else few
 
 
 def calls_code(t: Target) -> list[str]:

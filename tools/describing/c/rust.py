@@ -24,7 +24,7 @@ from describing.c.cross import (
     parts,
     said_of_enum,
 )
-from describing.c.status import DOES_NOT_FIT, Status, numbers, own, refused, rooms
+from describing.c.status import DOES_NOT_FIT, Status, numbers, own, refused, rooms, unless_refused
 from describing.c.target import Target
 from describing.c.words import doc, drawn, quoted
 from describing.layout import enum_bits
@@ -243,7 +243,7 @@ def from_c(kind: Crossed) -> str:
             return f"{v}.fields()?"
         case m.Optional() | m.If():
             return f"if self.has_{kind.name} == 0 {{ None }} else {{ Some({v}.fields()?) }}"
-        case m.List(item=m.Use() as use):
+        case m.List(item=m.Use() as use) | m.Fill(use=use):
             return f"{kind.name}_items.iter().map({use.name}C::fields).collect::<Option<Vec<_>>>()?"
         case m.List(item=m.EnumType() as enum):
             return f"{kind.name}_items.iter().map(|it| {enum.name}::of(*it)).collect::<Option<Vec<_>>>()?"
@@ -358,7 +358,7 @@ def refusals(t: Target) -> str:
         else "`EndOfInput` if the bytes end before the fields do"
     )
     cases = ", ".join(f"`{it.camel}`" for it in [*own(f), *numbers(f)])
-    return f"The first in the order of the bits: {cases}; {few}, if nothing in them is refused" if cases else few
+    return f"The first in the order of the bits: {cases}; {few}{unless_refused(f)}" if cases else few
 
 
 def parse_code(t: Target) -> list[str]:

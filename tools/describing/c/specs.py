@@ -113,7 +113,7 @@ def from_c(f: Format, kind: Crossed) -> str:
             return optional.from_c_specs(f, kind)
         case m.Choose():
             return choices.from_c_specs(f, kind)
-        case m.List() | m.Sized():
+        case m.List() | m.Sized() | m.Fill():
             return f"{kind.name}_items"
     assert_never(kind)
 
@@ -133,7 +133,7 @@ def partial_type(t: Target, kind: Crossed) -> str:
             return f"Option (Option {kind.use.name})"
         case m.Choose():
             return f"Option {kind.type}"
-        case m.List(item=m.Use() | m.EnumType() as item):
+        case m.List(item=m.Use() | m.EnumType() as item) | m.Fill(use=item):
             return f"Option (List {item.name})"
     raise AssertionError(kind)
 

@@ -58,7 +58,7 @@ def numbers(f: Format) -> list[Status]:
 
 def rooms(f: Format) -> list[Status]:
     """Returns the statuses of lists without room for their items."""
-    names = [it.name for it in f.description.fields if isinstance(it, m.List | m.Sized)]
+    names = [it.name for it in f.description.fields if isinstance(it, m.List | m.Sized | m.Fill)]
     last = len(FIRST) + len(numbers(f))
     return [
         Status(last + k, f"NO_ROOM_{it.upper()}", f"The storage has no room for the items of `{it}`.")
@@ -85,6 +85,12 @@ def own(f: Format) -> list[Status]:
 def held(f: Format) -> set[str]:
     """Returns the cases of the error that hold the error of a part."""
     return {case for it in f.tests for case, error in m.refusals(it.kind) if error}
+
+
+def unless_refused(f: Format) -> str:
+    """Returns when the end of the bytes is the error of a parse that may refuse bits, after `the bytes end before ..`."""
+    names = " or ".join(f"`{it.name}`" for it in f.description.fields if isinstance(it, m.Fill))
+    return ", if nothing in them is refused" + f", or if they end inside {names}" * bool(names)
 
 
 def statuses(f: Format) -> list[Status]:

@@ -32,7 +32,7 @@ def python_name(name: str) -> str:
 
 def drawn(description: m.Description) -> list[str]:
     """Returns the lines of the picture of the bits."""
-    return [it.rstrip() for it in picture.text(description.kinds, decimal=True) if it.strip() and "```" not in it]
+    return [it.rstrip() for it in picture.text(description.kinds, in_code=True) if it.strip() and "```" not in it]
 
 
 def paragraph(text: str, first: str, other: str) -> list[str]:
