@@ -37,15 +37,15 @@ class Protocol:
 
 # The fields of 1,000 random records that tshark 4.0, or ffmpeg 5.1 of AV1, shows alike: `tools/test_protocols 1000`.
 FIELDS = {
-    "arp_packet": 5000, "av1_sequence": 28245, "can_frame": 4000, "can_packet": 4911, "ccsds_packet": 6000,
+    "arp_packet": 5000, "av1_sequence": 32367, "can_frame": 4000, "can_packet": 4911, "ccsds_packet": 6000,
     "client_hello": 14137, "coap_message": 7264, "dhcp_message": 18972, "dns_message": 24681, "dns_typed_message":
-    16086, "eapol_packet": 5504, "ethernet_header": 4316, "gif_file": 30164, "h264_high_pps": 16000, "h264_sps":
-    26787, "icmp_datagram": 3971, "icmp_message": 6000, "igmp_message": 4000, "igmp_query": 9010, "igmp_report":
+    16086, "eapol_packet": 5504, "ethernet_header": 4316, "gif_file": 30164, "gre_packet": 6983, "h264_high_pps": 16000, "h264_sps":
+    41659, "icmp_datagram": 3971, "icmp_message": 6000, "igmp_message": 4000, "igmp_query": 9010, "igmp_report":
     13840, "ipv4_packet": 8000, "ipv6_header": 8000, "ipv6_headers": 11705, "j1939_frame": 6000, "lldp_unit": 12490,
     "mac_header": 10751, "modbus_exception": 4000, "modbus_request": 6617, "modbus_response": 7247, "mp3_header":
     12000, "mpls_stack": 11872, "mqtt_header": 2234, "mqtt_packet": 4605, "netflow_export": 288288, "ntp_message":
     6000, "ntp_packet": 13000, "pcap_file": 9748, "png_file": 12608, "quic_long_header": 4627, "quic_packet": 4432,
-    "radius_packet": 9936, "rip_message": 28742, "rtcp_compound": 25628, "rtp_datagram": 18723, "rtp_packet": 17152,
+    "radius_packet": 9936, "rip_message": 28742, "rtcp_compound": 38161, "rtp_datagram": 18723, "rtp_packet": 17152,
     "tcp_header": 16000, "tcp_segment": 6255, "tftp_data": 3000, "tftp_request": 3000, "tls_record": 3509,
     "ts_header": 7000, "ts_pat": 47458, "udp_datagram": 5000, "vrrp_advertisement": 8517, "vxlan_packet": 5000,
 }  # fmt: skip
@@ -81,12 +81,7 @@ WANTED = (
         True,
         "padding apart from the payload: the last byte states its size",
     ),
-    Protocol(
-        "RTCP",
-        "rtcp_compound",
-        False,
-        "source descriptions are bytes: they need zeros up to a multiple of 32 bits",
-    ),
+    Protocol("RTCP", "rtcp_compound", True, "the prefix of a private item, which is bytes of its text; padding"),
     Protocol("TLS records and ClientHello", "tls_record hello tls/client_hello", True),
     Protocol(
         "QUIC long headers",
@@ -128,13 +123,13 @@ WANTED = (
         "H.264 SPS and PPS",
         "video/h264_sps video/h264_high_pps",
         False,
-        "scaling lists: a list that ends by the sum of its items; HRD: a count in Exp-Golomb",
+        "scaling lists: a list that ends by the sum of its items; slice groups",
     ),
     Protocol(
         "AV1 sequence headers",
         "video/av1_sequence",
         False,
-        "several operating points: a count of one item more than it states",
+        "decoder models: numbers of as many bits as an earlier number states; profiles 1 and 2",
     ),
     Protocol(
         "MPEG-TS with PAT and PMT",
@@ -157,6 +152,7 @@ OTHERS = (
     Protocol("RIP, version 2", "messages/rip_message", True),
     Protocol("pcap files", "messages/pcap_file", True),
     Protocol("VXLAN", "messages/vxlan_packet", True),
+    Protocol("GRE", "messages/gre_packet", True, "that the checksum is right: it is in an optional part"),
 )
 
 

@@ -29,7 +29,7 @@ def unit(kind: int, data: bytes) -> Made:
 
 
 def drawn_sps(r: Random) -> bytes:
-    """A sequence parameter set without scaling lists, HRD parameters and offsets of reference frames.
+    """A sequence parameter set without scaling lists.
 
     It is of no 4:4:4 profile, of which tshark does not know that it is a high one.
     """
@@ -72,7 +72,8 @@ def draw_ordering(b: Bits) -> None:
         b.any(1)
         b.signed(-9, 9)
         b.signed(-9, 9)
-        b.ue(0)
+        for _ in range(b.range(0, 255)):
+            b.signed(-9, 9)
 
 
 def draw_vui(b: Bits) -> None:
@@ -92,12 +93,28 @@ def draw_vui(b: Bits) -> None:
         b.tick()
         b.tick()
         b.any(1)
-    b.u(2, 0)
+    decoders = [draw_decoder(b), draw_decoder(b)]
+    if any(decoders):
+        b.any(1)
     b.any(1)
     if b.flag():
         b.any(1)
         for _ in range(6):
             b.range(0, 16)
+
+
+def draw_decoder(b: Bits) -> bool:
+    """The parameters of a reference decoder, if there are any; returns true then."""
+    if not b.flag():
+        return False
+    count = b.range(0, 31) + 1
+    b.any(8)
+    for _ in range(count):
+        b.range(0, 9000)
+        b.range(0, 9000)
+        b.any(1)
+    b.any(20)
+    return True
 
 
 def unescaped(r: Random, draw: Any) -> bytes:
@@ -135,6 +152,11 @@ def h264_high_pps(r: Random) -> Made:
     return unit(0x68, unescaped(r, drawn_pps))
 
 
+def stored_signed(value: int) -> int:
+    """Returns the number that is stored for a signed one."""
+    return 2 * value - 1 if value > 0 else -2 * value
+
+
 def taken(record: Json, names: dict[str, str]) -> Values:
     """Returns the values of fields, each for the field of the peer; a field may be inside of parts, which may be missing.
 
@@ -146,7 +168,7 @@ def taken(record: Json, names: dict[str, str]) -> Values:
         for it in path.split("."):
             value = value[it] if value is not None else None
         if value is not None and peer in SIGNED:
-            value = 2 * value - 1 if value > 0 else -2 * value
+            value = stored_signed(value)
         found[peer] = [int(value)] if value is not None else []
     return found
 
@@ -177,11 +199,17 @@ SPS = of_peer(
     " transfer_characteristics=vui.signal.colours.transfer matrix_coefficients=vui.signal.colours.matrix"
     " chroma_sample_loc_type_top_field=vui.places.top chroma_sample_loc_type_bottom_field=vui.places.bottom"
     " num_units_in_tick=vui.timing.ticks time_scale=vui.timing.scale fixed_frame_rate_flag=vui.timing.fixed"
+    " nal_hrd_parameters_present_flag=vui.units vcl_hrd_parameters_present_flag=vui.slices low_delay_hrd_flag=vui.delay.set"
     " pic_struct_present_flag=vui.structure motion_vectors_over_pic_boundaries_flag=vui.limits.outside"
     " max_bytes_per_pic_denom=vui.limits.picture max_bits_per_mb_denom=vui.limits.block"
     " max_mv_length_horizontal=vui.limits.horizontal log2_max_mv_length_vertical=vui.limits.vertical"
     " num_reorder_frames=vui.limits.reordered max_dec_frame_buffering=vui.limits.buffered"
 )
+DECODER = of_peer(
+    "bit_rate_scale=rate_scale cpb_size_scale=size_scale initial_cpb_removal_delay_length_minus1=first_delay"
+    " cpb_removal_delay_length_minus1=removal dpb_output_delay_length_minus11=output time_offset_length=offset"
+)
+SCHEDULE = of_peer("bit_rate_value_minus1=rate cpb_size_value_minus1=size cbr_flag=constant")
 CHROMA = of_peer(
     "chroma_format_id=format residual_colour_transform_flag=planes.set bit_depth_luma_minus8=luma"
     " bit_depth_chroma_minus8=chroma qpprime_y_zero_transform_bypass_flag=bypass"
@@ -202,18 +230,31 @@ def of_h264(values: Values) -> Values:
     return {f"h264.{name}": it for name, it in values.items()}
 
 
+def decoder_values(vui: Json) -> Values:
+    """The reference decoders, the second one's fields behind those of the first one."""
+    found = [it for it in (vui["units_decoder"], vui["slices_decoder"]) if it] if vui else []
+    values: Values = {peer: [it[name] for it in found] for peer, name in DECODER.items()}
+    values["cpb_cnt_minus1"] = [len(it["schedules"]) - 1 for it in found]
+    for peer, name in SCHEDULE.items():
+        values[peer] = [int(one[name]) for it in found for one in it["schedules"]]
+    return values
+
+
 def sps_values(record: Json) -> Values:
     """A sequence parameter set of H.264."""
     case, held = case_of(record["profile"])
-    values = taken(record, SPS) | taken(held or None, CHROMA)
+    values = taken(record, SPS) | taken(held or None, CHROMA) | decoder_values(record["vui"])
     values["profile_idc"] = [PROFILES[case]]
+    frames = [it["value"] for it in record["cycle"]["frames"]] if record["cycle"] else []
+    values["offset_for_ref_frame"] = [stored_signed(it) for it in frames]
+    values["num_ref_frames_in_pic_order_cnt_cycle"] = [len(frames)] * bool(record["cycle"])
     for k in range(6):
         values[f"constraint_set{k}_flag"] = [record["constraints"] >> 5 - k & 1]
     return of_h264(values)
 
 
 def av1_sequence(r: Random) -> Made:
-    """A sequence header of AV1 of profile 0, with one operating point and no decoder model."""
+    """A sequence header of AV1 of profile 0, without a decoder model."""
     b = Bits(r)
     b.u(3, 0)
     still = b.flag()
@@ -221,7 +262,7 @@ def av1_sequence(r: Random) -> Made:
     if reduced:
         b.u(5, r.randrange(24))
     else:
-        draw_point(b)
+        draw_points(b)
     sizes = [r.randrange(1, 17), r.randrange(1, 17)]
     b.u(4, sizes[0] - 1)
     b.u(4, sizes[1] - 1)
@@ -248,8 +289,8 @@ def av1_sequence(r: Random) -> Made:
     return Made(data, before=b"\x12\0\x0a" + bytes([len(data)]))
 
 
-def draw_point(b: Bits) -> None:
-    """The times and the operating point."""
+def draw_points(b: Bits) -> None:
+    """The times and the operating points."""
     if b.flag():
         b.tick()
         b.tick()
@@ -257,12 +298,12 @@ def draw_point(b: Bits) -> None:
             b.range(0, 500)
         b.u(1, 0)
     delayed = b.flag()
-    b.u(5, 0)
-    b.any(12)
-    if b.u(5, b.draw.randrange(24)) > 7:
-        b.any(1)
-    if delayed and b.flag():
-        b.u(4, b.draw.randrange(10))
+    for _ in range(b.u(5, b.draw.choice((0, 0, 1, 3, 3))) + 1):
+        b.any(12)
+        if b.u(5, b.draw.randrange(24)) > 7:
+            b.any(1)
+        if delayed and b.flag():
+            b.u(4, b.draw.randrange(10))
 
 
 def draw_tools(b: Bits) -> None:
@@ -279,11 +320,9 @@ def draw_tools(b: Bits) -> None:
 
 
 AV1 = of_peer(
-    "still_picture=still reduced_still_picture_header=reduced num_units_in_display_tick=point.timing.ticks"
-    " time_scale=point.timing.scale equal_picture_interval=point.timing.equal"
-    " num_ticks_per_picture_minus_1=point.timing.interval.value initial_display_delay_present_flag=point.delayed"
-    " operating_point_idc[0]=point.layers seq_tier[0]=point.high.set"
-    " initial_display_delay_minus_1[0]=point.delay.frames.frames delta_frame_id_length_minus_2=numbers.sizes.difference"
+    "still_picture=still reduced_still_picture_header=reduced num_units_in_display_tick=points.timing.ticks"
+    " time_scale=points.timing.scale equal_picture_interval=points.timing.equal"
+    " num_ticks_per_picture_minus_1=points.timing.interval.value delta_frame_id_length_minus_2=numbers.sizes.difference"
     " additional_frame_id_length_minus_1=numbers.sizes.more use_128x128_superblock=superblocks"
     " enable_filter_intra=filter_intra enable_intra_edge_filter=edge_filter enable_interintra_compound=tools.inter_intra"
     " enable_masked_compound=tools.masked enable_warped_motion=tools.warped enable_dual_filter=tools.dual_filter"
@@ -295,10 +334,27 @@ AV1 = of_peer(
 )
 
 
+def point_values(record: Json) -> Values:
+    """The operating points of AV1."""
+    case, held = case_of(record["points"]["points"]) if record["points"] else ("", {})
+    delayed = case == "Delayed"
+    found = [it["point"] if delayed else it for it in held["points"]] if case else [record["level"]]
+    values: Values = {"initial_display_delay_present_flag": [int(delayed)] * bool(case)}
+    values["operating_points_cnt_minus_1"] = [len(found) - 1] * bool(case)
+    for k in range(4):
+        point = found[k] if k < len(found) else {}
+        high = point.get("high")
+        delay = held["points"][k]["delay"]["frames"] if delayed and point else None
+        values[f"operating_point_idc[{k}]"] = [point["layers"]] if "layers" in point else []
+        values[f"seq_level_idx[{k}]"] = [point["level"]] if point else []
+        values[f"seq_tier[{k}]"] = [int(high["set"])] if high else []
+        values[f"initial_display_delay_minus_1[{k}]"] = [delay["frames"]] if delay else []
+    return values
+
+
 def av1_values(record: Json) -> Values:
     """A sequence header of AV1."""
-    values = taken(record, AV1)
-    values["seq_level_idx[0]"] = [(record["point"] or record["level"])["level"]]
+    values = taken(record, AV1) | point_values(record)
     for name, field in (("width", "width"), ("height", "height")):
         bits = [*record[field], int(record[f"{field}_end"])]
         values[f"max_frame_{name}_minus_1"] = [int("".join(map(str, bits)), 2)]
