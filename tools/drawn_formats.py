@@ -295,7 +295,7 @@ def sized(sheet: Sheet) -> None:
             sheet.later.append(f"fill {name} {sheet.part(lists=True, wide=True)} {sheet.error()}")
         case _:
             sign, unit = draw.choice(("", "", "plus", "less")), draw.choice(("", "", " by 2", " by 4"))
-            stored = f"{width}{f' {sign} {draw.randint(1, 20)}' * bool(sign)}{unit}"
+            stored = f"{width}{f' {sign} {draw.randint(1, 20)}' * bool(sign)}{unit}{most(sheet)}"
             sheet.add(f"size {name} {draw.choice((stored, stored, stored, 'varint quic', grouped(sheet)))}")
             error = f" {sheet.error()}" if " plus " in sheet.lines[-1] else ""
             sheet.later.append(f"sized {name} bytes{error}")
@@ -306,6 +306,11 @@ def grouped(sheet: Sheet) -> str:
     draw = sheet.draw
     said = draw.choice(("leb128 u32", "leb128 u16", "vbr 8 u32", "vbr 8 u32 any"))
     return said + f" max {draw.choice((1000, 60000))} {sheet.error()}" * (draw.random() < 0.5)
+
+
+def most(sheet: Sheet) -> str:
+    """Returns the greatest value of a size in bits, which may have none; no size of a random record is above it."""
+    return f" max {sheet.draw.choice((60, 200))} {sheet.error()}" if sheet.draw.random() < 0.3 else ""
 
 
 def powered(sheet: Sheet) -> None:
@@ -320,6 +325,30 @@ def powered(sheet: Sheet) -> None:
         item = sheet.part(lists=True)
     plus = draw.choice(("", " plus 1"))
     sheet.later.append(f"list {name} {item} power {number}{plus}{f' if {there}' * bool(there)}")
+
+
+def counted(sheet: Sheet) -> None:
+    """Adds a count in Exp-Golomb or of fewer items than there are, and later its list of numbers or parts."""
+    draw, name = sheet.draw, sheet.name()
+    how = draw.choice(("ue", str(draw.randint(3, 9))))
+    less = f" less {draw.randint(1, 3)}" * (how != "ue" or draw.random() < 0.5)
+    limit = f" max {draw.randint(4, 6)} {sheet.error()}" * (draw.random() < 0.3)
+    sheet.add(f"count {name} {how}{less}{limit}")
+    item = "{} {}".format(*integer(draw))
+    if sheet.depth > 0 and draw.random() < 0.5:
+        item = sheet.part(lists=True)
+    sheet.later.append(f"list {name} {item}")
+
+
+def padded(sheet: Sheet) -> None:
+    """Adds a list of parts behind lines of constant width, and zeros up to a multiple of bits."""
+    draw = sheet.draw
+    for _ in range(draw.randint(0, 2)):
+        constant(sheet, draw.choice(("bool", "number", "enum")))
+    name = sheet.name()
+    sheet.add(f"count {name} {draw.randint(3, 9)}")
+    sheet.add(f"list {name} {sheet.part(lists=True)}")
+    sheet.add(f"zeros to {draw.choice((7, 8, 16, 32, 64))} {sheet.error()}")
 
 
 def ended(sheet: Sheet) -> None:
@@ -436,6 +465,7 @@ LINES: dict[Adds, str] = {
     sized: "parts lists",
     ended: "lists",
     powered: "lists",
+    counted: "lists",
 }
 LINES |= {
     summed: "parts",
@@ -451,6 +481,8 @@ def description(sheet: Sheet, count: int, first: Adds = simple) -> str:
     draw = sheet.draw
     there = {"parts": sheet.depth > 0, "lists": sheet.lists, "whole": "_" not in sheet.module}
     kinds = [it for it, needs in LINES.items() if all(there[one] for one in needs.split())]
+    if first is not to_end and there["parts"] and there["lists"] and draw.random() < 0.15:
+        padded(sheet)
     first(sheet)
     for _ in range(count - 1):
         add: Adds = simple if sheet.rest or draw.random() < 0.3 else draw.choice(kinds)
@@ -573,7 +605,8 @@ def field_value(draw: Random, it: m.Described, said: m.Description, found: Recor
             return many_values(draw, it.item, power.count(int(str(found[power.field])), there))
         case m.List() | m.Fill() | m.Rest():
             item = it.use if isinstance(it, m.Fill) else it.item
-            return many_values(draw, item, draw.choice((0, 1, 2, 4)))
+            least = it.less if isinstance(it, m.List) else 0
+            return many_values(draw, item, least + draw.choice((0, 1, 2, 4)))
     if choice and draw.random() < (0.8 if choice.other else 1):
         return draw.choice([one.number for one in choice.arms if one.number is not None])
     least, most = m.range_of(it) or (0, 0)

@@ -10,7 +10,7 @@ from describing.model import Position, Refused
 from describing.names import TAKEN
 from describing.parse import ONLY_PARTS, beside, parsed
 
-CLAUSES = ("there", "short", "answer", "back")
+LISTED = "`./format --help` lists such names"
 
 
 def described(text: str, path: str, module: str, names: bool = True) -> m.Description:
@@ -53,7 +53,7 @@ def check_lines(it: m.Description, own: bool) -> None:
         check_target(it, index, kind)
         check_given(it, kind)
         if own and name in reserved.WORDS:
-            raise Refused(f"`{name}` is a word of the language: take another name", kind.at)
+            raise Refused(f"`{name}` is a word of the language: take another name ({LISTED})", kind.at)
         if name and name in names:
             raise Refused(f"two fields have one name, `{name}`", kind.at)
         check_error(it, kind)
@@ -69,7 +69,7 @@ def check_name(name: str, at: Position) -> None:
 def check_type_name(name: str, at: Position) -> None:
     """Refuses a name of a type or a case that code or proofs cannot have."""
     if name in reserved.TYPE_WORDS:
-        raise Refused(f"`{name}` is a word of the language: take another name", at)
+        raise Refused(f"`{name}` is a word of the language: take another name ({LISTED})", at)
     if name and not name[0].isupper():
         upper = "".join(it[:1].upper() + it[1:] for it in name.split("_"))
         raise Refused(f"`{name}` is a type or a case, which begins with a capital letter: take `{upper}`", at)
@@ -109,7 +109,7 @@ def check_error(it: m.Description, kind: m.Kind) -> None:
         enum = isinstance(item, m.EnumType) or isinstance(kind, m.Choose) and bool(kind.unknown)
         case = f": add it, or a case `.. Other` for the other numbers" * enum
         raise Refused(f"this line refuses bits, and the description has no line `error NAME`{case}", kind.at)
-    if any(m.snake(case) in CLAUSES for case in errors):
+    if any(m.snake(case) in reserved.CLAUSES for case in errors):
         why = "`There`, `Short`, `Answer` and `Back` are names of the contract: take other ones"
         raise Refused(why, kind.at)
 
@@ -168,7 +168,7 @@ def fits_words(kind: m.Kind) -> list[tuple[str, set[str]]]:
                 (f"{kind.name}_again", {"value", f"{s}_of", f"{s}_number"}),
             ]
         case m.Count() | m.Size():
-            name, words = m.label(kind), {"value", "length"}
+            name, words = m.label(kind), {"value", "length", *["stored_size"] * isinstance(kind, m.Count)}
             return [(name, words)] + [(f"{name}_most", words)] * m.is_limited(kind)
         case m.If():
             there = {"value", "is_some", "not", "nat_lt", "nat_le", f"{kind.name}_due"}
@@ -231,7 +231,7 @@ def check_types(it: m.Description, own: bool) -> None:
             raise Refused(f"two types have one name, `{name}`", at)
     for at, name in [*types, *errors]:
         if own and name in TAKEN:
-            raise Refused(f"`{name}` is a name of the specs: take another one", at)
+            raise Refused(f"`{name}` is a name of the specs: take another one ({LISTED})", at)
     for kind in it.kinds:
         if own and isinstance(kind, m.Choose):
             check_choice(it, kind, {name for _, name in [*types, *errors]} | set(parts))

@@ -252,7 +252,7 @@ def compare(description: m.Description, data: bytes, said: Said, parts: dict[str
     try:
         found = value_of(record_reader(description, parts)(row))
     except ReadError as it:
-        raise_unless(said, it.answer)
+        raise_unless(said, it)
         return
     if isinstance(said, str):
         raise Refused(f"example: the bytes answer fields, not `{said}`")
@@ -262,10 +262,12 @@ def compare(description: m.Description, data: bytes, said: Said, parts: dict[str
     written(description, data, said, row.at)
 
 
-def raise_unless(said: Said, answer: str) -> None:
+def raise_unless(said: Said, it: ReadError) -> None:
     """Refuses an example that does not name this error."""
-    if said != answer:
-        raise Refused(f"example: the bytes answer `{answer}`{f', not `{said}`' if isinstance(said, str) else ''}")
+    if said != it.answer:
+        size = f" ({it.clause})" if it.answer == "EndOfInput" and it.why else ""
+        other = f", not `{said}`" if isinstance(said, str) else ""
+        raise Refused(f"example: the bytes answer `{it.answer}` in `{it.path}`{size}{other}")
 
 
 def written(description: m.Description, data: bytes, said: dict[str, Value], at: int) -> None:

@@ -120,7 +120,7 @@ def flat_nodes(description: m.Description) -> FlatNodes | None:
     take = plan.word
     lines = [
         (
-            "" if isinstance(kind, m.Const | m.Skip) else m.label(kind),
+            "" if isinstance(kind, m.Const | m.Skip) else m.title(kind),
             kind,
             at,
             at + most.bit_length(),

@@ -73,6 +73,11 @@ def line_names(f: Format, line: Line) -> Table:
         own.append({f.specs_path: f"{line.name}_sized {line.name}_ended", f"{WITHIN}.specs.Within": SIZES})
     if line.units or isinstance(line.kind, m.Size) and line.kind.units:
         own.append({f.specs_path: f"{line.name}_stated" * bool(line.units), f"{WITHIN}.specs.Stated": STATED})
+    if isinstance(line.kind, m.List) and line.kind.less:
+        own.append({f"{WITHIN}.specs.Stated": "size_in_units stored_size"})
+    if isinstance(line.kind, m.Pad):
+        names = f"{line.kind.counted} {line.kind.counted}_of {line.kind.counted}_few"
+        own.append({f.specs_path: names, **{module: f"{it} counted_bits" for module, it in COUNTS.items()}})
     if isinstance(line.kind, m.Fill):
         own.append({f"{WITHIN}.specs.Filled": "filled_decoder items_from"} | COUNTS)
     if isinstance(line.kind, m.UpToLast):
@@ -136,6 +141,8 @@ def line_lemmas(f: Format, line: Line) -> Table:
     """Returns where the lemmas of a line come from."""
     own = [{f"{WITHIN}.proofs.WithinLemmas": SIZE_LEMMAS} | SIZE_LAWS] * bool(line.measured)
     own += [{f"{WITHIN}.proofs.StatedLemmas": STATED_LEMMAS} | STATED_LAWS] * bool(line.units)
+    own += [STATED_LAWS] * (isinstance(line.kind, m.List) and bool(line.kind.less))
+    own += [{f"{WITHIN}.proofs.WithinLemmas": "counts-is"} | COUNT_LEMMAS] * isinstance(line.kind, m.Pad)
     own += [{f"{WITHIN}.proofs.FilledLemmas": FILL_LEMMAS} | COUNT_LEMMAS] * isinstance(line.kind, m.Fill)
     own += [{f"{WITHIN}.proofs.UpToLastLemmas": LAST_LEMMAS}] * isinstance(line.kind, m.UpToLast)
     if isinstance(line.kind, m.Choose):

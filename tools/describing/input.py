@@ -8,19 +8,32 @@ Fetch: TypeAlias = Callable[[], bytes]
 
 
 class ReadError(Exception):
-    """A read that fails: the case of the error, the bit where it began, the path of the field, and the reason."""
+    """A read that fails: the case of the error, the bit where it began, the path of the field, and the reason.
 
-    def __init__(self, answer: str, place: int, path: str = "", why: str = "") -> None:
+    `inner` is the case of the error of a part that the case holds, or an empty text.
+    """
+
+    def __init__(self, answer: str, place: int, path: str = "", why: str = "", inner: str = "") -> None:
         super().__init__(answer)
-        self.answer, self.place, self.path, self.why = answer, place, path, why
+        self.answer, self.place, self.path, self.why, self.inner = answer, place, path, why, inner
 
     def __str__(self) -> str:
         why = f": {self.why}" if self.why else ""
-        return f"{self.answer} at {place_text(self.place)} ({self.path}){why}"
+        return f"{self.case} at {place_text(self.place)} ({self.path}){why}"
+
+    @property
+    def case(self) -> str:
+        """The case of the error, with the case that it holds."""
+        return f"{self.answer}({self.inner})" if self.inner else self.answer
+
+    @property
+    def clause(self) -> str:
+        """The reason as the end of a sentence."""
+        return self.why[:1].lower() + self.why[1:].removesuffix(".")
 
     def inside(self, name: str) -> ReadError:
         """Returns this error with the name of a record or a list before its path."""
-        return ReadError(self.answer, self.place, joined(name, self.path), self.why)
+        return ReadError(self.answer, self.place, joined(name, self.path), self.why, self.inner)
 
 
 def place_text(bit: int) -> str:

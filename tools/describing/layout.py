@@ -1,7 +1,7 @@
 """A format as the back ends print it: its lines with their places, and what follows from them for the whole."""
 from __future__ import annotations
 
-from dataclasses import dataclass
+from dataclasses import dataclass, replace
 from typing import Iterable, Iterator, TypeGuard
 
 from describing import model as m
@@ -115,8 +115,12 @@ class Line:
         match self.kind:
             case m.Array() | m.List() | m.Sized() | m.Rest():
                 return not isinstance(self.kind.item, m.Octet)
-        return m.is_varint(self.kind) or isinstance(
-            self.kind, m.Golomb | m.Part | m.Optional | m.If | m.Choose | m.Fill | m.Until | m.UpToLast | m.Blocks
+        return (
+            m.is_varint(self.kind)
+            or m.is_golomb(self.kind)
+            or isinstance(
+                self.kind, m.Golomb | m.Part | m.Optional | m.If | m.Choose | m.Fill | m.Until | m.UpToLast | m.Blocks
+            )
         )
 
     def least(self, at: int = 0) -> int:
@@ -141,11 +145,11 @@ def fits_if_accepted(kind: m.Kind) -> bool:
             return not kind.enum.other
         case m.List():
             item = kind.item
-            return not kind.power and isinstance(item, m.Integer) or isinstance(item, m.EnumType) and not item.other
+            return not kind.computed and isinstance(item, m.Integer) or isinstance(item, m.EnumType) and not item.other
         case m.Part():
             return all_fit(kind.use.description.kinds)
     plain = isinstance(kind, m.Number | m.NonZero | m.MaybeNonZero | m.Bool | m.Const | m.Skip | m.Flag | m.Count)
-    return plain and not m.is_limited(kind)
+    return plain and not m.is_limited(kind) and not m.is_golomb(kind)
 
 
 def all_values(kinds: Iterable[m.Kind]) -> bool:
@@ -156,7 +160,7 @@ def all_values(kinds: Iterable[m.Kind]) -> bool:
 def is_value(kind: m.Kind) -> bool:
     """Returns true if a line is a value with its laws."""
     numbers = (m.Number, m.NonZero, m.MaybeNonZero, m.Enum, m.Unary, m.Groups, m.Golomb, m.Varint)
-    given = (m.Const, m.Skip, m.Flag, m.Count, m.Tag, m.Size)
+    given = (m.Const, m.Pad, m.Skip, m.Flag, m.Count, m.Tag, m.Size)
     many = (m.Array, m.List, m.Part, m.Optional, m.If, m.Choose, m.Sized, m.Fill, m.Until, m.UpToLast, m.Blocks, m.Rest)
     parts = all(all_values(use.description.kinds) for use in m.uses(kind))
     return isinstance(kind, (m.Bool, *numbers, *given, *many)) and parts
@@ -166,7 +170,7 @@ def reader_errors(kinds: Iterable[m.Kind]) -> Iterator[tuple[str, str]]:
     """Returns the errors of the reader besides `EndOfInput` that lines may return, each with its condition."""
     for line in kinds:
         it = m.grouped(line)
-        if isinstance(it, m.Groups | m.Golomb):
+        if isinstance(it, m.Groups | m.Golomb) or m.is_golomb(it):
             yield OVERFLOW
         if isinstance(it, m.Groups) and not it.any:
             yield REDUNDANT
@@ -254,7 +258,8 @@ def is_bounded(description: m.Description, kind: m.Kind, use: m.Use) -> bool:
     """Returns true for a part that ends with a rest, without a checksum, in a choice of a stated size or of a size in units."""
     size = size_of(description, kind) if isinstance(kind, m.Sized) else None
     alone = bool(size and size.units) or isinstance(kind, m.Choose) and kind.sized
-    return alone and is_open(use) and all_values(use.description.kinds)
+    known = all_values(use.description.kinds) and not any(map(is_some_bytes, use.description.kinds))
+    return alone and is_open(use) and known
 
 
 def has_size(kind: m.Kind) -> TypeGuard[m.Measured]:
@@ -289,12 +294,12 @@ def check_printed(description: m.Description, kind: m.Printed) -> None:
             raise Refused(f"{UNPRINTED}: {why}", kind.at)
         case m.Size(groups=m.Groups() as groups) if not states_choice(description, kind, groups):
             raise Refused(f"{UNPRINTED}: in code only a choice has a size in groups, strict ones of 8 bits", kind.at)
-        case m.Size(groups=None) if m.is_limited(kind):
-            raise Refused(f"{UNPRINTED}: in code a size has a greatest value if it is in groups", kind.at)
         case m.Size(varint=True):
             if not is_octets(measured_by(description, kind)):
                 raise Refused(f"{UNPRINTED}: a size by `varint quic` is printed for bytes", kind.at)
-        case m.Size() if kind.most >= MOST_BYTES:
+        case m.Pad():
+            check_padding(description, kind)
+        case m.Size() if replace(kind, limit=None).most >= MOST_BYTES:
             raise Refused(f"{UNPRINTED}: a size of fewer than 2^60 bytes is printed", kind.at)
     if m.is_rest(kind):
         check_rest(description, kind)
@@ -305,6 +310,33 @@ def check_printed(description: m.Description, kind: m.Printed) -> None:
             raise Refused(f"`{use.module}` has sizes, so its order must be {description.order} as here", kind.at)
 
 
+def padded(description: m.Description, kind: m.Pad) -> m.Kind:
+    """Returns the line behind which zeros stand up to a multiple of bits."""
+    return next(it for it in description.kinds if m.label(it) == kind.target)
+
+
+def check_padding(description: m.Description, kind: m.Pad) -> None:
+    """Refuses zeros behind other lines of variable width than one list of parts that are read from just their bits."""
+    before = description.kinds[: description.kinds.index(kind)]
+    varies = [it for it in before if m.bits(it) is None]
+    if len(varies) > 1 or not is_parts(varies[0]):
+        raise Refused(f"{UNPRINTED}: in code one list of parts, and lines of constant width, stand before it", kind.at)
+    if any(is_loose(it) for use in m.uses(varies[0]) for it in use.description.kinds):
+        raise Refused(f"{UNPRINTED}: in code no number before it has several encodings", kind.at)
+
+
+def is_parts(kind: m.Kind) -> bool:
+    """Returns true for parts up to the last one, and for a list of parts."""
+    return isinstance(kind, m.UpToLast) or isinstance(kind, m.List) and isinstance(kind.item, m.Use)
+
+
+def is_loose(kind: m.Kind) -> bool:
+    """Returns true for a number, also in a part, that is read from more bits than are written of it."""
+    number = m.grouped(kind)
+    own = isinstance(number, m.Groups) and number.any or m.is_varint(kind)
+    return own or any(is_loose(it) for use in m.uses(kind) for it in use.description.kinds)
+
+
 def check_rest(description: m.Description, kind: m.Rest | m.Choose) -> None:
     """Refuses a rest that is no bytes, that a line follows, or whose first byte is not known."""
     head = tuple(it for it in description.kinds if it is not kind and not isinstance(it, m.Verify))
@@ -312,12 +344,14 @@ def check_rest(description: m.Description, kind: m.Rest | m.Choose) -> None:
         check_rest_item(description, kind)
     if description.kinds.index(kind) != len(head):
         raise Refused(f"{UNPRINTED}: in code the rest is the last line", kind.at)
-    if m.total(tuple(it for it in head if not is_length(it))) is None:
-        raise Refused(f"{UNPRINTED}: in code only bytes of variable length stand before the rest", kind.at)
+    if m.total(tuple(it for it in head if not varies(it))) is None:
+        why = "in code only bytes of variable length, and optional parts of constant size, stand before the rest"
+        raise Refused(f"{UNPRINTED}: {why}", kind.at)
     if head_bits(description) % 8:
         raise Refused(f"{UNPRINTED}: in code the lines before the rest have whole bytes", kind.at)
-    if any(is_length(it) for it in head) and not all_values(description.kinds):
-        raise Refused(f"{UNPRINTED}: no checksum stands with a rest after bytes of variable length", kind.at)
+    if any(varies(it) for it in head) and not all_values(description.kinds):
+        why = "no checksum stands with a rest after bytes of variable length or an optional part"
+        raise Refused(f"{UNPRINTED}: {why}", kind.at)
 
 
 def check_rest_item(description: m.Description, kind: m.Rest) -> None:
@@ -333,6 +367,16 @@ def check_rest_item(description: m.Description, kind: m.Rest) -> None:
 def is_length(kind: m.Kind) -> bool:
     """Returns true for bytes whose number an earlier line has."""
     return is_octets(kind) or isinstance(kind, m.List) and isinstance(kind.item, m.Octet)
+
+
+def is_some_bytes(kind: m.Kind) -> TypeGuard[m.Optional | m.If]:
+    """Returns true for an optional part that has a constant number of bytes if it is there."""
+    return isinstance(kind, m.Optional | m.If) and (kind.use.description.bits or 1) % 8 == 0
+
+
+def varies(kind: m.Kind) -> bool:
+    """Returns true for a line that may stand before a rest though it has no constant width."""
+    return is_length(kind) or is_some_bytes(kind)
 
 
 def head_bits(description: m.Description) -> int:
@@ -443,8 +487,8 @@ class Format:
 
     @property
     def before_rest(self) -> list[Line]:
-        """The lines of bytes before the rest, whose number is no constant."""
-        return [it for it in self.lines if self.rest and is_length(it.kind)]
+        """The lines before the rest, of bytes or optional parts, whose number of bytes is no constant."""
+        return [it for it in self.lines if self.rest and varies(it.kind)]
 
     @property
     def rest_line(self) -> Line | None:

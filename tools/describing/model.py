@@ -194,6 +194,26 @@ class Const(Line):
 
 
 @dataclass(frozen=True, slots=True)
+class Pad(Line):
+    """zeros to UNIT ERROR: zeros up to a multiple of `unit` bits, counted from the first line.
+
+    Before it are `before` bits of constant width, and the field `target`, if the number of bits is no constant. Another
+    number than `limit`, which is 0, is the error.
+    """
+
+    unit: int
+    error: str
+    before: int
+    target: str
+    limit: int | None = 0
+
+    @property
+    def counted(self) -> str:
+        """The name of the function that returns the number of zeros."""
+        return f"{self.target}_padding"
+
+
+@dataclass(frozen=True, slots=True)
 class Skip(Line):
     """any BITS, align"""
 
@@ -335,12 +355,27 @@ class UpToLast(Field):
 
 @dataclass(frozen=True, slots=True)
 class Count(Line):
-    """count LIST BITS [max N ERROR]: a number above N, the `limit`, is the error."""
+    """count LIST BITS [less N] [max N ERROR], count LIST ue [less N] [max N ERROR]: stores the number of items - `less`.
+
+    With `ue` the number is an Exp-Golomb one, and `golomb` is true. A number above N, the `limit`, is the error.
+    """
 
     target: str
     width: int
     limit: int | None = None
     error: str = ""
+    less: int = 0
+    golomb: bool = False
+
+    @property
+    def most(self) -> int:
+        """The greatest number that is stored."""
+        return self.limit if self.limit is not None else (1 << self.width) - 1 - self.golomb
+
+    @property
+    def most_items(self) -> int:
+        """The greatest number of items."""
+        return self.most + self.less
 
 
 @dataclass(frozen=True, slots=True)
@@ -367,6 +402,17 @@ class List(Field):
 
     item: Item
     power: Power | None = None
+    count: Count | None = None
+
+    @property
+    def less(self) -> int:
+        """The number of items that its `count` line does not count."""
+        return self.count.less if self.count else 0
+
+    @property
+    def computed(self) -> bool:
+        """True if the number of items is not the number that was read: then it is a fact of `Fits`."""
+        return bool(self.power or self.less)
 
 
 @dataclass(frozen=True, slots=True)
@@ -379,10 +425,10 @@ class Tag(Line):
 
 @dataclass(frozen=True, slots=True)
 class Size(Line):
-    """size NAME BITS [plus N | less N] [by N], size NAME varint quic: stores (bytes + `plus`) / `unit`.
+    """size NAME BITS [plus N | less N] [by N] [max N ERROR], size NAME varint quic [max N ERROR]: stores (bytes + `plus`) / `unit`.
 
-    size NAME BITS [max N ERROR], size NAME vbr BITS TYPE [any] [max N ERROR], size NAME leb128 TYPE [max N ERROR]: `groups` are
-    those of the number, if it is stored in groups of bits. A number above N, the `limit`, is the error.
+    size NAME vbr BITS TYPE [any] [max N ERROR], size NAME leb128 TYPE [max N ERROR]: `groups` are those of the number, if it is
+    stored in groups of bits. A stored number above N, the `limit`, is the error.
     """
 
     target: str
@@ -405,6 +451,10 @@ class Size(Line):
         units = f"{self.unit} * " * (self.unit != 1)
         more = f" {'-' if self.plus > 0 else '+'} {abs(self.plus)}" if self.plus else ""
         return f"{units}{self.target}_bytes{more}"
+
+    def stored(self, size: int) -> int:
+        """Returns the number that states `size` bytes, which some number does."""
+        return (size + self.plus) // self.unit
 
     @property
     def most(self) -> int:
@@ -431,6 +481,11 @@ class Fill(Field):
     use: Use
     error: str
     plain: bool = False
+
+    @property
+    def item(self) -> Use:
+        """The item."""
+        return self.use
 
 
 @dataclass(frozen=True, slots=True)
@@ -629,12 +684,12 @@ Described: TypeAlias = (
     Bool | Number | NonZero | MaybeNonZero | Enum | Array | Unary | Groups | Golomb | Varint | Part | Optional | If | List
     | Sized | Fill | Choose | Rest | Until | UpToLast | Blocks | Given
 )  # fmt: skip
-Hidden: TypeAlias = Const | Skip | Flag | Count | Tag | Size | Check | Verify
+Hidden: TypeAlias = Const | Pad | Skip | Flag | Count | Tag | Size | Check | Verify
 Kind: TypeAlias = Described | Hidden
 # The kinds of which code is printed.
 Printed: TypeAlias = (
     Bool | Number | NonZero | MaybeNonZero | Enum | Array | Unary | Groups | Golomb | Varint | Part | Optional | If | List
-    | Const | Skip | Flag | Count | Tag | Choose | Size | Sized | Fill | Until | UpToLast | Rest | Blocks | Check | Verify
+    | Const | Pad | Skip | Flag | Count | Tag | Choose | Size | Sized | Fill | Until | UpToLast | Rest | Blocks | Check | Verify
 )  # fmt: skip
 Measured: TypeAlias = Sized | Choose | Fill
 
@@ -765,7 +820,7 @@ def bits(kind: Kind) -> int | None:
             return kind.enum.width
         case Array():
             return kind.item.width * kind.count
-        case Size(groups=Groups()):
+        case Size(groups=Groups()) | Count(golomb=True) | Pad():
             return None
         case Const() | Skip() | Count() | Tag() | Check() | Size() if not is_varint(kind):
             return kind.width
@@ -776,12 +831,12 @@ def bits(kind: Kind) -> int | None:
     return None
 
 
-Limited: TypeAlias = Number | Count | Size
+Limited: TypeAlias = Number | Count | Size | Pad
 
 
 def is_limited(kind: Kind) -> TypeGuard[Limited]:
     """Returns true for a number with a greatest value of its own."""
-    return isinstance(kind, Number | Count | Size) and kind.limit is not None
+    return isinstance(kind, Number | Count | Size | Pad) and kind.limit is not None
 
 
 def grouped(kind: Kind) -> Kind:
@@ -792,6 +847,11 @@ def grouped(kind: Kind) -> Kind:
 def is_varint(kind: Kind) -> bool:
     """Returns true for a number whose first two bits state its length."""
     return isinstance(kind, Varint) or isinstance(kind, Size) and kind.varint
+
+
+def is_golomb(kind: Kind) -> TypeGuard[Count]:
+    """Returns true for a count that is an Exp-Golomb number."""
+    return isinstance(kind, Count) and kind.golomb
 
 
 def case_named(number: int, enum: EnumType) -> str | None:
@@ -860,7 +920,7 @@ def refusals(kind: Kind) -> list[tuple[str, str]]:
     """Returns the cases of the error for bits that a line refuses, each with the error of a part that it holds."""
     own = [(it.error, it.description.error) for it in uses(kind) if it.error]
     match kind:
-        case Const() | Sized() | Fill() | Number() | Count() | Size():
+        case Const() | Sized() | Fill() | Number() | Count() | Size() | Pad():
             own = [(kind.error, ""), *own]
         case Verify():
             own = [(kind.check.error, "")]
@@ -997,6 +1057,8 @@ def label(kind: Kind) -> str:
             return f"={kind.spelled(kind.value)}"
         case Skip():
             return "0"
+        case Pad():
+            return f"{kind.target}_zeros"
         case Flag():
             return f"has_{kind.target}"
         case Count():
@@ -1010,6 +1072,13 @@ def label(kind: Kind) -> str:
         case Verify():
             return ""
     return kind.name
+
+
+def title(kind: Kind) -> str:
+    """Returns the name of a line for a reader: that of the description for a checksum or a computed number."""
+    if isinstance(kind, Check):
+        return kind.name if isinstance(kind, Computed) else kind.sum
+    return label(kind)
 
 
 def snake(name: str) -> str:

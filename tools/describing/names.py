@@ -6,7 +6,7 @@ from typing import TypeAlias
 
 Table: TypeAlias = dict[str, str]  # the names of each module, with blanks between them
 
-SYMBOLS = {it: f"◌{it}◌" for it in "≡ ≢ ∷ ++ ^ < ≤ + - * / ∙ == ⊎ ↔ & && ||".split()}
+SYMBOLS = {it: f"◌{it}◌" for it in "≡ ≢ ∷ ++ ^ < ≤ + - * / % ∙ == ⊎ ↔ & && ||".split()}
 SYMBOLS |= {"[]": "[]", "if": "if◌then◌else◌", "←": "◌>>=◌"}
 # The letters \ue000 to \ue0ff are those of hidden names (`renamed.py`).
 LETTER = r"(?:[^\W\d]|[\ue000-\ue0ff])"
@@ -27,7 +27,7 @@ def table(text: str) -> Table:
 # In specs, and in the contracts of code.
 SPECS = table(
     """
-Rattle.std.specs.Prelude: ≡ ≢ ^ < ≤ + - * / ++ ∷ [] == ⊎ && || if ℕ ℤ Bool true false List Result Ok Err Option Some None
+Rattle.std.specs.Prelude: ≡ ≢ ^ < ≤ + - * / % ++ ∷ [] == ⊎ && || if ℕ ℤ Bool true false List Result Ok Err Option Some None
     is_some length take drop map ⊤ IfOk IsOk unsigned_abs not nat_lt nat_le
 Rattle.std.specs.List: All flat_map
 Rattle.std.specs.Option: ForSome
@@ -70,7 +70,8 @@ SPECS |= {f"Rattle.std.specs.declared.num.NonZeroU{n}": f"NonZeroU{n}" for n in 
 VALUES = table(
     """
 Rattle.std.proofs.Common: refl true subst arith
-Rattle.std.proofs.lemmas.Bool: ne_eqb
+Rattle.std.proofs.lemmas.Bool: ne_eqb le-leb
+Rattle.std.proofs.lemmas.Nat: pow_pos
 Rattle.bitstream_format.specs.Format: ← Plain=PlainFormat Own=OwnFormat Parts=FormatParts format named renamed field own_field const free sure & done
     own_done
 Rattle.bitstream_format.specs.Lists: even_array even_list own_even_list list own_list byte_list optional own_optional
@@ -105,7 +106,7 @@ Rattle.std.specs.Int: w128
 Rattle.std.proofs.lemmas.Int: to_z-of_z
 borrow.Author.Rules: sfits_of
 Rattle.bitstream_io.proofs.WriteSteps: signed_value
-Rattle.std.proofs.lemmas.Bool: eq-eqb ne_eqb cases_lt
+Rattle.std.proofs.lemmas.Bool: eq-eqb ne_eqb cases_lt le-leb
 Rattle.std.proofs.lemmas.Bool.Decides: eqb_tells
 Rattle.bitstream_io.proofs.CallerLemmas: RoundTrip Finds Packs inl inr is_error own_answered own_fields_there own_fields_short
     own_prefix_answered fields_there fields_short prefix_answered slice_ends

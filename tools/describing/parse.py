@@ -51,14 +51,14 @@ STARTS = {
     "const": "`const BITS VALUE ERROR`",
     "any": "`any BITS`",
     "align": "`align`",
-    "zeros": "`zeros BITS ERROR`",
+    "zeros": "`zeros BITS ERROR` or `zeros to MULTIPLE ERROR`",
     "flag": "`flag NAME`",
     "option": "`option NAME TYPE of MODULE`",
     "if": "`if TEST [and TEST] NAME TYPE of MODULE` or `if TEST or TEST NAME TYPE of MODULE`",
-    "count": "`count LIST BITS` or `count LIST BITS max N ERROR`",
+    "count": "`count LIST BITS [less N] [max N ERROR]` or `count LIST ue [less N] [max N ERROR]`",
     "list": f"{LIST.format('list')}, the first or the last also with `power FIELD [plus N] [if BIT]`",
     "tag": "`tag NAME BITS`",
-    "size": "`size NAME BITS [plus N | less N] [by N]`, `size NAME varint quic`, `size NAME BITS max N ERROR`, "
+    "size": "`size NAME BITS [plus N | less N] [by N] [max N ERROR]`, `size NAME varint quic [max N ERROR]`, "
     "`size NAME vbr BITS TYPE [any] [max N ERROR]` or `size NAME leb128 TYPE [max N ERROR]`",
     "sized": "`sized NAME TYPE of MODULE ERROR` or `sized NAME bytes [ERROR]`",
     "fill": "`fill NAME TYPE of MODULE ERROR`",
@@ -98,9 +98,9 @@ class Context:
                         return enum
         return None
 
-    def counted(self, name: str) -> bool:
-        """Returns true if an earlier line counts the items of a list."""
-        return any(isinstance(it, m.Count) and it.target == name for it in self.kinds)
+    def count_of(self, name: str) -> m.Count | None:
+        """Returns the earlier line that counts the items of a list, or None if there is none."""
+        return next((it for it in self.kinds if isinstance(it, m.Count) and it.target == name), None)
 
     def tagged(self, name: str) -> bool:
         """Returns true if an earlier line is the tag of this name."""
@@ -348,15 +348,28 @@ def quic(words: Words) -> None:
 def const_line(words: Words, context: Context, at: Position) -> m.Kind:
     width = words.number(1, 32, "the width of a constant")
     digits, value = words.peek(), words.number(0, (1 << width) - 1, "the constant")
-    found = m.Const(at, words.behind, width, value, words.next(), digits)
-    return found if found.doc else replace(found, doc=f"The bits are not {found.spelled(value)}.")
+    return m.Const(at, words.behind, width, value, words.next(), digits)
 
 
 def zeros_line(words: Words, context: Context, at: Position) -> m.Kind:
+    if words.skip("to"):
+        return padding(words, context, at)
     if len(words.found) != 3:
         raise Refused("`zeros BITS ERROR`, or `any BITS` if any bits are read there", at)
     width = words.number(1, 32, "the width of a constant")
-    return m.Const(at, words.behind or "The bits are not 0.", width, 0, words.next())
+    return m.Const(at, words.behind, width, 0, words.next())
+
+
+def padding(words: Words, context: Context, at: Position) -> m.Kind:
+    """Takes MULTIPLE ERROR of zeros up to a multiple of bits."""
+    unit = words.number(2, 64, "the multiple of bits")
+    varies = [it for it in context.kinds if m.bits(it) is None]
+    before = sum(m.bits(it) or 0 for it in context.kinds)
+    if not varies:
+        why = f"{before} bits stand before it" if before % unit else f"nothing to fill: {before} bits stand before it"
+        raise Refused(f"{why}{f': take `zeros {-before % unit} ERROR`' * bool(before % unit)}", at)
+    doc = words.behind or f"The bits up to a multiple of {unit} are not 0."
+    return m.Pad(at, doc, unit, words.next(), before, m.label(varies[-1]))
 
 
 def any_line(words: Words, context: Context, at: Position) -> m.Kind:
@@ -440,8 +453,14 @@ def asked_value(
 
 def count_line(words: Words, context: Context, at: Position) -> m.Kind:
     name = words.next()
-    width = words.number(1, 32, "the width of a count")
-    return m.Count(at, words.behind, name, width, *limit(words, (1 << width) - 1))
+    golomb = words.skip("ue")
+    width = 32 if golomb else words.number(1, 32, "the width of a count")
+    if words.peek() in ("plus", "by"):
+        raise words.refuse("a count stores the number of items, or `less N` than that", 0)
+    less = words.number(1, 1 << 16, "what is not counted") if words.skip("less") else 0
+    found = m.Count(at, words.behind, name, width, less=less, golomb=golomb)
+    most, error = limit(words, found.most)
+    return replace(found, limit=most, error=error)
 
 
 def list_line(words: Words, context: Context, at: Position) -> m.Kind:
@@ -449,9 +468,12 @@ def list_line(words: Words, context: Context, at: Position) -> m.Kind:
     found, doc = item(words, context)
     if words.skip("power"):
         return m.List(at, doc, name, found, power(words, context, found))
-    if not context.counted(name):
+    count = context.count_of(name)
+    if not count:
         raise Refused(f"no `count {name} BITS` before it", place)
-    return m.List(at, doc, name, found)
+    if isinstance(found, m.Octet | m.EnumType) and (count.less or count.golomb):
+        raise Refused(f"`ue` and `less` count numbers or parts, and `{name}` is a list of others", place)
+    return m.List(at, doc, name, found, None, count)
 
 
 def power(words: Words, context: Context, found: m.Item) -> m.Power:
@@ -478,15 +500,12 @@ def size_line(words: Words, context: Context, at: Position) -> m.Kind:
     name = words.next()
     if words.peek() == "varint":
         quic(words)
-        return m.Size(at, words.behind, name, 62, 1, 0, True)
+        return m.Size(at, words.behind, name, 62, 1, 0, True, None, *limit(words, (1 << 62) - 1))
     if words.peek() in ("vbr", "leb128"):
         return grouped_size(words, context, at, name)
     width = words.number(1, 64, "the width of a size")
-    if words.peek() == "max":
-        most, error = limit(words, (1 << width) - 1)
-        return m.Size(at, words.behind, name, width, 1, 0, False, None, most, error)
     unit, plus = units(words)
-    return m.Size(at, words.behind, name, width, unit, plus)
+    return m.Size(at, words.behind, name, width, unit, plus, False, None, *limit(words, (1 << width) - 1))
 
 
 def units(words: Words) -> tuple[int, int]:
@@ -689,8 +708,7 @@ def check_line(words: Words, context: Context, at: Position) -> m.Kind:
     if name not in m.SUMS:
         raise words.refuse(f"`{name}` is no checksum: take one of {', '.join(m.SUMS)}")
     over, error, span = covered_lines(words, f"`check {name} over FIELD.. ERROR`")
-    doc = words.behind or f"The checksum of {lines_text(over, span)} is another one."
-    return m.Check(at, doc, name, over, error, span, span)
+    return m.Check(at, words.behind, name, over, error, span, span)
 
 
 def covered_lines(words: Words, form: str) -> tuple[tuple[str, ...], str, bool]:
@@ -721,8 +739,7 @@ def computed_line(words: Words, context: Context, at: Position) -> m.Kind:
     name, width = words.next(), words.number(1, 60, "the width of a computed number")
     unit, plus = units(words)
     over, error, span = covered_lines(words, STARTS["computed"])
-    doc = words.behind or f"The number of bytes of {lines_text(over, span)} is another one."
-    return m.Computed(at, doc, "bytes", over, error, span, True, name, width, unit, plus)
+    return m.Computed(at, words.behind, "bytes", over, error, span, True, name, width, unit, plus)
 
 
 TypedLine = Callable[[Words, Context, str, Position, str], m.Kind]
@@ -836,6 +853,28 @@ def take(head: Head, context: Context, words: Words) -> None:
         context.kinds.append(kind_of(words, context))
 
 
+def commented(kinds: list[m.Kind]) -> tuple[m.Kind, ...]:
+    """Returns lines with comments for their errors: a line without one has that of the first line with the same error."""
+    said: dict[str, str] = {}
+    for it in kinds:
+        if isinstance(it, m.Const | m.Check) and it.doc:
+            said.setdefault(it.error, it.doc)
+    return tuple(
+        replace(it, doc=said.get(it.error) or default_comment(it))
+        if isinstance(it, m.Const | m.Check) and not it.doc
+        else it
+        for it in kinds
+    )
+
+
+def default_comment(kind: m.Const | m.Check) -> str:
+    """Returns the comment of the error of a line that has none."""
+    if isinstance(kind, m.Const):
+        return f"The bits are not {kind.spelled(kind.value)}."
+    what = "number of bytes" if isinstance(kind, m.Computed) else "checksum"
+    return f"The {what} of {lines_text(kind.over, kind.span)} is another one."
+
+
 def verified(kinds: tuple[m.Kind, ...], order: str) -> tuple[m.Kind, ...]:
     """Returns lines with the tests of their checksums: behind the last field of one, or behind the last line."""
     names = [it.name for it in kinds if m.is_field(it)]
@@ -915,7 +954,7 @@ def parsed(text: str, find: Find) -> m.Description:
         except (ValueError, IndexError):
             why = f"`{line.strip()}` is not understood: it is "
             raise Refused(why + form_of(words), words.place()) from None
-    kinds, examples = verified(tuple(context.kinds), head.order), tuple(head.examples)
+    kinds, examples = verified(commented(context.kinds), head.order), tuple(head.examples)
     return m.Description(head.name, head.doc, head.order, head.error, kinds, head.heads, examples, head.whole)
 
 

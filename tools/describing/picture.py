@@ -3,6 +3,7 @@ from __future__ import annotations
 
 from dataclasses import dataclass, replace
 from html import escape
+from typing import Callable
 
 from describing import model as m
 from describing.table import meaning
@@ -35,6 +36,10 @@ def said(kind: m.Kind, kinds: tuple[m.Kind, ...]) -> str:
             return f"groups of {group} bits"
         case m.Golomb():
             return f"Exp-Golomb, {'se' if kind.signed else 'ue'}"
+        case m.Count():
+            return "Exp-Golomb, ue"
+        case m.Pad():
+            return f"zeros, up to a multiple of {kind.unit} bits"
         case m.Varint() | m.Size():
             return "1, 2, 4 or 8 bytes"
         case m.Part():
@@ -46,7 +51,7 @@ def said(kind: m.Kind, kinds: tuple[m.Kind, ...]) -> str:
         case m.List(power=m.Power() as power):
             return f"{power.spelled} of {m.item_type(kind.item)}{f', if {power.there}' * bool(power.there)}"
         case m.List():
-            return f"{kind.name}_count of {m.item_type(kind.item)}"
+            return f"{kind.name}_count{f' + {kind.less}' * bool(kind.less)} of {m.item_type(kind.item)}"
         case m.Sized() | m.Fill():
             held = m.held_item(kind)
             of = f"{held.name}, of " if isinstance(held, m.Use) else ""
@@ -76,19 +81,24 @@ def pieces(bits: int, used: int) -> list[int]:
     return found
 
 
-def rows_of(kinds: tuple[m.Kind, ...]) -> list[Row]:
+def name_of(kind: m.Kind) -> str:
+    """Returns the name of a line as the description has it: a flag has that of its part."""
+    return kind.target if isinstance(kind, m.Flag) else m.title(kind)
+
+
+def rows_of(kinds: tuple[m.Kind, ...], named: Callable[[m.Kind], str] = name_of) -> list[Row]:
     """Returns the cells of each row."""
     rows: list[Row] = []
     row: Row = []
     for index, kind in enumerate(kinds):
         bits = m.bits(kind)
         if bits is None:
-            rows += [row] * bool(row) + [[Cell(f"{m.label(kind)} ({said(kind, kinds)})", None, index)]]
+            rows += [row] * bool(row) + [[Cell(f"{named(kind)} ({said(kind, kinds)})", None, index)]]
             row = []
             continue
         parts = pieces(bits, width(row))
         for k, n in enumerate(parts):
-            row.append(Cell(m.label(kind) if k == parts.index(max(parts)) else "", n, index))
+            row.append(Cell(named(kind) if k == parts.index(max(parts)) else "", n, index))
             if width(row) == WIDE:
                 rows, row = rows + [row], []
     return rows + [row] * bool(row)
@@ -115,13 +125,16 @@ def shortened(rows: list[Row]) -> list[tuple[Row, int]]:
     return found
 
 
-def text(kinds: tuple[m.Kind, ...], decimal: bool = False) -> list[str]:
-    """Returns the picture as lines of text, in a code block. With `decimal` no constant keeps its notation."""
-    if decimal:
+def text(kinds: tuple[m.Kind, ...], in_code: bool = False) -> list[str]:
+    """Returns the picture as lines of text, in a code block.
+
+    With `in_code` it has the names that lines have in code, as `has_layers`, and each constant is decimal.
+    """
+    if in_code:
         kinds = tuple(replace(it, digits="") if isinstance(it, m.Const) else it for it in kinds)
     tens = "".join(f"{k // 10} " if k % 10 == 0 else "  " for k in range(WIDE)).rstrip()
     out, above = [f" {tens}", " " + " ".join(str(k % 10) for k in range(WIDE))], 0
-    for row, count in shortened(rows_of(kinds)):
+    for row, count in shortened(rows_of(kinds, m.label if in_code else name_of)):
         wide = WIDE if row[0].bits is None else width(row)
         out.append("+-" * max(above, wide) + "+")
         if row[0].bits is None:
@@ -153,7 +166,8 @@ def svg_cell(it: Cell, count: int, x: int, y: int, kinds: tuple[m.Kind, ...], hu
     kind, wide = kinds[it.index], it.bits or WIDE
     name = it.text + (f" ({count} rows)" if count > 1 else "")
     bits = m.bits(kind)
-    tip = f"{m.label(kind)}: {f'{bits} bits' if bits is not None else said(kind, kinds)}. {meaning(kind)}"
+    size = said(kind, kinds) if bits is None else f"{bits} bit{'s' * (bits != 1)}"
+    tip = f"{name_of(kind)}: {size}. {meaning(kind)}".strip()
     shape = f'<rect x="{x}" y="{y}" width="{wide * CELL}" height="{HIGH}"/>'
     style = f'style="--h:{hue}"' if m.is_field(kind) else ""
     group = f'<g class="cell{" open" * (bits is None)}{"" if style else " plain"}" data-kind="{it.index}" {style}>'

@@ -126,12 +126,12 @@ def listed(f: Format, root: str) -> dict[str, list[str]]:
 
 
 def add_line(folder: str, place: str, line: str) -> None:
-    """Adds a line that names a file, if it is not there, before the first line like it that is greater."""
+    """Adds a line that names a file, if it is not there, before the first line like it with a greater name."""
     path = os.path.join(folder, place)
     lines = text_of(path).rstrip("\n").split("\n") if os.path.exists(path) else []
     if line not in lines:
         like = [k for k, it in enumerate(lines) if it.split(" ")[:-1] == line.split(" ")[:-1]]
-        at = next((k for k in like if lines[k] > line), like[-1] + 1 if like else len(lines))
+        at = next((k for k in like if lines[k].rstrip(";") > line.rstrip(";")), like[-1] + 1 if like else len(lines))
         apart = [""] * (place.endswith(".rt") and bool(lines) and not like)
         put(folder, place, "\n".join([*lines[:at], *apart, line, *lines[at:]]) + "\n")
 

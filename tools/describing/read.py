@@ -22,7 +22,8 @@ class Node:
 
 
 OVERFLOW = "The number has more bits than its type."
-Scope: TypeAlias = dict[str, int]
+START = "the first bit of the record"
+Scope: TypeAlias = dict[str, int]  # the numbers of the lines so far, and where the record starts
 Reader: TypeAlias = Callable[["Input", Scope], Node]
 ItemReader: TypeAlias = Callable[["Input"], tuple[Value, list[Node]]]
 
@@ -47,7 +48,11 @@ def values(kind: m.Kind) -> Callable[[Input], Value] | None:
             return lambda row: row.number(width) + 1
         case m.MaybeNonZero(integer=m.Integer(width=width)):
             return lambda row: row.number(width) or None
-        case m.Count(width=width) | m.Tag(width=width) | m.Check(width=width):
+        case m.Count(golomb=True, less=less):
+            return lambda row: golomb(row) + less
+        case m.Count(width=width, less=less):
+            return lambda row: row.number(width) + less
+        case m.Tag(width=width) | m.Check(width=width):
             return lambda row: row.number(width)
         case m.Varint() | m.Size(varint=True):
             return lambda row: row.number(8 * (1 << row.number(2)) - 2)
@@ -148,14 +153,19 @@ def of_groups(kind: m.Groups) -> Callable[[Input], Value]:
     return read
 
 
+def golomb(row: Input) -> int:
+    """Takes an Exp-Golomb number without a sign."""
+    at, zeros = row.at, row.unary(1)
+    if zeros > 31:
+        raise ReadError("VariableWidthOverflow", at, why=OVERFLOW)
+    return (1 << zeros) - 1 + (row.number(zeros) if zeros else 0)
+
+
 def of_golomb(signed: bool) -> Callable[[Input], Value]:
     """Returns the reader of an Exp-Golomb number."""
 
     def read(row: Input) -> Value:
-        at, zeros = row.at, row.unary(1)
-        if zeros > 31:
-            raise ReadError("VariableWidthOverflow", at, why=OVERFLOW)
-        found = (1 << zeros) - 1 + (row.number(zeros) if zeros else 0)
+        found = golomb(row)
         return found if not signed else found // 2 + 1 if found % 2 else -(found // 2)
 
     return read
@@ -213,8 +223,9 @@ def part_reader(use: m.Use) -> ItemReader:
         try:
             nodes = record(row)
         except ReadError as it:
-            answer = use.error if it.answer in theirs else it.answer
-            raise ReadError(answer, it.place, it.path, it.why) from None
+            if it.answer not in theirs:
+                raise
+            raise ReadError(use.error, it.place, it.path, it.why, it.case) from None
         return value_of(nodes), nodes
 
     return read
@@ -255,16 +266,18 @@ def composite(kind: m.Kind) -> Composite:
             return there_reader(use, lambda scope: scope[f"has_{name}"] == 1)
         case m.If(use=use, holds=holds):
             return there_reader(use, holds)
+        case m.Pad():
+            return padding(kind)
         case m.List(item=item, power=m.Power() as power):
             return powered(power, item)
         case m.List(item=item, name=name):
             return counted(name, item)
         case m.Rest(item=item):
             return up_to_end(item)
-        case m.Sized(name=name, item=item, error=error):
-            return sized(name, item, error)
-        case m.Fill(name=name, use=use, error=error):
-            return filling(name, use, error)
+        case m.Sized():
+            return sized(kind)
+        case m.Fill():
+            return filling(kind)
         case m.UpToLast():
             return up_to_last(kind)
         case m.Choose():
@@ -276,6 +289,19 @@ def there_reader(use: m.Use, asks: Callable[[Scope], bool]) -> Composite:
     """Returns the reader of a part that is there or not."""
     part = part_reader(use)
     return lambda row, scope: part(row) if asks(scope) else (None, [])
+
+
+def padding(kind: m.Pad) -> Composite:
+    """Returns the reader of zeros up to a multiple of bits."""
+
+    def read(row: Input, scope: Scope) -> tuple[Value, list[Node]]:
+        at = row.at
+        found = row.number(-(at - scope[START]) % kind.unit)
+        if found:
+            raise ReadError(kind.error, at, why=f"{kind.doc} The number is {found}.")
+        return found, []
+
+    return read
 
 
 def counted(name: str, item: m.Item) -> Composite:
@@ -332,40 +358,49 @@ def bytes_left(row: Input) -> int:
     return (row.end - row.at) // 8
 
 
-def within(row: Input, size: int, error: str, read: Callable[[], tuple[Value, list[Node]]]) -> tuple[Value, list[Node]]:
+def bytes_text(count: int) -> str:
+    """Returns the text of a number of bytes."""
+    return f"{count} byte{'s' * (count != 1)}"
+
+
+def within(
+    row: Input, kind: m.Measured, size: int, error: str, read: Callable[[], tuple[Value, list[Node]]]
+) -> tuple[Value, list[Node]]:
     """Runs a reader on exactly `size` bytes: no bit after them is read, and none may be left."""
     start = row.at
     if size < 0:
-        raise ReadError(error or "SizeTooSmall", start, why=f"The size would be {size} bytes.")
+        raise ReadError(error or "SizeTooSmall", start, why=f"The size would be {bytes_text(size)}.")
     if not row.reach(start + 8 * size):
-        raise ReadError("EndOfInput", start, why=f"The size is {size} bytes.")
+        raise ReadError("EndOfInput", start, why=f"The size of `{kind.name}` is {bytes_text(size)}.")
     end, fetch = row.end, row.fetch
     row.end, row.fetch = start + 8 * size, None
     try:
         found = read()
         if row.at != row.end:
-            raise ReadError(error, row.at, why=f"{(row.end - row.at + 7) // 8} bytes of the size are left.")
+            left = (row.end - row.at + 7) // 8
+            raise ReadError(error, row.at, why=f"{bytes_text(left)} of the size {'is' if left == 1 else 'are'} left.")
     except ReadError as it:
         if it.answer != "EndOfInput":
             raise
-        raise ReadError(error, it.place, it.path, f"The size of {size} bytes ends here.") from None
+        why = f"The size of `{kind.name}`, {bytes_text(size)}, ends here. {it.why}".strip()
+        raise ReadError(error, it.place, it.path, why) from None
     finally:
         row.end, row.fetch = end, fetch
     return found
 
 
-def sized(name: str, item: m.Item, error: str) -> Composite:
+def sized(kind: m.Sized) -> Composite:
     """Returns the reader of one part, or of bytes, whose size was read before."""
-    one, key = item_reader(item), f"{name}_bytes"
-    if isinstance(item, m.Octet):
-        return lambda row, scope: within(row, scope[key], error, lambda: (row.bytes(scope[key]), []))
-    return lambda row, scope: within(row, scope[key], error, lambda: one(row))
+    one, key = item_reader(kind.item), f"{kind.name}_bytes"
+    if isinstance(kind.item, m.Octet):
+        return lambda row, scope: within(row, kind, scope[key], kind.error, lambda: (row.bytes(scope[key]), []))
+    return lambda row, scope: within(row, kind, scope[key], kind.error, lambda: one(row))
 
 
-def filling(name: str, use: m.Use, error: str) -> Composite:
+def filling(kind: m.Fill) -> Composite:
     """Returns the reader of parts up to the end of a size."""
-    fill, key = up_to_end(use), f"{name}_bytes"
-    return lambda row, scope: within(row, scope[key], error, lambda: fill(row, scope))
+    fill, key = up_to_end(kind.use), f"{kind.name}_bytes"
+    return lambda row, scope: within(row, kind, scope[key], kind.error, lambda: fill(row, scope))
 
 
 def choice(kind: m.Choose) -> Composite:
@@ -389,7 +424,7 @@ def choice(kind: m.Choose) -> Composite:
         if not kind.sized:
             return held(row, number)
         size = bytes_left(row) if kind.to_end else scope[f"{kind.name}_bytes"]
-        return within(row, size, kind.overrun, lambda: held(row, number))
+        return within(row, kind, size, kind.overrun, lambda: held(row, number))
 
     return read
 
@@ -407,12 +442,14 @@ def limited(kind: m.Kind, simple: Callable[[Input], Value] | None) -> Callable[[
     """Returns a reader that also refuses a number above the greatest value of its line."""
     if simple is None or not m.is_limited(kind):
         return simple
-    one, most, error = simple, kind.limit or 0, kind.error
+    one, error = simple, kind.error
+    most = kind.most_items if isinstance(kind, m.Count) else kind.limit or 0
 
     def read(row: Input) -> Value:
         at, found = row.at, one(row)
-        if number_in(found) > most:
-            raise ReadError(error, at, why=f"The number is {number_in(found)}, and the greatest one is {most}.")
+        number = kind.stored(number_in(found)) if isinstance(kind, m.Size) else number_in(found)
+        if number > most:
+            raise ReadError(error, at, why=f"The number is {number}, and the greatest one is {most}.")
         return found
 
     return read
@@ -420,7 +457,7 @@ def limited(kind: m.Kind, simple: Callable[[Input], Value] | None) -> Callable[[
 
 def composite_reader(kind: m.Kind, parts: Composite) -> Reader:
     """Returns the reader of a line whose value has parts."""
-    name = m.label(kind)
+    name = m.title(kind)
 
     def read(row: Input, scope: Scope) -> Node:
         start = row.at
@@ -435,7 +472,7 @@ def composite_reader(kind: m.Kind, parts: Composite) -> Reader:
 
 def simple_reader(kind: m.Kind, simple: Callable[[Input], Value]) -> Reader:
     """Returns the reader of a line whose value has no parts; later lines may depend on its number."""
-    name = "" if isinstance(kind, m.Const | m.Skip) else m.label(kind)
+    name = "" if isinstance(kind, m.Const | m.Skip) else m.title(kind)
     known = kind.enum if isinstance(kind, m.Enum) else None
     key = kind.name if isinstance(kind, m.Tag) else name
 
@@ -444,7 +481,7 @@ def simple_reader(kind: m.Kind, simple: Callable[[Input], Value]) -> Reader:
         try:
             value = simple(row)
         except ReadError as it:
-            raise it.inside(m.label(kind)) from None
+            raise it.inside(m.title(kind)) from None
         if isinstance(value, int):
             scope[key] = value
         elif known and isinstance(value, str):
@@ -468,13 +505,12 @@ def verify(check: m.Check, nodes: list[Node], description: m.Description) -> Non
     try:
         found = checksum_of(check, description, values)
     except Unfit as it:
-        raise ReadError(check.error, stored.start, why=str(it)) from None
+        raise ReadError(check.error, stored.start, m.title(check), str(it)) from None
     if stored.value == found:
         return
-    if isinstance(check, m.Computed):
-        why = f"{check.doc} The number is {number_in(stored.value)}, and {found} is right."
-        raise ReadError(check.error, stored.start, check.name, why)
-    raise ReadError(check.error, stored.start, why=f"The {check.sum} is {found:#x}.")
+    form = "{}" if isinstance(check, m.Computed) else "{:#x}"
+    why = f"{check.doc} The number is {form.format(number_in(stored.value))}, and {form.format(found)} is right."
+    raise ReadError(check.error, stored.start, m.title(check), why)
 
 
 def given_node(kind: m.Given, given: Mapping[str, Value], row: Input) -> Node:
@@ -495,7 +531,7 @@ def record_reader(description: m.Description, given: Mapping[str, Value] = {}) -
         readers.append(kind if isinstance(kind, m.Verify | m.Given) else reader_of(kind))
 
     def read(row: Input) -> list[Node]:
-        scope: Scope = {}
+        scope: Scope = {START: row.at}
         found: list[Node] = []
         for one in readers:
             if isinstance(one, m.Verify):

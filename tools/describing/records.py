@@ -177,6 +177,7 @@ class Records:
         begins = f"record {self.number} begins at byte {start // 8} and is"
         torn = f"{begins} torn: the input ends at byte {self.row.end // 8}, in `{it.path}`"
         if it.answer == "EndOfInput":
+            torn += f": {it.clause}" if it.why else ""
             raise Torn(torn, Record(self.number, start, self.row.end, [], torn, True))
         end = start + self.bits if self.bits else it.place // 8 * 8 + 8
         found = Record(self.number, start, end, [], f"{begins} refused: {it}")
@@ -228,7 +229,7 @@ def look_inside(nodes: list[Node], name: str, other: m.Description, row: Input) 
                 node.nodes = read(inner)
             except ReadError as it:
                 answer = f"{it.answer} of the bytes of `{name}`" if it.answer == "EndOfInput" else it.answer
-                raise ReadError(answer, it.place, f"{name}.{it.path}", it.why) from None
+                raise ReadError(answer, it.place, f"{name}.{it.path}", it.why, it.inner) from None
             node.value = value_of(node.nodes)
         else:
             look_inside(node.nodes, name, other, row)

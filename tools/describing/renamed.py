@@ -52,7 +52,7 @@ def hidden_kind(kind: Held, names: set[str]) -> Held:
         said = getattr(kind, attribute, None)
         if isinstance(said, str) and said in names:
             found[attribute] = hidden(said)
-    for attribute in ("use", "item"):
+    for attribute in ("use", *["item"] * (not isinstance(kind, m.Fill))):
         use = getattr(kind, attribute, None)
         if isinstance(use, m.Use):
             found[attribute] = hidden_use(use, names)
@@ -63,6 +63,8 @@ def hidden_kind(kind: Held, names: set[str]) -> Held:
     if isinstance(kind, m.List) and kind.power:
         field, there = (hidden(it) if it in names else it for it in (kind.power.field, kind.power.there))
         found["power"] = dataclasses.replace(kind.power, field=field, there=there)
+    if isinstance(kind, m.List) and kind.count:
+        found["count"] = hidden_kind(kind.count, names)
     if isinstance(kind, m.Verify):
         found["check"] = hidden_kind(kind.check, names)
     if isinstance(kind, m.Choose):

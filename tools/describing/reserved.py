@@ -1,4 +1,9 @@
 """Names that the printed text uses itself: no field may have some, and others need another name for its variable."""
+from __future__ import annotations
+
+import textwrap
+
+from describing.names import TAKEN
 
 # Words of the languages: no field may have one of these names.
 WORDS = frozenset(
@@ -27,3 +32,19 @@ LIFTED = (QUOTED - WORDS) | frozenset(
     rw search signed simp take unsigned value word words writer zeros
     """.split()
 )
+# The names of clauses of the contract: no error has a case of such a name in snake case.
+CLAUSES = ("there", "short", "answer", "back")
+
+
+def listed() -> str:
+    """Returns the text that lists all names that `./format` refuses."""
+    groups = {
+        "No field has one of these names, words of Rust or of Rattle": WORDS,
+        "No type or case has one of these names": TYPE_WORDS,
+        "No type, and no case of an error, has one of these names": {
+            it for it in TAKEN if it.isascii() and it[0].isupper()
+        },
+        "No case of an error has one of these names": {it.capitalize() for it in CLAUSES},
+    }
+    wrap = textwrap.TextWrapper(120, initial_indent="    ", subsequent_indent="    ").fill
+    return "\n".join(f"{said}:\n\n{wrap(' '.join(sorted(names)))}\n" for said, names in groups.items())

@@ -32,10 +32,10 @@ numbered from 0, and the lines of JSON from 1.
     sized body Notes of notes OtherSize                a part of a size in plain bytes whose last line is a `rest`
     size body leb128 u32                               the size of anything but a choice in groups of bits; `leb128` and
                                                        `any` also accept more groups than needed
-    size body 16 max 1500 LongBody                     the error's variant for a size in bits above 1500
     level u8 4 max 8 High                              a number with a greatest value, if all widths are constants
     until name u16 16 0                                numbers up to the first 0, which is no item; or any width
     check crc32 over level Wrong                       a checksum of fields of any kind
+    zeros to 32 NotPadded                              zeros behind other lines of variable width than a list of parts
 
 A size limits the reader: no bit after it is read.
 

@@ -43,6 +43,12 @@ def value_text(value: Value) -> str:
     return str(value)
 
 
+def node_text(node: Node) -> str:
+    """Returns the text of the value of a node; a record has its rows below it, and no text of its own."""
+    is_record = isinstance(node.value, dict) and node.nodes and not isinstance(node.kind, m.Choose)
+    return "" if is_record else value_text(node.value)
+
+
 def listed(value: list[Value]) -> str:
     """Returns the text of a list, with its letters if all items are letters."""
     letters = [chr(it) for it in value if isinstance(it, int) and 32 <= it < 127]
@@ -68,12 +74,14 @@ def meaning(kind: m.Kind | None) -> str:
     match kind:
         case None:
             return ""
-        case m.Const():
+        case m.Const() | m.Check():
             return f"else {kind.error}: {kind.doc}"
         case m.Skip():
             return "any bits"
         case m.Flag():
             return f"1 if {kind.target} is there"
+        case m.Pad():
+            return f"else {kind.error}: {kind.doc}"
         case m.Count():
             return f"the number of items of {kind.target}"
         case m.Tag():
@@ -107,7 +115,7 @@ class Table:
         key = (id(kind), depth)
         found = self.lines.get(key)
         if found is None:
-            found = self.lines[key] = ("  " * depth + (name or m.label(kind)), meaning(kind), not m.is_field(kind))
+            found = self.lines[key] = ("  " * depth + (name or m.title(kind)), meaning(kind), not m.is_field(kind))
         return found
 
     def rows(self, nodes: list[Node], depth: int, found: list[Row]) -> None:
@@ -117,7 +125,7 @@ class Table:
             name, means, hidden = self.line(kind, it.name, depth)
             if value and type(kind) is m.Skip:
                 means = "any bits, here not zero"
-            text, number = shortened(value_text(value)), number_of(it)
+            text, number = shortened(node_text(it)), number_of(it)
             said = f"{text} {number}" if text and number else text or number
             found.append((place(it.start), str(it.end - it.start), name, said, means, hidden))
             if it.nodes:
@@ -149,9 +157,9 @@ class FlatTable:
         self.offsets = [at >> 3 for _, at, _, _, _ in plan.lines]
         self.rests = [(k, it[2], it[3]) for k, it in enumerate(plan.lines) if isinstance(it[0], m.Skip)]
         self.parts = list[tuple[str, str]]()
-        wide, long = (max(map(len, it)) for it in zip(*((str(m.bits(it[0])), m.label(it[0])) for it in plan.lines)))
+        wide, long = (max(map(len, it)) for it in zip(*((str(m.bits(it[0])), m.title(it[0])) for it in plan.lines)))
         for k, (kind, at, _, most, _) in enumerate(plan.lines):
-            name = f"{hues[k % len(hues)] if m.is_field(kind) else dim}{m.label(kind).ljust(long)}{self.off}"
+            name = f"{hues[k % len(hues)] if m.is_field(kind) else dim}{m.title(kind).ljust(long)}{self.off}"
             before = f"{BIT[at & 7]} {str(most.bit_length()).rjust(wide)}  {name}  "
             means = "%s" if isinstance(kind, m.Skip) else meaning(kind).replace("%", "%%")
             self.parts.append((before.replace("%", "%%"), f"  {dim}{means}{self.off}".rstrip()))

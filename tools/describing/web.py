@@ -91,8 +91,8 @@ def tree(nodes: list[Node], kinds: Kinds) -> list[Json]:
     """Returns nodes: the name, the first bit, the bits, the value, the line, and the parts."""
     found: list[Json] = []
     for it in nodes:
-        name = it.name or (m.label(it.kind) if it.kind else "")
-        value = table.shortened(f"{table.value_text(it.value)} {table.number_of(it)}".strip(), 160)
+        name = it.name or (m.title(it.kind) if it.kind else "")
+        value = table.shortened(f"{table.node_text(it)} {table.number_of(it)}".strip(), 160)
         found.append([name, it.start, it.end - it.start, value, kinds.index(it.kind), tree(it.nodes, kinds)])
     return found
 

@@ -407,13 +407,19 @@ def put_hidden(bits: Bits, kind: m.Hidden, description: m.Description, whole: Re
             bits.put(kind.value, kind.width)
         case m.Skip():
             bits.put(0, kind.width)
+        case m.Pad():
+            bits.put(0, -bits_before(kind, description, whole, path) % kind.unit)
         case m.Flag():
             bits.put(whole.get(kind.target) is not None, 1)
         case m.Count(target=counted):
             target = field_of(description, lambda it: it.name == counted)
             octets = isinstance(m.held_item(target), m.Octet)
-            found = length(kind.target, whole.get(kind.target), octets)
-            bits.put(number(m.label(kind), found, 0, most_stored(kind)), kind.width)
+            found = number(
+                m.label(kind), length(kind.target, whole.get(kind.target), octets), kind.less, kind.most_items
+            )
+            if kind.golomb:
+                return put_golomb(bits, m.label(kind), False, found - kind.less)
+            bits.put(found - kind.less, kind.width)
         case m.Tag(name=tag):
             target = field_of(description, lambda it: isinstance(it, m.Choose) and it.by == tag)
             assert isinstance(target, m.Choose)
@@ -423,7 +429,15 @@ def put_hidden(bits: Bits, kind: m.Hidden, description: m.Description, whole: Re
             put_size(bits, kind, description, whole, path)
         case m.Check():
             found = checksum_of(kind, description, whole, path)
-            bits.put(number(m.label(kind), found, 0, (1 << kind.width) - 1), kind.width)
+            bits.put(number(m.title(kind), found, 0, (1 << kind.width) - 1), kind.width)
+
+
+def bits_before(kind: m.Pad, description: m.Description, whole: Record, path: str) -> int:
+    """Returns the number of bits of the lines before zeros up to a multiple of bits."""
+    inside, asked = Bits(description.order), whole | tags(description, whole, path)
+    for it in description.kinds[: description.kinds.index(kind)]:
+        put_line(inside, it, description, whole, asked, path)
+    return inside.count
 
 
 def checksum_of(kind: m.Check, description: m.Description, whole: Record, path: str = "") -> int:
@@ -435,7 +449,7 @@ def checksum_of(kind: m.Check, description: m.Description, whole: Record, path: 
         return checksum(kind.sum, inside.bytes())
     found, left = divmod(len(inside.bytes()) + kind.plus, kind.unit)
     if left or found < 0:
-        raise Unfit(f"`{joined(path, m.label(kind))}` has no number for {len(inside.bytes())} bytes")
+        raise Unfit(f"`{joined(path, m.title(kind))}` has no number for {len(inside.bytes())} bytes")
     return found
 
 
@@ -443,7 +457,7 @@ def put_line(bits: Bits, kind: m.Kind, description: m.Description, whole: Record
     """Writes a line; `asked` has the numbers of the tags, too."""
     if m.is_field(kind):
         put_field(bits, kind, whole.get(kind.name), asked, joined(path, kind.name))
-    elif isinstance(kind, m.Const | m.Skip | m.Flag | m.Count | m.Tag | m.Size | m.Check):
+    elif isinstance(kind, m.Const | m.Pad | m.Skip | m.Flag | m.Count | m.Tag | m.Size | m.Check):
         put_hidden(bits, kind, description, whole, path)
 
 
@@ -456,15 +470,15 @@ def put_size(bits: Bits, kind: m.Size, description: m.Description, whole: Record
     found, more = divmod(size + kind.plus, kind.unit)
     if left or more:
         raise Unfit(f"`{joined(path, kind.target)}` has {inside.count} bits, which its size cannot say")
+    number(m.label(kind), found, 0, most_stored(kind))
     if kind.varint:
         return put_varint(bits, m.label(kind), found)
-    number(m.label(kind), found, 0, most_stored(kind))
     if kind.groups:
         return put_groups(bits, m.label(kind), kind.groups, found)
     bits.put(found, kind.width)
 
 
-def most_stored(kind: m.Count | m.Size) -> int:
+def most_stored(kind: m.Size) -> int:
     """Returns the greatest number that a line stores."""
     return (1 << kind.width) - 1 if kind.limit is None else kind.limit
 

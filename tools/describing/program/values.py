@@ -27,7 +27,7 @@ def check(it: m.Description) -> None:
     """Refuses a description of which no program is printed."""
     for kind in it.kinds:
         known = is_shown(kind) or isinstance(kind, m.Const | m.Skip | m.Flag | m.Count)
-        if not known or m.is_limited(kind) or isinstance(kind, m.List) and kind.power:
+        if not known or m.is_limited(kind) or m.is_golomb(kind) or isinstance(kind, m.List) and kind.computed:
             raise Refused(f"`{m.label(kind)}`: no program is printed for it yet", kind.at)
         for use in m.uses(kind):
             try:

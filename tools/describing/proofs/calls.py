@@ -5,7 +5,7 @@ from collections import Counter
 from dataclasses import dataclass, field
 
 from describing import model as m
-from describing.layout import Format, Line, is_octets
+from describing.layout import Format, Line, is_octets, is_some_bytes
 from describing.model import snake
 from describing.proofs.chains import VIEW, Answers, Call
 from describing.specs.terms import asked_enums, by_enum, short
@@ -113,6 +113,10 @@ def read_answers(f: Format, k: int) -> str:
             known = (f"c.{steps.next('size_in_units')}.ensures",)
         if isinstance(it.kind, m.List) and it.kind.power:
             known = (f"c.{steps.next('power_count')}.ensures",)
+        if isinstance(it.kind, m.Pad):
+            known = (f"c.{steps.next(it.kind.counted)}.ensures", f"c.{steps.next('deref')}.ensures.value")
+        if isinstance(it.kind, m.List) and it.kind.less:
+            known = (f"c.{steps.next('size_in_units')}.ensures",)
         if f.rest and it.name == f.rest.name:
             known = (*known, *known_after(f, steps))
         calls.append(Call(form, fact, labels.next(read_label(it)), "", wide=wide, known=known))
@@ -133,8 +137,12 @@ def read_answers(f: Format, k: int) -> str:
 def known_after(f: Format, steps: Labels) -> list[str]:
     """Returns the equations of the number of bytes of the rest, after bytes before it."""
     found = list[str]()
-    for _ in f.before_rest:
-        found = [f"c.{steps.next('rest_after')}.ensures", f"c.{steps.next('deref')}.ensures.value", *found]
+    for it in f.before_rest:
+        if it.use and is_some_bytes(it.kind):
+            size = f"c.{steps.next(f'bytes_of_{snake(it.use.name)}')}.ensures"
+            found = [f"c.{steps.next('bytes_after')}.ensures", size, *found]
+        else:
+            found = [f"c.{steps.next('rest_after')}.ensures", f"c.{steps.next('deref')}.ensures.value", *found]
     return found
 
 
@@ -205,6 +213,8 @@ class Writes:
             case m.Golomb():
                 form = f"signed list of w32 {self.fields}.{kind.name}" if kind.signed else "list"
                 return form, f"write_{short(kind)}", "", ""
+            case m.Count(golomb=True):
+                return "list", f"write_{kind.target}_count", "", ""
             case m.Varint() | m.Size(varint=True):
                 return "list", "write_varint", "", ""
             case m.Until():
@@ -215,6 +225,8 @@ class Writes:
                 return "call", "write_const", "writes", ""
             case m.Skip():
                 return "call", "pad", "writes", ""
+            case m.Pad():
+                return "value", "write_var", "writes", ""
             case m.Unary():
                 return "call", "write_unary", "writes", ""
             case m.Rest() | m.Sized(item=m.Octet()):
@@ -237,6 +249,8 @@ class Writes:
         match kind:
             case m.Flag():
                 return (f"c.{self.steps.next('is_some')}.ensures",)
+            case m.Pad():
+                return (f"c.{self.steps.next(kind.counted)}.ensures", f"c.{self.steps.next('deref')}.ensures.value")
             case m.Enum() | m.Tag():
                 return (f"c.{self.steps.next('number')}.ensures",)
             case m.Size():
@@ -246,7 +260,8 @@ class Writes:
             case m.Check():
                 return (f"c.{kind.word}_of.ensures", *known_sum(line, self.steps))
             case m.Count():
-                return (self.known_length(kind.target),)
+                length = self.known_length(kind.target)
+                return (f"c.{self.steps.next('stored_size')}.ensures", length) if kind.less else (length,)
             case m.List() | m.Fill() | m.Until() | m.UpToLast() | m.Rest() | m.Blocks() | m.Sized(item=m.Octet()):
                 return (f"c.{self.steps.next('deref')}.ensures.value",)
         return ()

@@ -34,6 +34,19 @@ def answers(f: Format, line: Line, kind: m.List) -> Answers:
     return {f"read_{kind.name}": [goals, *found]} | write_answers(f, kind)
 
 
+def count_answers(f: Format, kind: m.Count) -> Answers:
+    """Returns the answers of the function that writes an Exp-Golomb number that counts items."""
+    write = f"write_{kind.target}_count"
+    return {
+        write: [
+            f"use {f.goals}.{write}.Goals as goal",
+            "",
+            "pub returns : goal.returns",
+            "returns g c = rw (le-leb 4294967295 c.args.number (omega arith)) c.write_ue-2.ensures",
+        ]
+    }
+
+
 def read_clause(item: m.Item, arm: str) -> str:
     """Returns the clause of the read of an item, which succeeds (`ok`) or fails (`err`)."""
     return f"c.in_{arm}-read.ensures" + ("" if isinstance(item, m.EnumType | m.Use) else ".reads")

@@ -4,10 +4,11 @@ from __future__ import annotations
 from typing import Sequence
 
 from describing import model as m
-from describing.layout import Format, Line
+from describing.layout import Format, Line, is_some_bytes
+from describing.model import snake
 from describing.proofs.found import found as line_found
 from describing.proofs.found import missed
-from describing.specs.terms import at_bits, fails, handed, known_of, only_constants, rest_count
+from describing.specs.terms import at_bits, fails, handed, known_of, only_constants, rest_count, some_bits
 
 Clause = tuple[str, str, str]  # a clause, the parameters of its answer, and the term
 OVER = "slice_ends c.over.ensures.state refl c.read.ensures"
@@ -15,11 +16,31 @@ OVER = "slice_ends c.over.ensures.state refl c.read.ensures"
 
 def parse_lines(f: Format) -> list[str]:
     """Returns the answers of `parse`."""
-    out = [f"use {f.goals}.{f.type}.parse.Goals as goal", ""] + (finds(f) if f.sized else [])
+    out = [f"use {f.goals}.{f.type}.parse.Goals as goal", "", *some_sizes(f), *(finds(f) if f.sized else [])]
     places = there(f) if f.sized else []
     for clause, given, term in [("answer", "c", answer_term(f)), *places, ("back", "c", back_term(f))]:
         goal = f"returns-clause-{clause}"
         out += [f"pub {goal} : goal.{goal}", f"{goal} {given} = {term}", ""]
+    return out
+
+
+def some_parts(f: Format) -> list[Line]:
+    """Returns the optional parts before the rest."""
+    return [it for it in f.before_rest if is_some_bytes(it.kind)]
+
+
+def some_sizes(f: Format) -> list[str]:
+    """Returns the lemmas that the optional parts before the rest have whole bytes."""
+    out: list[str] = []
+    for use in {it.use.module: it.use for it in some_parts(f) if it.use}.values():
+        name, bits = f"bytes_of_{snake(use.name)}", some_bits(use, "value")
+        out += [
+            f"-- a `{use.name}` has whole bytes",
+            f"{name} : (value : Option {use.name}) → {bits} ≡ 8 * ({bits} / 8)",
+            f"{name} None = refl",
+            f"{name} (Some value) = refl",
+            "",
+        ]
     return out
 
 
@@ -39,8 +60,14 @@ def back_term(f: Format) -> str:
     front = f"(ap (({f.decoder(f.o, handed(f))}).reads 0) {is_} ∙ {back})"
     if f.rest:
         written, size = f"({f.m}_writes {f.o} value)", "omega arith"
+        wholes = {
+            f"{it.name}_whole": f"bytes_of_{snake(it.use.name)} value.{it.name}" for it in some_parts(f) if it.use
+        }
         if f.rest_line and f.rest_line.measured:
-            size = f"let whole = fits.{f.rest.name}_whole {f.o} in omega (arith, whole)"
+            wholes["whole"] = f"fits.{f.rest.name}_whole {f.o}"
+        if wholes:
+            facts = "".join(f"let {name} = {term} in " for name, term in wholes.items())
+            size = f"{facts}omega ({', '.join(['arith', *wholes])})"
         packs = f"(packs-is ({f.m}_packs {f.o} value fits) ({size}))"
         shape = f"({f.decoder(f.o, handed(f))}) {f.o} c.args.packet.now {written} {f.head} {rest_count(f)} _"
         front = f"(rest-back {shape} {packs} is (λ more. {back}))"

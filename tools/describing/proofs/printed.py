@@ -85,6 +85,10 @@ def line_answers(f: Format, line: Line) -> Answers:
         found |= sizes.stated_answers(f, line, kind)
     if isinstance(kind, m.List) and not isinstance(kind.item, m.Octet):
         found |= lists.answers(f, line, kind)
+    if isinstance(kind, m.Pad):
+        found |= sizes.padding_answers(f, kind)
+    if m.is_golomb(kind):
+        found |= lists.count_answers(f, kind)
     if isinstance(kind, m.UpToLast):
         found |= last.answers(f, line, kind)
     if isinstance(kind, m.Check):

@@ -2,13 +2,13 @@
 from __future__ import annotations
 
 import re
-from typing import assert_never
+from typing import Iterator, assert_never
 
 from describing import model as m
 from describing.examples import vectors
 from describing.input import Input, ReadError, Value
 from describing.layout import Format, Line
-from describing.names import Table, merged, modules_of
+from describing.names import Table, merged, modules_of, spec_of
 from describing.proofs.unfolds import of_lines
 from describing.read import record_reader, value_of
 from describing.specs.terms import called, handed
@@ -180,8 +180,19 @@ def rows(f: Format) -> tuple[list[str], Table]:
     wanted = {"and_then", "digits", "digits_number"} | set(of_lines((*f.handed, *f.lines)))
     found = modules_of(wanted)
     unfolds = [it for names in found.values() for it in names.split()] + sorted(it for it in wanted if it[:4] == "lib.")
+    unfolds += dict.fromkeys(paddings(f, f.lines, ""))
     out = [line for k, it in enumerate(vectors(f.description)) for line in row(f, k, *it, unfolds)]
     return out, merged(found, *[part_names(f, it) for it in (*f.handed, *f.lines)])
+
+
+def paddings(f: Format, lines: tuple[Line, ...], path: str) -> Iterator[str]:
+    """Returns the definitions of the numbers of zeros up to a multiple of bits, those of parts by their paths."""
+    for it in lines:
+        if isinstance(it.kind, m.Pad):
+            yield f"{path}{it.kind.counted}"
+        for part in it.parts:
+            if part.use:
+                yield from paddings(f, part.inner, f"Rattle.{f.crate}.specs.{spec_of(part.use.module)}.")
 
 
 def part_names(f: Format, line: Line) -> Table:

@@ -2,7 +2,7 @@
 from __future__ import annotations
 
 from describing import model as m
-from describing.layout import Format, Line, by_size, head_bits, is_octets
+from describing.layout import Format, Line, by_size, head_bits, is_octets, padded
 from describing.proofs.loops import write_answers, write_invariants
 from describing.specs.sizes import is_plain, overrun, reader_error
 from describing.specs.terms import inside
@@ -17,7 +17,7 @@ def answers(f: Format, line: Line, kind: m.Measured) -> Answers:
     found |= stated_answers(f, line, kind) if line.units else {}
     if not isinstance(kind, m.Fill):
         return found
-    counts = {f"count_{kind.name}": count_answers(f, kind)} if line.size else {}
+    counts = {f"count_{kind.name}": count_answers(f, kind.name)} if line.size else {}
     return found | counts | write_answers(f, kind)
 
 
@@ -77,13 +77,25 @@ def items_answers(f: Format, line: Line, kind: m.Fill) -> list[str]:
     return out
 
 
-def count_answers(f: Format, kind: m.Fill) -> list[str]:
+def padding_answers(f: Format, kind: m.Pad) -> Answers:
+    """Returns the answers of the functions that count the zeros up to a multiple of bits."""
+    out = [f"use {f.goals}.{kind.counted}.Goals as goal"]
+    use = m.held_item(padded(f.description, kind))
+    assert isinstance(use, m.Use)
+    written = f"(flat_map ({use.module}_writes High) c.args.items.now)"
+    for arm in ("Ok", "Err"):
+        known = f"counts-is {written} c.count_{kind.target}.ensures ∙ c.in-{arm}.is"
+        put(out, f"returns-in-{arm}", "c", f"rw ({known}) refl", kind.counted)
+    return {kind.counted: out, f"count_{kind.target}": count_answers(f, kind.target)}
+
+
+def count_answers(f: Format, name: str) -> list[str]:
     """Returns the answers of the function that counts the bits of items."""
-    out = [f"use {f.goals}.count_{kind.name}.Goals as goal"]
+    out = [f"use {f.goals}.count_{name}.Goals as goal"]
     shape = "_ 18446744073709551615 (λ x. x) _ _ _ _ _ refl (λ _. refl) (λ _ x. x) c.new-counter.ensures"
-    wrote = f"(plainly_written _ _ _ _ _ c.in_{{}}-write_{kind.name}.ensures)"
+    wrote = f"(plainly_written _ _ _ _ _ c.in_{{}}-write_{name}.ensures)"
     stop = f"count_stopped {shape} _ _ c.from_residual.ensures.1 {wrote.format('err')}"
-    put(out, f"returns-in_err-write_{kind.name}", "c", stop)
+    put(out, f"returns-in_err-write_{name}", "c", stop)
     put(out, "returns", "c", f"count_done {shape} _ c.into_written.ensures {wrote.format('ok')}")
     return out
 

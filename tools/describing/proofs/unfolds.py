@@ -27,7 +27,10 @@ def unfolds(line: Line) -> list[str]:
             return ["const_decoder"]
         case m.Skip():
             return ["skip_decoder"]
-        case m.Enum() | m.Count() | m.Tag():
+        case m.Count():
+            golomb = ["unary_decoder", "lib.Count.count_leading_zeros"] * kind.golomb
+            return [*golomb, *NUMBER, *["size_in_units", "stored_size"] * bool(kind.less)]
+        case m.Enum() | m.Tag() | m.Pad():
             return [*NUMBER]
         case m.Check():
             lines = ["lines_sum", "whole_bytes", "bytes_of"] * kind.lines

@@ -5,7 +5,7 @@ import re
 from typing import assert_never
 
 from describing import model as m
-from describing.layout import Format, Line, enum_bits, is_octets
+from describing.layout import Format, Line, enum_bits, is_octets, is_some_bytes
 from describing.model import snake
 from describing.rust.asked import test
 from describing.rust.checks import arguments
@@ -58,8 +58,11 @@ def list_limits(f: Format, line: Line, kind: m.List) -> str:
     if kind.power:
         there = f" if `{kind.power.there}` is set, and else none" * bool(kind.power.there)
         return f"{kind.power.spelled} items{there}{f', each {said}' if said else ''}."
-    bits = next(it.kind.width for it in f.lines if isinstance(it.kind, m.Count) and it.kind.target == kind.name)
-    return f"Fewer than 2^{bits}{f', each {said}' if said else ''}."
+    assert kind.count
+    many = f"Fewer than 2^{kind.count.width}"
+    if kind.less or kind.count.golomb:
+        many = f"From {kind.less} to {kind.count.most_items} items"
+    return f"{many}{f', each {said}' if said else ''}."
 
 
 def field_comment(f: Format, line: Line) -> str:
@@ -76,8 +79,9 @@ def imports(line: Line) -> list[str]:
         found.append("std::num::NonZero")
     if isinstance(kind, m.Blocks):
         found.append("bitstream_format::blocks::{Block, read_blocks, write_blocks}")
-    if isinstance(kind, m.Golomb):
-        found.append(f"bitstream_io::golomb::{{read_{short(kind)}, write_{short(kind)}}}")
+    if isinstance(kind, m.Golomb) or m.is_golomb(kind):
+        code = short(kind) if isinstance(kind, m.Golomb) else "ue"
+        found.append(f"bitstream_io::golomb::{{read_{code}, write_{code}}}")
     if isinstance(kind, m.Check) and kind.lines:
         found.append(f"bitstream_format::checksums::{kind.type}")
     for use in m.uses(kind):
@@ -113,7 +117,7 @@ def refusal(line: Line) -> str:
     """Returns the comment of the case of the error for a line."""
     if line.use:
         return f"An error of {article(line.use.name)} that is not the reader's."
-    if m.is_limited(line.kind):
+    if m.is_limited(line.kind) and not isinstance(line.kind, m.Pad):
         return limit_text(line.kind)
     if isinstance(line.kind, m.Sized):
         least = line.size.plus if line.size else 0
@@ -124,12 +128,14 @@ def refusal(line: Line) -> str:
     return line.kind.doc
 
 
-def limit_text(kind: m.Limited) -> str:
+def limit_text(kind: m.Number | m.Count | m.Size) -> str:
     """Returns the comment of the case of the error for a number above its greatest value."""
     if isinstance(kind, m.Number):
         return f"`{kind.name}` is above {kind.limit}."
     what = "number of items" if isinstance(kind, m.Count) else "size"
-    return f"The {what} of `{kind.target}` is above {kind.limit}."
+    what = "number for the size" if isinstance(kind, m.Size) and kind.units else what
+    less = f", less {kind.less}," if isinstance(kind, m.Count) and kind.less else ""
+    return f"The {what} of `{kind.target}`{less} is above {kind.limit}."
 
 
 def error_cases(line: Line) -> dict[str, list[str]]:
@@ -230,6 +236,10 @@ def read(f: Format, line: Line) -> str:
             return f"read_{kind.name}(reader, alloc)"
         case m.Rest():
             return f"reader.read_to_vec(alloc, {rest_bytes(f, kind.name)} as usize)"
+        case m.Pad():
+            return f"reader.read_var::<u64>({kind.counted}(&{kind.target}))"
+        case m.Count(golomb=True):
+            return "read_ue(reader)"
         case m.Count():
             return f"reader.read::<Bits<{kind.width}>, u64>()"
         case m.Tag() | m.Check():
@@ -272,14 +282,17 @@ def rest_bytes(f: Format, name: str) -> str:
     """Returns the number of bytes of the rest: of those that the read is given, the ones after bytes before it."""
     given = f"{name}_bytes"
     for it in f.before_rest:
-        given = f"rest_after({given}, &{it.name})"
+        some = it.use and is_some_bytes(it.kind)
+        before = f"bytes_after({given}, bytes_of_{snake(it.use.name)}({it.name}))" if it.use and some else ""
+        given = before or f"rest_after({given}, &{it.name})"
     return given
 
 
 def items_count(kind: m.List) -> str:
     """Returns the number of items of a list."""
     if not kind.power:
-        return f"{kind.name}_count"
+        count = f"{kind.name}_count{' as u64' * bool(kind.count and kind.count.golomb)}"
+        return f"size_in_units({count}, 1, {kind.less})" if kind.less else count
     return f"power_count({kind.power.there or 'true'}, {kind.power.field}, {kind.power.plus})"
 
 
@@ -363,10 +376,16 @@ def write(line: Line) -> str:
             return f"writer.write_const::<Bits<{kind.width}>, Bits<{kind.value}>>()"
         case m.Skip():
             return f"writer.pad({kind.width})"
+        case m.Pad():
+            return f"writer.write_var::<u64>({kind.counted}(&self.{kind.target}), 0)"
         case m.Flag():
             return f"writer.write_bit(self.{kind.target}.is_some())"
         case m.Count():
-            return f"writer.write::<Bits<{kind.width}>, u64>(self.{kind.target}.len() as u64)"
+            number = f"self.{kind.target}.len() as u64"
+            number = f"stored_size({number}, 1, 0, {kind.less})" if kind.less else number
+            if kind.golomb:
+                return f"write_{kind.target}_count(writer, {number})"
+            return f"writer.write::<Bits<{kind.width}>, u64>({number})"
         case m.Tag():
             return f"writer.write::<Bits<{kind.width}>, {value_type(kind)}>(self.{target}.number())"
         case m.Size():
@@ -421,7 +440,9 @@ def value_type(kind: m.Printed) -> str:
             return "bool"
         case m.Size(groups=m.Groups() as groups):
             return groups.integer.base
-        case m.Count() | m.Size():
+        case m.Count(golomb=True):
+            return "u32"
+        case m.Count() | m.Size() | m.Pad():
             return "u64"
         case m.Tag():
             return f"u{tag_bits(kind.width)}"

@@ -60,6 +60,26 @@ def read_code(f: Format, line: Line, kind: m.List) -> list[str]:
     ]
 
 
+def count_code(kind: m.Count) -> list[str]:
+    """Returns the function that writes an Exp-Golomb number of 64 bits, which counts the items of a list."""
+    return [
+        f"/// Writes the number that counts the items of `{kind.target}`.",
+        "///",
+        "/// # Errors",
+        "///",
+        "/// `Checked` if it has no Exp-Golomb encoding. If so, nothing is written. Otherwise, the errors of the sink.",
+        f"fn write_{kind.target}_count<W: BitWrite>(writer: &mut W, number: u64) -> Result<(), Error>",
+        "    ensures { WritesAll W.sink (ue_writes W.sink.order number) writer.old result writer.new }",
+        "{",
+        "    if number < u32::MAX as u64 {",
+        "        return write_ue(writer, number as u32);",
+        "    }",
+        "    write_ue(writer, u32::MAX)",
+        "}",
+        "",
+    ]
+
+
 def write_code(kind: m.List | m.Array | m.Fill | m.UpToLast) -> list[str]:
     """Returns the function that writes items."""
     item = kind.use if isinstance(kind, m.Fill | m.UpToLast) else kind.item

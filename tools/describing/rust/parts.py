@@ -5,7 +5,7 @@ from describing import model as m
 from describing.imports import part_cases
 from describing.layout import Format, Line
 from describing.model import snake
-from describing.specs.terms import here, placed
+from describing.specs.terms import here, placed, some_bits
 
 
 def error_code(f: Format, line: Line, use: m.Use) -> list[str]:
@@ -35,7 +35,25 @@ def optional_code(f: Format, line: Line, use: m.Use) -> list[str]:
     """Returns the functions that read and write an optional part."""
     if not f.is_first_optional(line):
         return []
-    return [*read_code(f, line, use), *write_code(use)]
+    size = size_code(use) if line in f.before_rest else []
+    return [*read_code(f, line, use), *write_code(use), *size]
+
+
+def size_code(use: m.Use) -> list[str]:
+    """Returns the function that counts the bytes of an optional part of a constant size."""
+    name = snake(use.name)
+    return [
+        f"/// Returns the number of bytes of a `{use.name}`, if there is one.",
+        f"fn bytes_of_{name}(value: Option<{use.name}>) -> u64",
+        f"    ensures {{ result ≡ {some_bits(use, 'value')} / 8 }}",
+        "{",
+        "    match value {",
+        f"        Some(_) => {(use.description.bits or 0) // 8},",
+        "        None => 0,",
+        "    }",
+        "}",
+        "",
+    ]
 
 
 def part_in_order(f: Format, item: m.Item) -> list[str]:

@@ -17,10 +17,16 @@ from describing.rust.choices import choice_code
 from describing.rust.clauses import clauses
 from describing.rust.enums import enum_code
 from describing.rust.last import last_code
-from describing.rust.lists import list_code, pushes, refused_memory, write_code as write_items
+from describing.rust.lists import (
+    count_code as count_writer,
+    list_code,
+    pushes,
+    refused_memory,
+    write_code as write_items,
+)
 from describing.rust.parts import error_code as part_error, optional_code
 from describing.rust.reads import parse_code, read_code
-from describing.rust.sizes import count_code, sized_code, stated_code
+from describing.rust.sizes import count_code, padding_code, sized_code, stated_code
 from describing.rust.traits import from_code, law_code, to_code, to_impl
 from describing.rust.writes import pack_code, write_code
 from describing.specs.terms import seen, value
@@ -74,6 +80,10 @@ def declares(f: Format, line: Line) -> list[str]:
         out += write_items(kind)
     if isinstance(kind, m.List) and not isinstance(kind.item, m.Octet):
         out += list_code(f, line, kind)
+    if m.is_golomb(kind):
+        out += count_writer(kind)
+    if isinstance(kind, m.Pad):
+        out += padding_code(f, kind)
     if isinstance(kind, m.UpToLast):
         out += [*refused_memory(f, line), *last_code(f, line, kind), *write_items(kind)]
     return out
@@ -118,7 +128,7 @@ def imported(f: Format, text: str) -> list[str]:
 
 def struct_code(f: Format) -> list[str]:
     """Returns the struct, with the picture of its bits."""
-    drawn = [f"/// {it}".rstrip() for it in picture.text(f.description.kinds, decimal=True)]
+    drawn = [f"/// {it}".rstrip() for it in picture.text(f.description.kinds, in_code=True)]
     derives = "Debug, Drop" if f.grows else "Clone, Copy, Debug, PartialEq"
     out = [f"/// {f.doc}", *drawn, f"#[derive({derives})]", f"pub struct {f.type} {{"]
     for it in f.fields:

@@ -38,8 +38,8 @@ def rest_text(f: Format) -> str:
     """Returns what is read of the rest."""
     if not f.rest:
         return ""
-    names = [f"`{it.name}`" for it in f.before_rest] + [f"`{f.rest.name}`"]
-    return f", and `{f.given[-1].name}` bytes of {' and '.join(names)}"
+    names = ", ".join(f"`{it.name}`" for it in f.before_rest)
+    return f", and `{f.given[-1].name}` bytes of {names}{' and ' * bool(names)}`{f.rest.name}`"
 
 
 def given(lines: list[Line]) -> str:

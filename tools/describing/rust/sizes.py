@@ -2,7 +2,8 @@
 from __future__ import annotations
 
 from describing import model as m
-from describing.layout import Format, Line, by_size, head_bits, is_octets
+from describing.layout import Format, Line, by_size, head_bits, is_octets, padded
+from describing.specs.padding import multiple
 from describing.specs.sizes import error_cases, is_plain, overrun, reader_error
 from describing.specs.terms import inside, seen
 
@@ -149,22 +150,47 @@ def items_code(f: Format, line: Line, kind: m.Fill) -> list[str]:
     ]
 
 
-def count_code(kind: m.Fill) -> list[str]:
+def count_code(kind: m.Described) -> list[str]:
     """Returns the function that counts the bits of items."""
-    counts = f"CountsBits (λ bits. bits) 18446744073709551615 same_error (flat_map ({kind.use.module}_writes High) items.now)"
+    use = m.held_item(kind)
+    assert isinstance(use, m.Use)
+    counts = (
+        f"CountsBits (λ bits. bits) 18446744073709551615 same_error (flat_map ({use.module}_writes High) items.now)"
+    )
     return [
         f"/// Returns the number of bits of the items of `{kind.name}`.",
         "///",
         "/// # Errors",
         "///",
         "/// `Checked` for a field that does not fit its bits.",
-        f"fn count_{kind.name}(items: &[{kind.use.name}]) -> Result<u64, Error>",
+        f"fn count_{kind.name}(items: &[{use.name}]) -> Result<u64, Error>",
         f"    ensures {{ {counts}",
         "        (Ok tt) result }",
         "{",
         "    let mut counter = BitsWritten::<u64>::new();",
         f"    write_{kind.name}(&mut counter, items)?;",
         "    Ok(counter.into_written())",
+        "}",
+        "",
+    ]
+
+
+def padding_code(f: Format, kind: m.Pad) -> list[str]:
+    """Returns the functions that count the zeros up to a multiple of bits."""
+    target = padded(f.description, kind)
+    item = m.held_item(target)
+    assert m.is_field(target) and isinstance(item, m.Use)
+    return [
+        *count_code(target),
+        f"/// Returns the number of zeros after `{kind.target}`, up to a multiple of {kind.unit} bits; 0 if the items have more than",
+        "/// 2^64 - 1 bits.",
+        f"fn {kind.counted}(items: &[{item.name}]) -> u32",
+        f"    ensures {{ result ≡ {kind.counted} items.now }}",
+        "{",
+        f"    match count_{kind.target}(items) {{",
+        f"        Ok(bits) => ({multiple(kind, 'bits')}) as u32,",
+        "        Err(_) => 0,",
+        "    }",
         "}",
         "",
     ]

@@ -6,6 +6,7 @@ from describing.imports import part_cases
 from describing.layout import Format, Line, enum_bits, is_open
 from describing.model import snake
 from describing.specs import asked, choices, last, sizes
+from describing.specs.padding import padding_specs
 from describing.specs.values import array_value, choice_values, enum_laws, enum_value
 from describing.specs.terms import called
 
@@ -14,6 +15,8 @@ def definitions(f: Format, line: Line) -> list[str]:
     """Returns the definitions of a line."""
     if isinstance(line.kind, m.Const):
         return const_at(f, line, line.kind) if f.sized else []
+    if isinstance(line.kind, m.Pad):
+        return padding_specs(f.description, line.kind)
     if line.enum:
         laws = enum_value(f, line, line.enum)
         if isinstance(line.kind, m.Array):

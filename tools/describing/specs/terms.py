@@ -8,7 +8,7 @@ import re
 from typing import Callable, TypeAlias, assert_never
 
 from describing import model as m
-from describing.layout import Format, Line, by_size, enum_bits, is_octets, rest_given
+from describing.layout import Format, Line, by_size, enum_bits, is_octets, is_some_bytes, rest_given
 from describing.model import snake
 from describing.specs import checks
 
@@ -58,7 +58,7 @@ def spec_type(kind: m.Printed) -> str:
             return item_type(kind.item)
         case m.Fill() | m.UpToLast():
             return f"List {kind.use.name}"
-        case m.Unary() | m.Varint() | m.Count() | m.Tag() | m.Size() | m.Check() | m.Const() | m.Skip() | m.Verify():
+        case m.Unary() | m.Varint() | m.Count() | m.Tag() | m.Size() | m.Check() | m.Const() | m.Pad() | m.Skip() | m.Verify():
             return "ℕ"
     assert_never(kind)
 
@@ -226,13 +226,23 @@ def rest_count(f: Format) -> str:
     if not line:
         return ""
     last = f"{measured_size(line.measured, 'High')} / 8" if line.measured else f"length {value(line)}"
-    return f"({''.join(f'length {value(it)} + ' for it in f.before_rest)}{last})"
+    return f"({''.join(f'{bytes_taken(it, value(it))} + ' for it in f.before_rest)}{last})"
+
+
+def bytes_taken(line: Line, term: str) -> str:
+    """Returns the number of bytes of a line before a rest, of the term for its value."""
+    return f"{some_bits(line.use, term)} / 8" if is_some_bytes(line.kind) and line.use else f"length {term}"
+
+
+def some_bits(use: m.Use, term: str) -> str:
+    """Returns the number of bits of an optional part."""
+    return f"optional_size ({use.module}_size High) {term}"
 
 
 def rest_left(f: Format, name: str, of: Of = as_read) -> str:
     """Returns the number of bytes of the rest: of those that the read is given, the ones after bytes before it."""
     given = of(f, f"{name}_bytes")
-    taken = "".join(f" - length {of(f, it.name)}" for it in f.before_rest)
+    taken = "".join(f" - {bytes_taken(it, of(f, it.name))}" for it in f.before_rest)
     return f"({given}{taken})" if taken else given
 
 
@@ -324,6 +334,8 @@ def entry(f: Format, line: Line) -> str:
             return f"up_to_last_decoder ({own_decoder(f, line)}) {kind.name}_last"
         case m.Rest():
             return f"vec_decoder o {rest_left(f, kind.name)}"
+        case m.Count(golomb=True):
+            return "ue_decoder o"
         case m.Count():
             return f"unsigned_decoder o 64 {kind.width}"
         case m.Tag():
@@ -348,6 +360,8 @@ def entry(f: Format, line: Line) -> str:
             return list_decoder(f, line, kind)
         case m.Const():
             return f"const_decoder o {kind.width} {kind.value}"
+        case m.Pad():
+            return f"unsigned_decoder o 64 ({kind.counted} {kind.target})"
         case m.Skip():
             return f"skip_decoder {kind.width}"
         case m.Verify():
@@ -414,7 +428,8 @@ def list_decoder(f: Format, line: Line, kind: m.List) -> str:
 def list_count(f: Format, kind: m.List, of: Of = as_read) -> str:
     """Returns the number of items of a list, of the values before it."""
     if not kind.power:
-        return of(f, f"{kind.name}_count")
+        count = of(f, f"{kind.name}_count")
+        return f"(size_in_units 1 {kind.less} {count})" if kind.less else count
     there = of(f, kind.power.there) if kind.power.there else "true"
     return f"(power_count {there} {of(f, kind.power.field)} {kind.power.plus})"
 
@@ -538,10 +553,14 @@ def word(line: Line) -> str:
             return f"plain (word o {kind.width} {kind.value})"
         case m.Skip():
             return f"zeros {kind.width}"
+        case m.Pad():
+            return f"unsigned o 64 ({kind.counted} value.{kind.target}) 0"
         case m.Flag():
             return f"bit (is_some value.{kind.target})"
+        case m.Count(golomb=True):
+            return f"ue_writes o ({number_counted(kind)})"
         case m.Count():
-            return f"unsigned o 64 {kind.width} (length value.{kind.target})"
+            return f"unsigned o 64 {kind.width} ({number_counted(kind)})"
         case m.Tag():
             return f"unsigned {tag_shape(kind)} ({tag_number(line)})"
         case m.Check():
@@ -571,6 +590,17 @@ def word(line: Line) -> str:
         case m.Optional() | m.If():
             return f"optional_writes ({kind.use.module}_writes o) {term}"
     assert_never(kind)
+
+
+def number_counted(kind: m.Count, record: str = "value") -> str:
+    """Returns the number that a line stores for the items of a list."""
+    items = f"length {record}.{kind.target}"
+    return f"stored_size 1 0 {kind.less} ({items})" if kind.less else items
+
+
+def count_bound(kind: m.Count) -> str:
+    """Returns the number that each stored number is below."""
+    return "2 ^ 32 - 1" if kind.golomb else f"2 ^ {kind.width}"
 
 
 def grouped_word(line: Line, kind: m.Size, groups: m.Groups) -> str:
@@ -607,6 +637,10 @@ def size(line: Line) -> str:
             return f"length (vbr_word High {kind.group} {groups_number(kind)})"
         case m.Golomb():
             return f"{short(kind)}_size {term}"
+        case m.Pad():
+            return f"{kind.counted} value.{kind.target}"
+        case m.Count():
+            return f"ue_size ({number_counted(kind)})"
         case m.Varint():
             return f"varint_size {term}"
         case m.Until():
@@ -654,7 +688,7 @@ def fits(f: Format, line: Line) -> list[tuple[str, str]]:
     match kind:
         case m.Check():
             return checks.fits(kind)
-        case m.Bool() | m.Const() | m.Skip() | m.Flag() | m.Tag() | m.Verify():
+        case m.Bool() | m.Const() | m.Pad() | m.Skip() | m.Flag() | m.Tag() | m.Verify():
             return []
         case m.Size():
             return limited_fits(line, number_stored(line, kind), kind, f"< 2 ^ {kind.width}")
@@ -693,7 +727,7 @@ def fits(f: Format, line: Line) -> list[tuple[str, str]]:
         case m.Golomb():
             return [(kind.name, f"unsigned_abs {term} < 2 ^ 31" if kind.signed else f"{term} < 2 ^ 32 - 1")]
         case m.Count():
-            return limited_fits(line, f"length value.{kind.target}", kind, f"< 2 ^ {kind.width}")
+            return limited_fits(line, number_counted(kind), kind, f"< {count_bound(kind)}")
         case m.Array():
             return [(f"{kind.name}_count", f"length {term} ≡ {kind.count}"), *items_fit(kind.name, kind.item, term)]
         case m.List():

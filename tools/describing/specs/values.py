@@ -12,9 +12,11 @@ from describing.specs.terms import (
     bit,
     as_read,
     called,
+    count_bound,
     fits,
     list_count,
     measured_size,
+    number_counted,
     number_stored,
     rest_count,
     rest_left,
@@ -145,10 +147,10 @@ def plain_part(f: Format, line: Line, of: Of) -> str:
             return f"free ({if_there(f, line, kind, get, of)})"
         case m.List():
             part = list_part(f, line, kind, get, list_count(f, kind, of))
-            return f"free ({part})" if kind.power else part
+            return f"free ({part})" if kind.computed else part
         case m.Size():
             return measured.size_part(line, kind, of_record(line, "s"))
-        case m.Number() | m.Count():
+        case m.Number() | m.Count() | m.Pad():
             return f"field {line_format(f, line, of)} {get}"
     return f"{'own_' * line.stops}field {line_format(f, line, of)} {get}"
 
@@ -159,10 +161,12 @@ def of_record(line: Line, record: str) -> str:
     match kind:
         case m.Skip() | m.Const():
             return "tt"
+        case m.Pad():
+            return "0"
         case m.Flag():
             return f"is_some {record}.{kind.target}"
         case m.Count():
-            return f"length {record}.{kind.target}"
+            return number_counted(kind, record)
         case m.Tag():
             return placed_in(tag_number(line), record)
         case m.Size():
@@ -198,6 +202,11 @@ def line_format(f: Format, line: Line, of: Of) -> str:
             return f"(atom.option_{kind.integer.base} {kind.integer.width} refl)"
         case m.Skip():
             return f"(atom.pad {kind.width})"
+        case m.Pad():
+            items = of(f, kind.target)
+            return f"(atom.unsigned 64 ({kind.counted} {items}) ({kind.counted}_few {items}))"
+        case m.Count(golomb=True):
+            return "atom.ue"
         case m.Count():
             return f"(atom.unsigned 64 {kind.width} refl)"
         case m.Unary():
@@ -339,7 +348,7 @@ def value(f: Format) -> list[str]:
 
 def is_made(line: Line) -> bool:
     """Returns true for a line whose number of items, or whose flag, a line before it has."""
-    return isinstance(line.kind, m.Optional) or isinstance(line.kind, m.List) and not line.kind.power
+    return isinstance(line.kind, m.Optional) or isinstance(line.kind, m.List) and not line.kind.computed
 
 
 def line_facts(f: Format, line: Line) -> list[str]:
@@ -356,6 +365,11 @@ def line_facts(f: Format, line: Line) -> list[str]:
             return [f"fits.{kind.name}", "refl" if tag_of(f, kind) else f"fits.{kind.name}_tag"]
         case m.Choose() | m.Sized() | m.Fill():
             return measured.measured_facts(f, line, kind)
+        case m.Pad():
+            return [f"(pow_pos ({kind.counted} s.{kind.target}))", "(omega arith)"]
+        case m.List(count=m.Count() as count) if kind.less:
+            again = f"(units-again 1 {kind.less} (length s.{kind.name}) ({count_bound(count)}) fits.{kind.name}_count refl refl)"
+            return [f"fits.{kind.name}", again]
         case m.Rest():
             return [f"fits.{kind.name}", "let sum = fits.1 in omega (arith, sum)" if f.before_rest else "fits.1"]
     return [f"fits.{name}" for name, _ in fits(f, line)]
