@@ -121,6 +121,19 @@ fn words_made_once_are_those_of_the_tree(rt: HostRuntime) {
     }
 }
 
+#[test]
+fn keeps_half_a_word(rt: HostRuntime) {
+    let alloc = rt.alloc();
+    let tree = chain(alloc, 20).expect(&rt, "memory is left");
+    let words = tree.words(alloc).expect(&rt, "memory is left");
+    let mut buffer = [0u8; 1];
+    let mut writer = BitWriter::<_, LE>::over(&mut buffer);
+    // Of 17 bits, 8 have room.
+    holds(&rt, writer.write_huffman(&words, 16).is_err());
+    holds(&rt, failed(writer.write_bit(true)));
+    are(&rt, writer.written(), [0xff].as_slice());
+}
+
 /// Bytes of the code words of 0, 1, 2, 3, 20, 0 and 5 in a chain, big-endian, and then ten bits 0.
 const CHAINED: [u8; 6] = [0x5b, 0xbf, 0xff, 0xfc, 0xf8, 0x00];
 

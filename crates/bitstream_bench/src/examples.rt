@@ -561,6 +561,22 @@ fn example_of_bit_write(rt: HostRuntime) {
 }
 
 #[test]
+fn example_of_code_word(rt: HostRuntime) {
+    use bitstream_io::{BE, BitWrite, BitWriter};
+    use bitstream_io::huffman::CodeWord;
+
+    let mut word = CodeWord::new();
+    word.push(true);
+    word.push(false);
+    word.push(true);
+    let mut writer = BitWriter::<_, BE>::new(Vec::new(rt.alloc()));
+    writer.write_code_word(word).expect(&rt, "no error");
+    writer.write_code_word(word).expect(&rt, "no error");
+    writer.byte_align().expect(&rt, "no error");
+    are(&rt, writer.into_writer().as_slice(), [0xb4].as_slice());
+}
+
+#[test]
 fn example_of_bit_writer(rt: HostRuntime) {
     use bitstream_io::{BE, BitWrite, BitWriter, Bits};
 

@@ -70,7 +70,7 @@ pub mod integer {
 /// Prefix codes: each symbol has a code word of bits, and no code word is a prefix of another.
 pub mod huffman {
     pub use bitstream_value::huffman::{
-        FromBits, HuffmanTree, LimitedUnary, NextBit, PutBit, SymbolWords, ToBits,
+        CodeWord, FromBits, HuffmanTree, LimitedUnary, NextBit, PutBit, SymbolWords, ToBits,
     };
 }
 

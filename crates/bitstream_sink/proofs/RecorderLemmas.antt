@@ -1,7 +1,7 @@
 -- The bytes of a recorder are those that its writer sent.
 use Rattle.std.specs.Prelude.{OnOk}
 use Rattle.std.specs.Io.KnownBytes.{Appends}
-use Rattle.std.proofs.Common.{◌≡◌, ℕ, ◌+◌, ◌*◌, ◌%◌, ◌^◌, ◌<◌, ◌≤◌, Bool, List, [], ◌∷◌, ◌++◌, length, Option, Some, Result, Ok, Err, refl, sym, ap, ◌∙◌, subst, arith, length-append, append_assoc}
+use Rattle.std.proofs.Common.{◌≡◌, ℕ, ◌+◌, ◌*◌, ◌%◌, ◌^◌, ◌<◌, ◌≤◌, Bool, List, [], ◌∷◌, ◌++◌, length, Option, Some, Result, Ok, Err, inl, inr, refl, sym, ap, ◌∙◌, subst, arith, length-append, append_assoc}
 use Rattle.bitstream_number.specs.Word.{Order, word, bits}
 use Rattle.bitstream_number.proofs.WordLemmas.{length-word, length-bits, bits-append}
 use Rattle.bitstream_count.specs.Codec.{Encoder}
@@ -11,12 +11,12 @@ use Rattle.bitstream_order.specs.Fault.{refusal_of}
 use Rattle.bitstream_order.specs.declared.streams.growing.Growing.{Growing}
 use Rattle.bitstream_stream.specs.Writing.Sink.{Sink, Writes, WritesAll, Appended, WriteRefused, had_failed, was_rejected, past_limit, was_refused, was_done}
 use Rattle.bitstream_stream.specs.Writing.Writer.{queued_bits, queue_number}
-use Rattle.bitstream_stream.specs.Writing.WriteTable.{buffer, unsigned}
+use Rattle.bitstream_stream.specs.Writing.WriteTable.{bit, bit_by_bit, buffer, unsigned}
 use Rattle.bitstream_stream.specs.declared.write.writer.BitWriter.{BitWriter}
 use Rattle.bitstream_stream.proofs.Writing.SinkLemmas.{inner}
 use Rattle.bitstream_stream.proofs.Writing.SinkParts.{from_ok, appended_more}
 use Rattle.bitstream_stream.proofs.Writing.WriteLemmas.{unsigned-fits}
-use Rattle.bitstream_stream.proofs.Writing.WriteParts.{all_err, all_more, all_one}
+use Rattle.bitstream_stream.proofs.Writing.WriteParts.{all_err, all_more, all_none, all_one}
 use Rattle.bitstream_sink.specs.Recorder.{recorder_sink, recorded_bits, recorded_bytes, recorded_queued, recorded_queue}
 use Rattle.bitstream_sink.specs.GrowingWriter.{HoldsAll, growing_sink, growing_state, written_bytes}
 use Rattle.bitstream_sink.specs.declared.recorder.BitRecorder.{BitRecorder}
@@ -71,11 +71,44 @@ module _ {A E : Type 0} (o : Order) where
   holds_all e a b r h (was_refused x d p en wi re k) = holds_refused a b x d h k
   holds_all e a b r h (was_done x t p en wi re k) = holds_more a b x h k.grown
 
+  -- and so do write calls in order
+  pub holds_each : (es : List Encoder) (a b : BitWriter (Growing A) E) (r : Result (Unit {0}) Error) → HoldsAll a
+      → WritesAll (growing_sink o) es a r b → HoldsAll b
+  unfolding WritesAll
+  holds_each [] a b r h p = subst (λ (w : BitWriter (Growing A) E). HoldsAll w) (sym p.1) h
+  holds_each (e ∷ es) a b r h (inl p) = holds_all e a b r h p.1
+  holds_each (e ∷ es) a b r h (inr p) = holds_each es p.0 b r (holds_all e a p.0 (Ok tt) h p.1) p.2
+
 module _ {N E A : Type 0} (o : Order) where
   -- a call of the writer is the recorder's
   pub forwarded : {T : Type 0} (e : Encoder) (a b : BitRecorder N E A) (r : Result T Error)
       → Writes (growing_sink o) e a.writer r b.writer → Writes (recorder_sink o) e a r b
   forwarded e a b r h = inner (λ (recorder : BitRecorder N E A). recorder.writer) (growing_sink o) e a r b h
+
+  -- calls of the writer, in order
+  abbrev with_writer : (a : BitRecorder N E A) (w : BitWriter (Growing A) E) → HoldsAll w → BitRecorder N E A
+  with_writer a w all = record { writer = w; count = a.count; all = all }
+
+  forwarded_all : (e : Encoder) (es : List Encoder) (a b : BitRecorder N E A) (r : Result (Unit {0}) Error)
+      → WritesAll (growing_sink o) (e ∷ es) a.writer r b.writer → WritesAll (recorder_sink o) (e ∷ es) a r b
+  unfolding WritesAll
+  forwarded_all e es a b r (inl p) = inl (p.0, forwarded e a b r p.1)
+  forwarded_all e [] a b r (inr p) =
+      let one = subst (λ (w : BitWriter (Growing A) E). Writes {T = Unit {0}} (growing_sink o) e a.writer (Ok tt) w)
+      (sym p.2.1) p.1 in
+      inr (b, forwarded e a b (Ok tt) one, (p.2.0, refl))
+  forwarded_all e (f ∷ es) a b r (inr p) =
+      let m = with_writer a p.0 (holds_all o e a.writer p.0 (Ok tt) a.all p.1) in
+      inr (m, forwarded e a m (Ok tt) p.1, forwarded_all f es m b r p.2)
+
+  pub forwarded_bits : (w : List Bool) (a b : BitRecorder N E A) (r : Result (Unit {0}) Error) → (w ≡ [] → ⊥)
+      → WritesAll (growing_sink o) (bit_by_bit w) a.writer r b.writer → WritesAll (recorder_sink o) (bit_by_bit w) a r b
+  forwarded_bits [] a b r some h = absurd (some refl)
+  forwarded_bits (c ∷ w) a b r some h = forwarded_all (bit c) (bit_by_bit w) a b r h
+
+  pub no_bits : (w : List Bool) (a : BitRecorder N E A) → w ≡ [] → WritesAll (recorder_sink o) (bit_by_bit w) a (Ok tt) a
+  no_bits w a none = subst (λ (x : List Bool). WritesAll (recorder_sink o) (bit_by_bit x) a (Ok tt) a) (sym none)
+      (all_none (recorder_sink o) a)
 
   -- the recorded bits grow by what is appended
   pub recorded_grow : (a b : BitRecorder N E A) (x : List Bool) → (recorder_sink o).appends a x b → recorded_bits o b

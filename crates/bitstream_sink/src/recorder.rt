@@ -10,6 +10,7 @@ use bitstream_number::number::{Primitive, SignedInteger, UnsignedInteger, Width}
 use bitstream_order::order::Endianness;
 use bitstream_order::streams::growing::Growing;
 use bitstream_stream::write::BitWrite;
+use bitstream_stream::write::code_word::CodeWord;
 use bitstream_stream::write::writer::BitWriter;
 use std::alloc::{AllocError, Allocator};
 use std::marker::PhantomData;
@@ -215,6 +216,14 @@ impl<N, E: Endianness, A: Allocator> BitWrite for BitRecorder<N, E, A> {
     #[inline(always)]
     fn write_bit(&mut self, bit: bool) -> Result<(), Error> {
         self.writer.write_bit(bit)
+    }
+
+    #[inline(always)]
+    fn write_code_word(&mut self, word: CodeWord) -> Result<(), Error> {
+        if word.is_empty() {
+            return Ok(());
+        }
+        self.writer.write_code_word(word)
     }
 
     #[inline(always)]

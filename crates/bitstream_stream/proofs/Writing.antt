@@ -1,4 +1,6 @@
 pub mod BytesWritten
+pub mod CodeWordLemmas
+pub mod CodeWrites
 pub mod RoomLemmas
 pub mod SinkLemmas
 pub mod SinkParts

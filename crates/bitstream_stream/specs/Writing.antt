@@ -1,5 +1,6 @@
 pub mod Carries
 pub mod CarriesLaws
+pub mod CodeWord
 pub mod Room
 pub mod Sink
 pub mod WriteTable

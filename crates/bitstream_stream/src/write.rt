@@ -1,6 +1,7 @@
 //! The calls of a sink of bits.
 use crate::vbr::{split_group, vbr_bits};
 use crate::width::count_bits;
+use crate::write::code_word::CodeWord;
 use crate::write::run::run_without_stop;
 use crate::zigzag::zigzag;
 use bitstream_count::count::{BitCount, Count, SignedCount};
@@ -8,6 +9,7 @@ use bitstream_count::error::Error;
 use bitstream_number::number::{Numeric, Primitive, SignedInteger, UnsignedInteger, Width};
 use bitstream_order::order::Endianness;
 
+pub mod code_word;
 mod run;
 pub mod writer;
 
@@ -40,8 +42,9 @@ pub trait BitWrite {
     ghost use Rattle.std.specs.Prelude.{◌≡◌, ℕ, ◌+◌, ◌%◌, ◌^◌, ◌<◌, ◌≤◌, ◌↔◌, ◌⊎◌, ◌==◌, Bool, true, false, IsTrue};
     ghost use Rattle.bitstream_number.specs.Word.{word};
     ghost use Rattle.bitstream_order.specs.Parts.{value_bytes};
-    ghost use Rattle.bitstream_stream.specs.Writing.Sink.{Sink, Writes, IsWithin};
-    ghost use Rattle.bitstream_stream.specs.Writing.WriteTable.{unsigned, signed, plain, unary_word, bit as one_bit, count as count_decoder, align, buffer, zeros, vbr, signed_vbr};
+    ghost use Rattle.bitstream_stream.specs.Writing.CodeWord.{code_bits};
+    ghost use Rattle.bitstream_stream.specs.Writing.Sink.{Sink, Writes, WritesAll, IsWithin};
+    ghost use Rattle.bitstream_stream.specs.Writing.WriteTable.{unsigned, signed, plain, unary_word, bit as one_bit, bit_by_bit, count as count_decoder, align, buffer, zeros, vbr, signed_vbr};
 
     // The meaning of the sink's states.
     ghost sink: { Sink Self };
@@ -202,6 +205,22 @@ pub trait BitWrite {
         self.write_unsigned_var(1, u8::from(bit))
     }
 
+    /// Writes the bits of a code word, one after another.
+    ///
+    /// # Errors
+    ///
+    /// The errors of [`write_bit`](BitWrite::write_bit). The bits before the error stay written.
+    /// Writing a code word of no bits always succeeds.
+    fn write_code_word(&mut self, word: CodeWord) -> Result<(), Error>
+        // Each bit has the effect of a call of `write_bit`.
+        ensures writes { WritesAll sink (bit_by_bit (code_bits word)) self.old result self.new }
+    {
+        for at in 0..word.len() {
+            self.write_bit(word.bit(at))?;
+        }
+        Ok(())
+    }
+
     /// Writes zeros up to the next byte boundary.
     fn byte_align(&mut self) -> Result<(), Error>
         ensures writes { Writes sink align self.old result self.new }
@@ -358,6 +377,10 @@ impl<W: BitWrite> BitWrite for &mut W {
 
     fn write_bit(&mut self, bit: bool) -> Result<(), Error> {
         (**self).write_bit(bit)
+    }
+
+    fn write_code_word(&mut self, word: CodeWord) -> Result<(), Error> {
+        (**self).write_code_word(word)
     }
 
     fn byte_align(&mut self) -> Result<(), Error> {

@@ -1,8 +1,8 @@
 -- Prefix codes: trees of symbols, whose code words are the paths to the leaves.
-use Rattle.std.specs.Prelude.{◌≡◌, ◌⊎◌, Bool, true, false, List, [], ◌∷◌, map, Option, Some, None, option_map, if◌then◌else◌}
-use Rattle.bitstream_count.specs.Codec.{Decoder, Encoder, and_then, pure}
+use Rattle.std.specs.Prelude.{◌≡◌, ◌⊎◌, Bool, true, false, List, [], ◌∷◌, Option, Some, None, option_map, if◌then◌else◌}
+use Rattle.bitstream_count.specs.Codec.{Decoder, and_then, pure}
 use Rattle.bitstream_stream.specs.Reading.ReadTable.{bit_decoder}
-use Rattle.bitstream_stream.specs.Writing.WriteTable.{bit}
+pub use Rattle.bitstream_stream.specs.Writing.WriteTable.{bit_by_bit}
 
 -- a leaf with its symbol; or a branch: the bit 0 leads to its first side and the bit 1 to the second
 pub data Tree (S : Type 0) : Type 0 where
@@ -41,10 +41,6 @@ or_nothing (Some xs) = xs
 -- the code word that is written for s: no bits if no leaf has it
 unfoldable pub symbol_word : {S : Type 0} → (S → S → Bool) → Tree S → S → List Bool
 symbol_word same t s = or_nothing (first_path same t s)
-
--- the calls that write a code word, a bit each
-abbrev pub bit_by_bit : List Bool → List Encoder
-bit_by_bit w = map bit w
 
 -- at the first place where they differ, u leads to the side of 0 and v to the side of 1
 abbrev pub IsBefore : List Bool → List Bool → Type 0

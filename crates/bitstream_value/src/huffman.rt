@@ -5,6 +5,7 @@ ghost use Rattle.bitstream_stream.specs.Reading.Reads.{BitSource, Reads};
 ghost use Rattle.bitstream_stream.specs.Reading.ReadTable.{bit_decoder};
 ghost use Rattle.bitstream_stream.specs.Writing.Sink.{Sink, Writes, WritesAll};
 ghost use Rattle.bitstream_stream.specs.Writing.WriteTable.{bit};
+ghost use Rattle.bitstream_stream.specs.Writing.CodeWord.{code_bits};
 ghost use Rattle.bitstream_value.specs.Tree.{bit_by_bit};
 
 mod limited_unary;
@@ -15,6 +16,7 @@ pub use crate::huffman::tree::{HuffmanTree, SymbolWords};
 use bitstream_count::error::Error;
 use bitstream_stream::read::BitRead;
 use bitstream_stream::write::BitWrite;
+pub use bitstream_stream::write::code_word::CodeWord;
 
 /// The call that a prefix code makes on a reader. Every reader of bits has it, with the errors of
 /// [`BitRead`].
@@ -36,7 +38,7 @@ impl<R: BitRead> NextBit for R {
     }
 }
 
-/// The call that a prefix code makes on a sink. Every sink of bits has it, with the errors of
+/// The calls that a prefix code makes on a sink. Every sink of bits has them, with the errors of
 /// [`BitWrite`].
 pub trait PutBit {
     // The meaning of the sink's states.
@@ -45,6 +47,17 @@ pub trait PutBit {
     /// Writes one bit: 1 for `true`.
     fn put_bit(&mut self, one: bool) -> Result<(), Error>
         ensures writes { Writes sink (bit one) self.old result self.new };
+
+    /// Writes the bits of a code word, one after another. The bits before an error stay written.
+    fn put_word(&mut self, word: CodeWord) -> Result<(), Error>
+        // Each bit has the effect of a call of `put_bit`.
+        ensures writes { WritesAll sink (bit_by_bit (code_bits word)) self.old result self.new }
+    {
+        for at in 0..word.len() {
+            self.put_bit(word.bit(at))?;
+        }
+        Ok(())
+    }
 }
 
 impl<W: BitWrite> PutBit for W {
@@ -53,6 +66,11 @@ impl<W: BitWrite> PutBit for W {
     #[inline(always)]
     fn put_bit(&mut self, one: bool) -> Result<(), Error> {
         self.write_bit(one)
+    }
+
+    #[inline(always)]
+    fn put_word(&mut self, word: CodeWord) -> Result<(), Error> {
+        self.write_code_word(word)
     }
 }
 

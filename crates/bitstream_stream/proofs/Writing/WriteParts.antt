@@ -1,11 +1,13 @@
 -- Write calls in order.
-use Rattle.std.proofs.Common.{◌≡◌, ℕ, ◌+◌, inl, inr, List, [], ◌∷◌, ◌++◌, length, take, drop, get_or, Result, Ok, Err, refl, sym, ap, ◌∙◌, subst, append-nil, append_assoc, take-append-drop, ◌<◌}
+use Rattle.std.proofs.Common.{◌≡◌, ℕ, ◌+◌, inl, inr, List, [], ◌∷◌, ◌++◌, length, take, drop, get_or, Result, Ok, Err, refl, sym, ap, ap₂, ◌∙◌, subst, append-nil, append_assoc, take-append-drop, ◌<◌}
 use Rattle.std.specs.Prelude.{flat_map}
 use Rattle.std.proofs.lemmas.List.{take_more}
 use Rattle.std.proofs.lemmas.List.Concat.{flat_map-append}
 use Rattle.bitstream_count.specs.Codec.{Encoder}
 use Rattle.bitstream_count.specs.declared.error.Error.{Error}
-use Rattle.bitstream_stream.specs.Writing.Sink.{Sink, Writes, WritesAll}
+use Rattle.std.specs.Borrow.{GName, MutBor}
+use Rattle.bitstream_stream.specs.Writing.Sink.{Sink, Writes, WritesAll, lent_sink}
+use Rattle.bitstream_stream.proofs.Writing.SinkLemmas.{lent}
 
 module _ {S : Type 0} (K : Sink S) where
   pub all_none : (s : S) → WritesAll K [] s (Ok tt) s
@@ -64,3 +66,20 @@ flat_map-split f xs k d h =
     ap (flat_map f) (sym (take-append-drop (k + 1) xs)) ∙ flat_map-append f (take (k + 1) xs) (drop (k + 1) xs)
     ∙ ap (λ l. l ++ flat_map f (drop (k + 1) xs)) (flat_map-take f xs k d h)
     ∙ append_assoc (flat_map f (take k xs)) (f (get_or xs k d)) (flat_map f (drop (k + 1) xs))
+
+-- calls through a `&mut`, in order
+module _ {S : Type 0} (K : Sink S) where
+  lent_at : (es : List Encoder) (a : MutBor S) (r : Result (Unit {0}) Error) (b : MutBor S)
+      → b ≡ record a { now = b.now } → WritesAll K es a.now r b.now → WritesAll (lent_sink K) es a r b
+  unfolding WritesAll
+  lent_at [] a r b same h = (h.0, same ∙ ap (λ (s : S). record a { now = s }) h.1)
+  lent_at (e ∷ es) a r b same (inl p) = inl (p.0, lent K e a r b (ap (λ (c : MutBor S). c.ghost_name) same) p.1)
+  lent_at (e ∷ es) a r b same (inr p) =
+      let mid : MutBor S = record a { now = p.0 } in
+      inr (mid, lent K e a (Ok tt) mid refl p.1, lent_at es mid r b same p.2)
+
+  pub lent_all : (es : List Encoder) (a : MutBor S) (r : Result (Unit {0}) Error) (b : MutBor S)
+      → b.ref_ptr ≡ a.ref_ptr → b.ghost_name ≡ a.ghost_name → WritesAll K es a.now r b.now
+      → WritesAll (lent_sink K) es a r b
+  lent_all es a r b place name h =
+      lent_at es a r b (ap₂ (λ (p : ℕ × ℕ) (n : GName). record { ref_ptr = p; ghost_name = n; now = b.now }) place name) h

@@ -1,5 +1,5 @@
 -- The write table: the encoder of each call, which may depend on the number of bits written before.
-use Rattle.std.specs.Prelude.{ℕ, ℤ, pos, negsuc, ◌-◌, ◌^◌, ◌==◌, ◌||◌, nat_lt, if◌then◌else◌, Bool, false, List, [], ◌∷◌, replicate, Ok, Err}
+use Rattle.std.specs.Prelude.{ℕ, ℤ, pos, negsuc, ◌-◌, ◌^◌, ◌==◌, ◌||◌, nat_lt, if◌then◌else◌, Bool, false, List, [], ◌∷◌, map, replicate, Ok, Err}
 use Rattle.bitstream_stream.specs.Alignment.{to_boundary}
 use Rattle.bitstream_number.specs.Word.{Order, word, signed_word, zig, bits, count_width}
 use Rattle.bitstream_count.specs.Codec.{Encoder}
@@ -15,6 +15,10 @@ plain x _ = Ok x
 -- one bit
 abbrev pub bit : Bool → Encoder
 bit b = plain (b ∷ [])
+
+-- the calls that write a list of bits, a bit each
+abbrev pub bit_by_bit : List Bool → List Encoder
+bit_by_bit w = map bit w
 
 -- the encoding of v, a number of a type of `size` bits, in n bits; at 0 bits it is empty for any number
 unfoldable pub unsigned : Order → ℕ → ℕ → ℕ → Encoder

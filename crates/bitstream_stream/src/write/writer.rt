@@ -1,10 +1,11 @@
 //! A writer of bits to a stream of bytes.
-ghost use Rattle.std.specs.Prelude.{◌≡◌, ℕ, ◌+◌, ◌*◌, ◌<◌, ◌≤◌, ◌^◌, ◌⊎◌, ◌==◌, false, true, length, replicate, OnOk, Err};
+ghost use Rattle.std.specs.Prelude.{◌≡◌, ℕ, ◌+◌, ◌*◌, ◌<◌, ◌≤◌, ◌^◌, ◌⊎◌, ◌==◌, ◌++◌, Bool, false, true, List, length, replicate, OnOk, Err};
 
 use crate::piece::PIECE;
 use crate::vbr::{most_gathered, split_group};
 use crate::width::{check, check_signed, count_bits};
 use crate::write::BitWrite;
+use crate::write::code_word::CodeWord;
 use crate::write::run::run_without_stop;
 use bitstream_count::count::{Count, SignedCount};
 use bitstream_count::error::Error;
@@ -57,7 +58,10 @@ impl<W: Target, E: Endianness> BitWriter<W, E> {
     ghost use Rattle.bitstream_number.specs.Word.{word, bits};
     ghost use Rattle.bitstream_order.specs.Refusal.{MayRefuseWrite};
     ghost use Rattle.bitstream_stream.specs.Writing.Carries.{failed_writer};
-    ghost use Rattle.bitstream_stream.specs.Writing.Writer.{writer_state, new_writer_state, queued_bits, requests_made, AsksForBytes, AsksForWord, Pushes};
+    ghost use Rattle.bitstream_stream.specs.Writing.CodeWord.{code_bits};
+    ghost use Rattle.bitstream_stream.specs.Writing.Sink.{WritesAll};
+    ghost use Rattle.bitstream_stream.specs.Writing.WriteTable.{bit_by_bit};
+    ghost use Rattle.bitstream_stream.specs.Writing.Writer.{writer_state, writer_sink, new_writer_state, queued_bits, queue_number, has_failed, requests_made, AsksForBytes, AsksForWord, Pushes};
 
     /// Returns a writer to a stream. No request is made yet.
     pub fn new(stream: W) -> BitWriter<W, E>
@@ -123,6 +127,37 @@ impl<W: Target, E: Endianness> BitWriter<W, E> {
             }
             Err(error) => self.refuse(error),
         }
+    }
+
+    /// Sends a byte by one request: the queued bits, and then the next bits of a code word.
+    #[inline(always)]
+    fn send_full(&mut self, byte: u8) -> Result<(), Error>
+        requires { self.old.failed ≡ false }
+        // The bits of the byte after the queued bits are written one by one.
+        ensures writes { (x : List Bool) → word E.order (queued_bits self.old) (queue_number self.old) ++ x
+            ≡ word E.order 8 byte → WritesAll (writer_sink W.stream E.order) (bit_by_bit x) self.old result self.new }
+        // If it succeeds, no bit is queued.
+        ensures sound { OnOk result (has_failed self.new ≡ false) }
+        ensures empty { OnOk result (queued_bits self.new ≡ 0) }
+    {
+        match self.port.send(&[byte]) {
+            Ok(()) => {
+                (self.queue, self.queued) = (0, 0);
+                Ok(())
+            }
+            Err(error) => self.refuse(error),
+        }
+    }
+
+    /// Writes the bits of a code word by a call each.
+    #[inline(never)]
+    fn push_each(&mut self, word: CodeWord) -> Result<(), Error>
+        ensures { WritesAll (writer_sink W.stream E.order) (bit_by_bit (code_bits word)) self.old result self.new }
+    {
+        for at in 0..word.len() {
+            self.write_bit(word.bit(at))?;
+        }
+        Ok(())
     }
 
     /// Writes bytes by one request. The queue must be empty.
@@ -238,8 +273,9 @@ impl<W: Target, E: Endianness> BitWrite for BitWriter<W, E> {
     ghost use Rattle.bitstream_number.specs.Word.{word, count_width};
     ghost use Rattle.bitstream_order.specs.Parts.{value_bytes};
     ghost use Rattle.bitstream_stream.specs.Writing.Writer.{writer_sink, AsksForBytes, AsksForWord};
-    ghost use Rattle.bitstream_stream.specs.Writing.Sink.{Writes};
-    ghost use Rattle.bitstream_stream.specs.Writing.WriteTable.{unsigned, signed, plain, unary_word, bit as one_bit, count as count_decoder, buffer};
+    ghost use Rattle.bitstream_stream.specs.Writing.CodeWord.{code_bits};
+    ghost use Rattle.bitstream_stream.specs.Writing.Sink.{Writes, WritesAll};
+    ghost use Rattle.bitstream_stream.specs.Writing.WriteTable.{unsigned, signed, plain, unary_word, bit as one_bit, bit_by_bit, count as count_decoder, buffer};
 
     ghost sink = { writer_sink W.stream E.order };
 
@@ -384,6 +420,33 @@ impl<W: Target, E: Endianness> BitWrite for BitWriter<W, E> {
             return Err(Error::Failed);
         }
         self.push(u8::from(bit), 1)
+    }
+
+    #[inline(always)]
+    fn write_code_word(&mut self, word: CodeWord) -> Result<(), Error>
+        // Appends the bits one by one, up to the first that is refused.
+        ensures writes { WritesAll ⟦<Self as BitWrite>⟧.sink (bit_by_bit (code_bits word))
+            self.old result self.new }
+    {
+        let bits = word.len();
+        // The queue and more than 56 bits are more than a `u64` holds.
+        if self.failed || bits == 0 || bits > 56 {
+            return self.push_each(word);
+        }
+        let total = self.queued + bits;
+        let all = E::put(u64::from(self.queue), self.queued, word.number::<E>(), bits);
+        // No byte is full yet, so nothing is sent.
+        if total < 8 {
+            (self.queue, self.queued) = (all as u8, total);
+            return Ok(());
+        }
+        let mut left = total;
+        while left >= 8 {
+            self.send_full(E::cut(all, total, total - left, 8))?;
+            left -= 8;
+        }
+        (self.queue, self.queued) = (E::cut(all, total, total - left, left), left);
+        Ok(())
     }
 
     #[inline(always)]

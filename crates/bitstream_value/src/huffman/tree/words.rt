@@ -1,60 +1,25 @@
 //! The precomputed code words of a tree's symbols.
-ghost use Rattle.std.specs.Prelude.{◌<◌, ◌^◌};
-
 use crate::huffman::tree::{HuffmanTree, Node};
-use crate::huffman::{PutBit, ToBits};
+use crate::huffman::{CodeWord, PutBit, ToBits};
 use bitstream_count::error::Error;
 use std::alloc::{AllocError, Allocator};
 
-/// A code word of at most 63 bits. As a sink, it appends the bits written to it.
-#[derive(Clone, Copy, Drop)]
-struct ShortWord {
-    bits: u32,
-    // The first bit of the code word is the highest one.
-    number: u64,
-    ghost few: { bits < 64 },
-    ghost small: { number < 2 ^ bits },
+/// The bits of a symbol's path so far. As a sink, it has room for the 63 bits of a code word.
+#[derive(Drop)]
+struct Gathered {
+    word: CodeWord,
 }
 
-impl PutBit for ShortWord {
-    ghost use Rattle.bitstream_value.specs.SymbolWords.{short_sink};
+impl PutBit for Gathered {
+    ghost use Rattle.bitstream_value.specs.SymbolWords.{gathered_sink};
 
-    ghost sink = { short_sink };
+    ghost sink = { gathered_sink };
 
     fn put_bit(&mut self, one: bool) -> Result<(), Error> {
-        if self.bits == 63 {
+        if self.word.len() == CodeWord::MOST {
             return Err(Error::CounterOverflow);
         }
-        *self = ShortWord {
-            bits: self.bits + 1,
-            number: self.number * 2 + u64::from(one),
-        };
-        Ok(())
-    }
-}
-
-impl ShortWord {
-    ghost use Rattle.std.specs.Prelude.{◌≡◌, []};
-    ghost use Rattle.bitstream_stream.specs.Writing.Sink.{WritesAll};
-    ghost use Rattle.bitstream_value.specs.SymbolWords.{short_bits};
-    ghost use Rattle.bitstream_value.specs.Tree.{bit_by_bit};
-
-    /// Returns a code word of no bits.
-    fn new() -> ShortWord
-        ensures { short_bits result ≡ [] }
-    {
-        ShortWord { bits: 0, number: 0 }
-    }
-
-    /// Writes the code word, bit by bit.
-    fn write<P: PutBit>(self, put: &mut P) -> Result<(), Error>
-        ensures writes { WritesAll P.sink (bit_by_bit (short_bits self)) put.old result put.new }
-    {
-        let mut left = self.bits;
-        while left > 0 {
-            left -= 1;
-            put.put_bit((self.number >> left) % 2 == 1)?;
-        }
+        self.word.push(one);
         Ok(())
     }
 }
@@ -63,7 +28,7 @@ impl ShortWord {
 #[derive(Clone, Copy, Drop)]
 struct SymbolWord<S> {
     symbol: S,
-    word: ShortWord,
+    word: CodeWord,
 }
 
 /// The precomputed code words of a tree's symbols. Each code word is found by its symbol, and written without a walk
@@ -94,9 +59,10 @@ pub struct SymbolWords<'a, S, A: Allocator> {
 }
 
 impl<S: Copy + Eq, A: Allocator> HuffmanTree<S, A> {
-    ghost use Rattle.std.specs.Prelude.{◌≡◌, IfOk, MatchOption, length};
+    ghost use Rattle.std.specs.Prelude.{◌≡◌, ◌<◌, IfOk, MatchOption, length};
+    ghost use Rattle.bitstream_stream.specs.Writing.CodeWord.{code_bits};
     ghost use Rattle.bitstream_value.specs.HuffmanTree.{tree_of};
-    ghost use Rattle.bitstream_value.specs.SymbolWords.{FindsShort, ShortestFirst, made_word, short_bits};
+    ghost use Rattle.bitstream_value.specs.SymbolWords.{FindsShort, ShortestFirst, made_word};
     ghost use Rattle.bitstream_value.specs.Tree.{symbol_word};
 
     /// Precomputes the code words of all symbols, so that each symbol is written faster. This takes as long as
@@ -122,18 +88,20 @@ impl<S: Copy + Eq, A: Allocator> HuffmanTree<S, A> {
                 }
             }
         }
-        made.as_mut_slice().sort_unstable_by_key(|it| it.word.bits);
+        made.as_mut_slice().sort_unstable_by_key(|it| it.word.len());
         Ok(SymbolWords { tree: self, made })
     }
 
     /// Returns the code word of a symbol, if it has at most 63 bits.
-    fn short_word(&self, symbol: S) -> Option<ShortWord>
+    fn short_word(&self, symbol: S) -> Option<CodeWord>
         ensures { MatchOption result (63 < length (symbol_word S.eq (tree_of self.now) symbol))
-            (λ word. short_bits word ≡ symbol_word S.eq (tree_of self.now) symbol) }
+            (λ word. code_bits word ≡ symbol_word S.eq (tree_of self.now) symbol) }
     {
-        let mut word = ShortWord::new();
-        match self.to_bits(symbol, &mut word) {
-            Ok(()) => Some(word),
+        let mut gathered = Gathered {
+            word: CodeWord::new(),
+        };
+        match self.to_bits(symbol, &mut gathered) {
+            Ok(()) => Some(gathered.word),
             Err(_) => None,
         }
     }
@@ -141,11 +109,15 @@ impl<S: Copy + Eq, A: Allocator> HuffmanTree<S, A> {
 
 impl<S: Copy + Eq, A: Allocator> SymbolWords<'_, S, A> {
     ghost use Rattle.std.specs.Prelude.{◌≡◌, option_map};
-    ghost use Rattle.bitstream_value.specs.SymbolWords.{found_word, short_bits, words_made};
+    ghost use Rattle.bitstream_stream.specs.Writing.CodeWord.{code_bits};
+    ghost use Rattle.bitstream_stream.specs.Writing.Sink.{WritesAll};
+    ghost use Rattle.bitstream_value.specs.HuffmanTree.{tree_of};
+    ghost use Rattle.bitstream_value.specs.SymbolWords.{found_word, words_made};
+    ghost use Rattle.bitstream_value.specs.Tree.{bit_by_bit, symbol_word};
 
     /// Returns the code word of a symbol, if it was precomputed.
-    fn find(&self, symbol: S) -> Option<ShortWord>
-        ensures { option_map short_bits result ≡ found_word S.eq (words_made self.now) symbol }
+    fn find(&self, symbol: S) -> Option<CodeWord>
+        ensures { option_map code_bits result ≡ found_word S.eq (words_made self.now) symbol }
     {
         for it in self.made.as_slice() {
             if it.symbol == symbol {
@@ -153,6 +125,16 @@ impl<S: Copy + Eq, A: Allocator> SymbolWords<'_, S, A> {
             }
         }
         None
+    }
+
+    /// Writes the code word of a symbol by the tree.
+    #[inline(never)]
+    fn write_by_tree<P: PutBit>(&self, symbol: S, put: &mut P) -> Result<(), Error>
+        ensures writes { WritesAll P.sink
+            (bit_by_bit (symbol_word S.eq (tree_of self.now.tree.now) symbol))
+            put.old result put.new }
+    {
+        self.tree.to_bits(symbol, put)
     }
 }
 
@@ -165,8 +147,8 @@ impl<S: Copy + Eq, A: Allocator> ToBits for SymbolWords<'_, S, A> {
 
     fn to_bits<P: PutBit>(&self, symbol: S, put: &mut P) -> Result<(), Error> {
         match self.find(symbol) {
-            Some(word) => word.write(put),
-            None => self.tree.to_bits(symbol, put),
+            Some(word) => put.put_word(word),
+            None => self.write_by_tree(symbol, put),
         }
     }
 }

@@ -1,6 +1,4 @@
 use Rattle.std.proofs.Common.{◌∙◌, ◌++◌, ap, arith, length, List, Bool}
-use Rattle.bitstream_number.specs.Word.{High}
-use Rattle.bitstream_number.proofs.WordLemmas.{length-word}
 use Rattle.bitstream_value.specs.HuffmanTree.{tree_of}
 use Rattle.bitstream_value.specs.Tree.{symbol_word}
 use Rattle.bitstream_value.proofs.WordsLemmas.{all-behind, too-long}
@@ -9,13 +7,11 @@ use Rattle.bitstream_value.proofs.huffman.tree.HuffmanTree.short_word.Goals as g
 pub returns-in-Ok : goal.returns-in-Ok
 returns-in-Ok g c =
     let w = symbol_word g.S.PartialEq.eq (tree_of c.args.self.now) c.args.symbol in
-    all-behind w c.new-word.result c.to_bits.new.put c.in-Ok.ensures.writes
-    ∙ ap (λ (prefix : List Bool). prefix ++ w) c.new-word.ensures
+    all-behind w _ c.to_bits.new.put c.in-Ok.ensures.writes ∙ ap (λ (prefix : List Bool). prefix ++ w) c.new.ensures
 
 pub returns-in-Err : goal.returns-in-Err
 returns-in-Err g c =
     let w = symbol_word g.S.PartialEq.eq (tree_of c.args.self.now) c.args.symbol in
-    let long = too-long w c.new-word.result c.to_bits.new.put _ c.in-Err.ensures.writes in
-    let none = ap (λ (u : List Bool). length u) c.new-word.ensures in
-    let size = length-word High c.new-word.result.bits c.new-word.result.number in
-    omega (arith, long, none, size)
+    let long = too-long w _ c.to_bits.new.put _ c.in-Err.ensures.writes in
+    let none = ap (λ (u : List Bool). length u) c.new.ensures in
+    omega (arith, long, none)

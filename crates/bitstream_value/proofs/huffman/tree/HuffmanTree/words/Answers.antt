@@ -4,6 +4,7 @@ use Rattle.std.proofs.lemmas.List.{with_items_is}
 use Rattle.std.proofs.lemmas.List.Elements.{All-append, All-cons, All-nil}
 use Rattle.std.proofs.lemmas.List.Sorted.{All-permutation, IsNonDecreasingBy-from_sort_by_key}
 use Rattle.std.specs.List.Sorted.{IsNonDecreasingBy}
+use Rattle.bitstream_stream.specs.Writing.CodeWord.{code_bits}
 use Rattle.bitstream_value.specs.HuffmanTree.{nodes_of, tree_of}
 use Rattle.bitstream_value.specs.declared.huffman.tree.words.SymbolWord.{SymbolWord}
 use Rattle.bitstream_value.proofs.NodesLemmas.{tree_of-stands}
@@ -70,8 +71,8 @@ returns g c =
           (sym (with_items_is c.loop-node.made sorted full))
           (short-sorted same tree (nodes_of c.args.self.now) _ _ _ _ sorted c.as_slice-node-items.ensures.value
           c.loop-node-test.false held order c.loop-node.invariant.short)) symbol w path few;
-      order = subst (IsNonDecreasingBy (λ (it : SymbolWord g.row.S.Denot). it.word.bits))
+      order = subst (IsNonDecreasingBy (λ (it : SymbolWord g.row.S.Denot). length (code_bits it.word)))
           (sym (with_items_is c.loop-node.made sorted full))
-          (IsNonDecreasingBy-from_sort_by_key (λ (it : SymbolWord g.row.S.Denot). it.word.bits) sorted
+          (IsNonDecreasingBy-from_sort_by_key (λ (it : SymbolWord g.row.S.Denot). length (code_bits it.word)) sorted
           c.sort_unstable_by_key.ensures.sorted (λ a r f called. search rules));
     }
