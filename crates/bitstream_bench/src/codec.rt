@@ -3,10 +3,13 @@
 use crate::asserts::holds;
 use bitstream_io::Error;
 use flac_codec::{
-    Channels, Decoder, FileHeader, FlacError, FrameHeader, MetadataReader, decode_file,
-    decode_frame, encode_file, encode_frame, is_file, is_frame,
+    Channels, Decoder, EncodeError, Encoder, FileHeader, FlacError, FrameHeader, MetadataBlock,
+    MetadataReader, Stereo, decode_file, decode_frame, encode_file, encode_frame, is_file,
+    is_frame, is_start,
 };
 use std::alloc::Global;
+use std::io::{ErrorKind, Write};
+use test_streams::{Refuse, Short};
 
 // The second frame of the second example of RFC 9639 (appendix D.2): three samples in two verbatim channels.
 const VERBATIM: &[u8] =
@@ -19,6 +22,20 @@ const LEFT_SIDE: &[u8] =
 // A file that `flac` wrote of the 19 samples of the second example of RFC 9639: two frames behind a comment.
 const FILE: &[u8] =
     b"\x66\x4c\x61\x43\x00\x00\x00\x22\x00\x10\x00\x10\x00\x00\x17\x00\x00\x44\x0a\xc4\x42\xf0\x00\x00\x00\x13\xd5\xb0\x56\x49\x75\xe9\x8b\x8d\x8b\x93\x04\x22\x75\x7b\x81\x03\x84\x00\x00\x28\x20\x00\x00\x00\x72\x65\x66\x65\x72\x65\x6e\x63\x65\x20\x6c\x69\x62\x46\x4c\x41\x43\x20\x31\x2e\x34\x2e\x32\x20\x32\x30\x32\x32\x31\x30\x32\x32\x00\x00\x00\x00\xff\xf8\x69\x98\x00\x0f\x99\x12\x08\x67\x01\x62\x3d\x14\x42\x99\x8f\x5d\xf7\x0d\x6f\xe0\x0c\x17\xca\xeb\x21\x00\x0e\xe7\xa7\x7a\x24\xa1\x59\x0c\x12\x17\xb6\x03\x09\x7b\x78\x4f\xaa\x9a\x33\xd2\x85\xe0\x70\xad\x5b\x1b\x48\x51\xb4\x01\x0d\x99\xd2\xcd\x1a\x68\xf1\xe6\xb8\x10\xff\xf8\x69\x18\x01\x02\xa4\x02\xc3\x82\xc4\x0b\xc1\x4a\x03\xee\x48\xdd\x03\xb6\x7c\x13\x30";
+
+// The samples of FILE.
+const LEFT: [i64; 19] = [
+    10372, 18041, 14942, 17876, 15627, 17899, 16242, 18077, 16824, 18263, 17295, -14418, -15201,
+    -14508, -15195, -14818, -15486, -15349, -16054,
+];
+
+const RIGHT: [i64; 19] = [
+    6070, 10545, 8743, 10449, 9143, 10463, 9502, 10569, 9840, 10680, 10113, -8428, -8895, -8476,
+    -8896, -8653, -9072, -8958, -9410,
+];
+
+// The number of bytes of FILE before its first frame.
+const START: usize = 86;
 
 /// Returns `count` samples of at most 12 bits that are neither equal nor regular.
 fn samples(alloc: Global, count: usize, step: i64) -> Result<Vec<i64>, Error> {
@@ -204,15 +221,7 @@ fn frames_from_outside_are_decoded(rt: HostRuntime) {
 fn files_are_encoded_and_decoded(rt: HostRuntime) {
     let alloc = rt.alloc();
     holds(&rt, matches!(file_again(alloc), Ok(true)));
-    let left = [
-        10372, 18041, 14942, 17876, 15627, 17899, 16242, 18077, 16824, 18263, 17295, -14418,
-        -15201, -14508, -15195, -14818, -15486, -15349, -16054,
-    ];
-    let right = [
-        6070, 10545, 8743, 10449, 9143, 10463, 9502, 10569, 9840, 10680, 10113, -8428, -8895,
-        -8476, -8896, -8653, -9072, -8958, -9410,
-    ];
-    holds(&rt, file_decodes_to(alloc, FILE, &left, &right));
+    holds(&rt, file_decodes_to(alloc, FILE, &LEFT, &RIGHT));
 }
 
 /// Returns true if a file of a thousand samples on a line has less than a tenth of their bytes.
@@ -239,4 +248,139 @@ fn line_is_short(alloc: Global) -> Result<bool, FlacError> {
 #[test]
 fn regular_samples_become_short(rt: HostRuntime) {
     holds(&rt, matches!(line_is_short(rt.alloc()), Ok(true)));
+}
+
+/// Returns the channels of the two frames of [`FILE`].
+fn frames_of_file(alloc: Global) -> Result<Vec<Vec<Vec<i64>>>, FlacError> {
+    let mut decoder = Decoder::new(alloc, FILE)?;
+    let mut frames = Vec::new(alloc);
+    for _ in 0..2u32 {
+        if let Some(frame) = decoder.next_frame(alloc)? {
+            frames.push(frame.channels)?;
+        }
+    }
+    Ok(frames)
+}
+
+/// Returns an encoder over a writer that begins as [`FILE`] does, or `None` if it is refused.
+fn begun<W: Write + Drop>(
+    alloc: Global,
+    stereo: Stereo,
+    out: W,
+) -> Result<Option<Encoder<W>>, FlacError> {
+    let metadata = MetadataReader::new(alloc, FILE)?;
+    let info = *metadata.stream_info();
+    let mut comment = Vec::new(alloc);
+    comment.extend_from_slice(&FILE[46..START])?;
+    let mut blocks = Vec::new(alloc);
+    blocks.push(MetadataBlock {
+        kind: 4,
+        bytes: comment,
+    })?;
+    if !is_start(&info, blocks.as_slice()) {
+        return Ok(None);
+    }
+    match Encoder::new(alloc, out, &info, blocks.as_slice(), stereo) {
+        Ok(encoder) => Ok(Some(encoder)),
+        Err(_) => Ok(None),
+    }
+}
+
+/// Writes frames, and returns the number of their bytes, or `None` if one is refused.
+fn sizes<W: Write>(
+    alloc: Global,
+    encoder: &mut Encoder<W>,
+    frames: &[Vec<Vec<i64>>],
+) -> Option<u32> {
+    let mut all = 0u32;
+    for frame in frames {
+        if !encoder.is_next(frame.as_slice()) {
+            return None;
+        }
+        match encoder.write_frame(alloc, frame.as_slice()) {
+            Ok(size) => all = all.wrapping_add(size.min(65_535) as u32),
+            Err(_) => return None,
+        }
+    }
+    Some(all)
+}
+
+/// Encodes the frames of [`FILE`] over a writer that takes one byte at a time. Returns true if the start is that of the file,
+/// the same samples are decoded, and no frame is accepted after the short one.
+fn is_written_again(alloc: Global, stereo: Stereo) -> Result<bool, FlacError> {
+    let frames = frames_of_file(alloc)?;
+    let out = Short {
+        inner: Vec::new(alloc),
+        short: true,
+    };
+    let Some(mut encoder) = begun(alloc, stereo, out)? else {
+        return Ok(false);
+    };
+    let size = sizes(alloc, &mut encoder, frames.as_slice()).unwrap_or(0);
+    let is_closed = sizes(alloc, &mut encoder, frames.as_slice()).is_none();
+    let is_counted = encoder.samples() == 19;
+    let (out, info) = encoder.finish();
+    let bytes = out.inner.as_slice();
+    Ok(
+        is_closed
+            & is_counted
+            & (info.total_samples == 19)
+            & (info
+                .minimum_frame_size
+                .wrapping_add(info.maximum_frame_size)
+                == size)
+            & (bytes.len() == START.wrapping_add(size as usize))
+            & bytes.starts_with(&FILE[..START])
+            & file_decodes_to(alloc, bytes, &LEFT, &RIGHT),
+    )
+}
+
+/// Returns true if nothing is written after a request that failed, and its frame is not counted.
+fn failure_is_last(alloc: Global) -> Result<bool, FlacError> {
+    let frames = frames_of_file(alloc)?;
+    let out = Refuse {
+        inner: Vec::new(alloc),
+        left: Some(1),
+        once: true,
+        kind: ErrorKind::Other,
+    };
+    let Some(mut encoder) = begun(alloc, Stereo::Estimated, out)? else {
+        return Ok(false);
+    };
+    let Some(frame) = frames.as_slice().first() else {
+        return Ok(false);
+    };
+    if !encoder.is_next(frame.as_slice()) {
+        return Ok(false);
+    }
+    let has_failed = matches!(
+        encoder.write_frame(alloc, frame.as_slice()),
+        Err(EncodeError::Writer(_))
+    );
+    let is_closed = !encoder.is_next(frame.as_slice());
+    let (out, info) = encoder.finish();
+    Ok(
+        has_failed
+            & is_closed
+            & (info.total_samples == 0)
+            & (out.inner.as_slice() == &FILE[..START]),
+    )
+}
+
+#[test]
+fn files_are_encoded_frame_by_frame(rt: HostRuntime) {
+    let alloc = rt.alloc();
+    holds(
+        &rt,
+        matches!(is_written_again(alloc, Stereo::Apart), Ok(true)),
+    );
+    holds(
+        &rt,
+        matches!(is_written_again(alloc, Stereo::Estimated), Ok(true)),
+    );
+    holds(
+        &rt,
+        matches!(is_written_again(alloc, Stereo::Tried), Ok(true)),
+    );
+    holds(&rt, matches!(failure_is_last(alloc), Ok(true)));
 }

@@ -13,10 +13,10 @@ use Rattle.bitstream_io.proofs.CallerLemmas.{packs-whole}
 use Rattle.bitstream_io.proofs.WordLemmas.{length-bits}
 use Rattle.flac_codec.specs.Channels.{channel_count}
 use Rattle.flac_codec.specs.Encodable.{IsFormat}
-use Rattle.flac_codec.specs.File.{as_flac, block_at, blocks_at, channel_of, channels_at, channels_of, count_holds, file_at, file_header, has_marker, info_at, is_of_file, metadata_at, metadata_end, sample_count}
+use Rattle.flac_codec.specs.File.{as_flac, block_at, blocks_at, channel_of, channels_at, channels_of, count_holds, file_at, file_header, has_marker, info_at, is_of_file, metadata_at, metadata_end, metadata_head, metadata_size, sample_count, stream_info_in}
 use Rattle.flac_codec.specs.Frame.{after, channels_at as channels_behind, crc16_holds, frame_at, header_at, IsFoundIn}
 use Rattle.flac_codec.specs.StreamInfo.{stream_info_bits, stream_info_decoder, stream_info_writes, Fits}
-use Rattle.flac_codec.specs.Written.{start_of, IsBlock, IsMetadata}
+use Rattle.flac_codec.specs.Written.{marker, IsBlock, IsMetadata}
 use Rattle.flac_codec.specs.declared.error.FlacError.{FlacError}
 use Rattle.flac_codec.specs.declared.error.FlacError.TheVariants.{Reader}
 use Rattle.flac_codec.specs.declared.header.Channels.{Channels}
@@ -188,35 +188,37 @@ module _ (info : StreamInfo) (packed : List ℕ) (fits : Fits info) (is : bits H
       ap (λ b. as_flac (sure_answer ((stream_info_decoder High).reads 0 b))) whole
       ∙ ap (λ p. as_flac (sure_answer p)) ((stream_info_goes High info fits).back 0 0 [])
 
-  marker : (last : Bool) (more : List ℕ) → has_marker (start_of last ++ (packed ++ more)) ≡ true
-  marker true more =
-      let long = length-append packed more in
-      rw (le-ltb (length (start_of true ++ (packed ++ more))) 4 (omega arith)) refl
-  marker false more =
-      let long = length-append packed more in
-      rw (le-ltb (length (start_of false ++ (packed ++ more))) 4 (omega arith)) refl
+  marked : (rest : List ℕ) → has_marker (marker ++ rest) ≡ true
+  marked rest = rw (le-ltb (length (marker ++ rest)) 4 (omega arith)) refl
 
-  block : (last : Bool) (more : List ℕ) → Ok (first_block last) ≡ metadata_at (drop 4 (start_of last ++ (packed ++ more)))
-  block true more =
-      let long = length-append packed more in
+  block : (last : Bool) (head more : List ℕ) → length head ≡ 4 → metadata_head (head ++ (packed ++ more)) ≡ first_block last
+      → Ok (first_block last) ≡ metadata_at (head ++ (packed ++ more))
+  block last head more four here =
+      let all = head ++ (packed ++ more) in
+      let few : metadata_size all ≡ 38 = ap (λ (m : Metadata). m.size) here in
+      let long = length-append head (packed ++ more) in
+      let rest = length-append packed more in
       let short = size in
-      rw (le-ltb (length (drop 4 (start_of true ++ (packed ++ more)))) 38 (omega (arith, long, short))) refl
-  block false more =
-      let long = length-append packed more in
-      let short = size in
-      rw (le-ltb (length (drop 4 (start_of false ++ (packed ++ more)))) 38 (omega (arith, long, short))) refl
+      ap Ok (sym here) ∙ rw (le-ltb (length all) (metadata_size all) (omega (arith, few, long, rest, short, four))) refl
 
-  pub info-found : (last : Bool) (more : List ℕ) → Ok (info, last) ≡ info_at (start_of last ++ (packed ++ more))
-  info-found true more = rw (marker true more) (after-ok _ (block true more) (after-ok _ (sym (info-back more)) refl))
-  info-found false more = rw (marker false more) (after-ok _ (block false more) (after-ok _ (sym (info-back more)) refl))
+  info-found : (last : Bool) (head more : List ℕ) → length head ≡ 4 → metadata_head (head ++ (packed ++ more)) ≡ first_block last
+      → Ok (info, last) ≡ info_at (marker ++ (head ++ (packed ++ more)))
+  info-found last head more four here =
+      let found : Ok info ≡ stream_info_in (head ++ (packed ++ more)) =
+      sym (ap (λ l. as_flac (sure_answer ((stream_info_decoder High).reads 0 (bits High (take 34 l)))))
+      (drop_at head (packed ++ more) 4 four) ∙ info-back more) in
+      rw (marked (head ++ (packed ++ more))) (after-ok _ (block last head more four here) (after-ok _ found refl))
 
-  pub metadata-found : (last : Bool) → IsMetadata info last (start_of last ++ packed)
-  metadata-found true =
-      let long : length (start_of true ++ packed) ≡ 42 = let short = size in omega (arith, short) in
-      (long, λ more. sym (info-found true more))
-  metadata-found false =
-      let long : length (start_of false ++ packed) ≡ 42 = let short = size in omega (arith, short) in
-      (long, λ more. sym (info-found false more))
+  -- the marker, a header that is read back, and STREAMINFO
+  pub metadata-found : (last : Bool) (head : List ℕ) → length head ≡ 4
+      → ((more : List ℕ) → metadata_head (head ++ more) ≡ first_block last) → IsMetadata info last (marker ++ (head ++ packed))
+  metadata-found last head four back =
+      let long : length (marker ++ (head ++ packed)) ≡ 42 =
+      let sum = length-append head packed in let short = size in omega (arith, sum, short, four) in (
+        long,
+        λ more. ap (λ l. info_at (marker ++ l)) (append_assoc head packed more)
+            ∙ sym (info-found last head more four (back (packed ++ more))),
+      )
 
 -- ---- a file that was encoded: its frames
 

@@ -1,5 +1,5 @@
 -- A file that is encoded frame by frame: its start, and what each call appends.
-use Rattle.std.specs.Prelude.{◌≡◌, ◌⊎◌, ℕ, ◌<◌, ◌≤◌, ◌^◌, if◌then◌else◌, nat_lt, Bool, List, ◌++◌, length, ℤ, Ok}
+use Rattle.std.specs.Prelude.{◌≡◌, ◌⊎◌, ℕ, ◌+◌, ◌-◌, ◌<◌, ◌≤◌, ◌^◌, ◌==◌, if◌then◌else◌, nat_lt, min, Bool, true, false, List, ◌++◌, length, ℤ, Result, Ok, Err}
 use Rattle.std.specs.Global.{Vec}
 use Rattle.std.specs.Int.NonZero.{non_zero_u8_get}
 use Rattle.std.specs.List.{All}
@@ -11,6 +11,7 @@ use Rattle.flac_codec.specs.Start.{start_at}
 use Rattle.flac_codec.specs.StreamInfo.{Fits}
 use Rattle.flac_codec.specs.declared.encode_error.EncodeError.{EncodeError}
 use Rattle.flac_codec.specs.declared.encode_error.EncodeError.TheVariants.{OutOfMemory, Writer}
+use Rattle.flac_codec.specs.declared.encoder.Encoder.{Encoder}
 use Rattle.flac_codec.specs.declared.header.FrameHeader.{FrameHeader}
 use Rattle.flac_codec.specs.declared.starting.MetadataBlock.{MetadataBlock}
 use Rattle.flac_codec.specs.declared.stream_info.StreamInfo.{StreamInfo}
@@ -59,6 +60,56 @@ pub record IsNext (info : StreamInfo) (number : ℕ) (channels : List (Vec ℤ))
   pub most : count_of channels ≤ info.maximum_block_size
   pub whole : All (λ channel. length channel.items ≡ count_of channels) channels
   pub fit : All (λ channel. All (FitsSignedBits (non_zero_u8_get info.bits_per_sample)) channel.items) channels
+
+-- ---- an encoder: what its calls state of it
+
+-- the writer of an encoder
+abbrev pub writer_of : {W : Type 0} → Encoder W → W
+writer_of encoder = encoder.writer
+
+-- STREAMINFO that an encoder wrote
+abbrev pub info_of : {W : Type 0} → Encoder W → StreamInfo
+info_of encoder = encoder.info
+
+-- the number of frames that an encoder wrote
+abbrev pub frames_of : {W : Type 0} → Encoder W → ℕ
+frames_of encoder = encoder.frames
+
+-- the number of samples per channel that an encoder wrote, at most 2^64 - 1
+abbrev pub samples_of : {W : Type 0} → Encoder W → ℕ
+samples_of encoder = encoder.samples
+
+-- the size of the smallest frame that an encoder wrote, as STREAMINFO states it, or 0 before the first one
+abbrev pub smallest_of : {W : Type 0} → Encoder W → ℕ
+smallest_of encoder = encoder.smallest
+
+-- the size of the largest frame that an encoder wrote, as STREAMINFO states it, or 0 before the first one
+abbrev pub largest_of : {W : Type 0} → Encoder W → ℕ
+largest_of encoder = encoder.largest
+
+-- an encoder accepts another frame
+abbrev pub is_open : {W : Type 0} → Encoder W → Bool
+is_open encoder = encoder.is_open
+
+-- an encoder after its writer failed: no frame follows, and only what the writer holds may differ too
+abbrev pub stopped : {W : Type 0} → W → Encoder W → Encoder W
+stopped writer encoder = record encoder { writer = writer; is_open = false }
+
+-- the number of samples per channel after a frame of `count` samples that was written, or after a failure
+abbrev pub samples_after_write : Result ℕ EncodeError → ℕ → ℕ → ℕ
+samples_after_write (Ok size) count samples = min (samples + count) (2 ^ 64 - 1)
+samples_after_write (Err error) count samples = samples
+
+-- the size of the smallest frame after one of `size` bytes, as STREAMINFO states it
+abbrev pub smaller : ℕ → ℕ → ℕ
+smaller smallest size = if smallest == 0 then min size (2 ^ 24 - 1) else min smallest (min size (2 ^ 24 - 1))
+
+-- An encoder accepts another frame after one of `count` samples that was written, or after a failure. No frame follows one
+-- with fewer samples than the greatest block size.
+abbrev pub open_after : Result ℕ EncodeError → ℕ → ℕ → Bool
+open_after (Ok size) count greatest = count == greatest
+open_after (Err OutOfMemory) count greatest = true
+open_after (Err (Writer error)) count greatest = false
 
 -- the number of samples as STREAMINFO states it, or 0 if it has no room for it
 abbrev pub stated_total : ℕ → ℕ

@@ -29,7 +29,6 @@ IsBlock sample_size count bytes channels =
     (1 ≤ length bytes)
     × ((info : StreamInfo) → IsFormat sample_size count info → IsFoundIn (block_at info) bytes channels)
 
--- the marker, and the header of STREAMINFO, which is the last block of metadata or not
-abbrev pub start_of : Bool → List ℕ
-start_of true = 0x66 ∷ 0x4c ∷ 0x61 ∷ 0x43 ∷ 0x80 ∷ 0 ∷ 0 ∷ 34 ∷ []
-start_of false = 0x66 ∷ 0x4c ∷ 0x61 ∷ 0x43 ∷ 0 ∷ 0 ∷ 0 ∷ 34 ∷ []
+-- the marker of a file, `fLaC`
+abbrev pub marker : List ℕ
+marker = 0x66 ∷ 0x4c ∷ 0x61 ∷ 0x43 ∷ []

@@ -1,10 +1,11 @@
 //! Files of a writer (sections 6, 8 and 9), encoded frame by frame.
-ghost use Rattle.std.specs.Prelude.{◌≡◌, ◌↔◌, ◌+◌, ◌≤◌, ◌<◌, ◌^◌, ℕ, List, false, length, map, take, true, IfErr, IfOk, IsTrue, MatchResult, OnOk};
+ghost use Rattle.std.specs.Prelude.{◌≡◌, ◌↔◌, ◌+◌, ◌-◌, ◌≤◌, ◌<◌, ◌^◌, ℕ, List, false, length, map, max, min, take, true, IfErr, IfOk, IsTrue, MatchResult, OnOk};
 ghost use Rattle.std.specs.Int.NonZero.{non_zero_u8_get};
 ghost use Rattle.std.specs.Io.KnownBytes.{Appends};
 ghost use Rattle.bitstream_io.specs.Callers.{OutOfMemory};
 ghost use Rattle.flac_codec.specs.Channels.{channel_count};
-ghost use Rattle.flac_codec.specs.Encoding.{stated_total, IsFrameOf, IsLike, IsNext, IsStart, IsStartOf, IsZeroOr, OnFailure};
+ghost use Rattle.flac_codec.specs.Encodable.{count_of};
+ghost use Rattle.flac_codec.specs.Encoding.{frames_of, info_of, is_open, largest_of, open_after, samples_after_write, samples_of, smaller, smallest_of, stated_total, stopped, writer_of, IsFrameOf, IsLike, IsNext, IsStart, IsStartOf, IsZeroOr, OnFailure};
 ghost use Rattle.flac_codec.specs.File.{rate_of};
 ghost use Rattle.flac_codec.specs.Frame.{width_of};
 ghost use Rattle.flac_codec.specs.Header.{IsChannels, IsHeader, IsSampleRate, IsSampleSize};
@@ -40,17 +41,18 @@ pub struct Encoder<W> {
     // The sizes of the smallest and of the largest frame in bytes, or 0 before the first one.
     smallest: u32,
     largest: u32,
-    // False after a frame with fewer samples than the others, and after the writer failed.
+    // False after a frame with fewer samples than the greatest block size, and after the writer failed.
     is_open: bool,
 }
 
 impl<W: Write> Encoder<W> {
-    /// Writes the marker, STREAMINFO, and other blocks of metadata. `stereo` is the way in which the coding of two channels is
-    /// chosen. [`is_start`](crate::is_start) tests what is required.
+    /// Writes the marker, STREAMINFO, and other blocks of metadata, by one request if the writer takes all bytes at once.
+    /// `stereo` is the way in which the coding of two channels is chosen. [`is_start`](crate::is_start) tests what is required.
     ///
     /// # Errors
     ///
-    /// `OutOfMemory` if an allocation failed, and `Writer` if the writer failed.
+    /// `OutOfMemory` if an allocation failed. Nothing was written. `Writer` if the writer failed. It may have written the first
+    /// bytes of the start. After an error the writer is dropped.
     pub fn new(
         alloc: Global,
         writer: W,
@@ -63,10 +65,12 @@ impl<W: Write> Encoder<W> {
         requires { IsStart info.now blocks.now }
         // A decoder finds STREAMINFO in what was written, and the frames after it.
         ensures written { IfOk result (λ encoder. (bytes : List ℕ) × IsStartOf info.now bytes
-            × Appends (W.contents writer) (W.contents encoder.writer) bytes) }
-        ensures info { IfOk result (λ encoder. encoder.info ≡ info.now) }
-        ensures frames { IfOk result (λ encoder. encoder.frames ≡ 0) }
-        ensures accepts { IfOk result (λ encoder. encoder.is_open ≡ true) }
+            × Appends (W.contents writer) (W.contents (writer_of encoder)) bytes) }
+        ensures info { IfOk result (λ encoder. info_of encoder ≡ info.now) }
+        ensures frames { IfOk result (λ encoder. frames_of encoder ≡ 0) }
+        ensures samples { IfOk result (λ encoder. samples_of encoder ≡ 0) }
+        ensures sizes { IfOk result (λ encoder. (smallest_of encoder ≡ 0) × (largest_of encoder ≡ 0)) }
+        ensures accepts { IfOk result (λ encoder. is_open encoder ≡ true) }
     {
         let mut writer = writer;
         let start = match encode_start(alloc, info, blocks) {
@@ -90,16 +94,16 @@ impl<W: Write> Encoder<W> {
 
     /// Returns the number of samples per channel that were written, up to 2^64 - 1.
     pub fn samples(&self) -> u64
-        ensures { result ≡ self.now.samples }
+        ensures { result ≡ samples_of self.now }
     {
         self.samples
     }
 
     /// Returns true if these channels can be the next frame: as many as STREAMINFO states, each with the same number of samples,
-    /// from 1 to the greatest block size, that fit their bits. Only the last frame may have fewer samples than that size. No
-    /// frame follows it, or an error of the writer.
+    /// from 1 to the greatest block size, that fit their bits. No frame follows one with fewer samples than that size, nor an
+    /// error of the writer.
     pub fn is_next(&self, channels: &[Vec<i64>]) -> bool
-        ensures { IsTrue result ↔ (self.now.is_open ≡ true) × IsNext self.now.info self.now.frames channels.now }
+        ensures { IsTrue result ↔ (is_open self.now ≡ true) × IsNext (info_of self.now) (frames_of self.now) channels.now }
     {
         self.is_open && is_next(&self.info, self.frames, channels)
     }
@@ -116,19 +120,26 @@ impl<W: Write> Encoder<W> {
         alloc: Global,
         channels: &[Vec<i64>],
     ) -> Result<usize, EncodeError>
-        requires accepts { self.old.is_open ≡ true }
-        requires next { IsNext self.old.info self.old.frames channels.now }
+        requires accepts { is_open self.old ≡ true }
+        requires next { IsNext (info_of self.old) (frames_of self.old) channels.now }
         // What was written is a frame, in which a decoder finds these samples.
         ensures written { IfOk result (λ size. (bytes : List ℕ) × (length bytes ≡ size)
-            × IsFrameOf self.old.info self.old.frames bytes (map (λ channel. channel.items) channels.now)
-            × Appends (W.contents self.old.writer) (W.contents self.new.writer) bytes) }
-        ensures frames { OnOk result (self.new.frames ≡ self.old.frames + 1) }
+            × IsFrameOf (info_of self.old) (frames_of self.old) bytes (map (λ channel. channel.items) channels.now)
+            × Appends (W.contents (writer_of self.old)) (W.contents (writer_of self.new)) bytes) }
         // If memory was refused, nothing changed. If the writer failed, the first n bytes of such a frame were written.
         ensures failed { IfErr result (λ error. OnFailure error (self.new ≡ self.old)
-            ((self.new.is_open ≡ false) × ((bytes : List ℕ) × (n : ℕ)
-            × IsFrameOf self.old.info self.old.frames bytes (map (λ channel. channel.items) channels.now)
-            × Appends (W.contents self.old.writer) (W.contents self.new.writer) (take n bytes)))) }
-        ensures info { self.new.info ≡ self.old.info }
+            ((self.new ≡ stopped (writer_of self.new) self.old) × (bytes : List ℕ) × (n : ℕ)
+            × IsFrameOf (info_of self.old) (frames_of self.old) bytes (map (λ channel. channel.items) channels.now)
+            × Appends (W.contents (writer_of self.old)) (W.contents (writer_of self.new)) (take n bytes))) }
+        ensures info { info_of self.new ≡ info_of self.old }
+        ensures frames { OnOk result (frames_of self.new ≡ frames_of self.old + 1) }
+        // The samples of the frame are counted, if it was written.
+        ensures samples { samples_of self.new ≡ samples_after_write result (count_of channels.now) (samples_of self.old) }
+        ensures sizes { IfOk result (λ size. (smallest_of self.new ≡ smaller (smallest_of self.old) size)
+            × (largest_of self.new ≡ max (largest_of self.old) (min size (2 ^ 24 - 1)))) }
+        // Only after a frame of the greatest block size, or if memory was refused, another frame is accepted.
+        ensures open { is_open self.new
+            ≡ open_after result (count_of channels.now) ((info_of self.old).maximum_block_size) }
     {
         let frame = match encode_next(alloc, &self.info, self.stereo, self.frames, channels) {
             Ok(frame) => frame,
@@ -149,9 +160,13 @@ impl<W: Write> Encoder<W> {
     /// Returns the writer, and STREAMINFO with the sizes of the frames and the number of samples, or 0 if it has no room for
     /// that number. Its MD5 is that of the STREAMINFO that was written.
     pub fn finish(self) -> (W, StreamInfo)
-        ensures writer { result.0 ≡ self.writer }
-        ensures like { IsLike self.info result.1 }
-        ensures total { result.1.total_samples ≡ stated_total self.samples }
+        ensures writer { result.0 ≡ writer_of self }
+        ensures like { IsLike (info_of self) result.1 }
+        ensures info { result.1 ≡ record (info_of self) {
+          minimum_frame_size = smallest_of self;
+          maximum_frame_size = largest_of self;
+          total_samples = stated_total (samples_of self);
+        } }
     {
         let Encoder {
             writer,
@@ -172,15 +187,28 @@ impl<W: Write> Encoder<W> {
 
     /// Notes the size of a frame.
     fn add_size(&mut self, size: usize)
+        ensures smallest { self.new.smallest ≡ smaller self.old.smallest size }
+        ensures largest { self.new.largest ≡ max self.old.largest (min size (2 ^ 24 - 1)) }
         ensures writer { self.new.writer ≡ self.old.writer }
         ensures info { self.new.info ≡ self.old.info }
         ensures frames { self.new.frames ≡ self.old.frames }
+        ensures samples { self.new.samples ≡ self.old.samples }
+        ensures open { self.new.is_open ≡ self.old.is_open }
     {
-        let size = size.min(LARGEST) as u32;
-        if self.smallest == 0 || size < self.smallest {
-            self.smallest = size;
-        }
-        self.largest = self.largest.max(size);
+        self.smallest = smaller(self.smallest, size);
+        self.largest = self.largest.max(size.min(LARGEST) as u32);
+    }
+}
+
+/// Returns the smaller one of two sizes of frames, as STREAMINFO states it. The first size is 0 if there is none.
+fn smaller(smallest: u32, size: usize) -> u32
+    ensures { result ≡ smaller smallest size }
+{
+    let size = size.min(LARGEST) as u32;
+    if smallest == 0 {
+        size
+    } else {
+        smallest.min(size)
     }
 }
 

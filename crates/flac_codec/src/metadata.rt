@@ -19,7 +19,8 @@ pub struct Metadata {
 }
 
 impl Metadata {
-    /// Returns the 4 bytes of the header.
+    /// Returns the 4 bytes of the header. The type is below 128, and fewer than 2^24 bytes follow the header, so `size` is 4 to
+    /// 2^24 + 3 bytes.
     pub fn to_bytes(&self) -> [u8; 4]
         requires kind { self.now.kind < 128 }
         requires some { 4 ≤ self.now.size }

@@ -4,7 +4,7 @@ ghost use Rattle.std.specs.List.{All};
 ghost use Rattle.bitstream_io.specs.Callers.{OutOfMemory};
 ghost use Rattle.flac_codec.specs.Encoding.{EndsMetadata, IsBlockOfMetadata, IsStart, IsStartOf};
 ghost use Rattle.flac_codec.specs.StreamInfo.{Fits};
-ghost use Rattle.flac_codec.specs.Written.{start_of, IsMetadata};
+ghost use Rattle.flac_codec.specs.Written.{IsMetadata};
 
 use crate::fits::{bytes_fit, size_fits};
 use crate::metadata::Metadata;
@@ -21,7 +21,8 @@ pub struct MetadataBlock {
     pub bytes: Vec<u8>,
 }
 
-/// Returns the bytes of a file before its first frame: the marker, STREAMINFO, and other blocks of metadata.
+/// Returns the bytes of a file before its first frame: the marker, STREAMINFO, and other blocks of metadata. [`is_start`] tests
+/// what is required.
 ///
 /// # Errors
 ///
@@ -97,23 +98,18 @@ pub(crate) fn encode_info(alloc: Global, info: &StreamInfo, last: bool) -> Resul
     requires { Fits info.now }
     ensures { MatchResult result (λ bytes. IsMetadata info.now last bytes.items) (λ error. error ≡ OutOfMemory) }
 {
+    let head = Metadata {
+        last,
+        kind: 0,
+        size: 38,
+    };
     let mut bytes = Vec::new(alloc);
-    bytes.extend_from_slice(&start_of(last))?;
+    bytes.extend_from_slice(b"fLaC")?;
+    bytes.extend_from_slice(&head.to_bytes())?;
     let mut buffer = [0; 34];
     let packed = info.pack_into(&mut buffer)?;
     bytes.extend_from_slice(packed.as_slice())?;
     Ok(bytes)
-}
-
-/// Returns the marker, and the header of STREAMINFO.
-fn start_of(last: bool) -> [u8; 8]
-    ensures { result ≡ start_of last }
-{
-    if last {
-        *b"fLaC\x80\x00\x00\x22"
-    } else {
-        *b"fLaC\x00\x00\x00\x22"
-    }
 }
 
 /// Returns blocks of metadata, of which the last one is the last of the file.

@@ -12,7 +12,7 @@ use crate::report::Report;
 use crate::settings::{ByteOrder, Encoding};
 use crate::status::Status;
 use crate::unit::{ReadUnits, Step, Unit};
-use anyhow::Error;
+use anyhow::{Error, anyhow};
 use std::alloc::Global;
 use std::io;
 use std::io::Write;
@@ -75,6 +75,15 @@ impl Command {
             Command::Flac(_) | Command::FlacTest | Command::FlacWav => true,
             Command::FlacEncode(_) | Command::Gunzip => true,
             _ => false,
+        }
+    }
+
+    /// Returns the error for a directory. A command that prints no elements has no option `--errors`, and reads no directory.
+    pub fn directory_error(self) -> Error {
+        if self.decodes() {
+            anyhow!("a directory; this command reads files")
+        } else {
+            anyhow!("a directory, which --errors alone reads")
         }
     }
 }

@@ -3,11 +3,11 @@
 use crate::report::Report;
 use crate::samples::{Ending, NoSamples, Samples, Sound};
 use crate::seek_table::SeekTable;
-use crate::settings::{Encoding, PAIRS, Stereo};
+use crate::settings::Encoding;
 use crate::status::Status;
 use anyhow::{Error, anyhow};
 use flac_codec::stream_info::StreamInfo;
-use flac_codec::{Channels, FrameHeader, best_channels, encode_frame, is_frame};
+use flac_codec::{Encoder, MetadataBlock, is_start};
 use md5::{Digest, Md5};
 use std::alloc::{AllocError, Global};
 use std::io::{Read, Seek, SeekFrom, Write};
@@ -21,18 +21,12 @@ const SEEK_POINTS: u64 = 46;
 /// The number of samples per channel from which on STREAMINFO has no room for it.
 const TOO_MANY: u64 = 0x10_0000_0000;
 
-/// The greatest size of a frame that STREAMINFO has room for.
-const LARGEST: usize = 0xff_ffff;
-
-/// The totals of the samples and frames so far.
+/// The MD5 and the number of the samples so far.
 #[derive(Drop)]
 struct Totals {
     md5: Md5,
     // The number of samples per channel.
     samples: u64,
-    // The sizes of the smallest and of the largest frame in bytes, or 0 before the first one.
-    smallest: u32,
-    largest: u32,
 }
 
 impl Totals {
@@ -41,8 +35,6 @@ impl Totals {
         Totals {
             md5: Md5::new(),
             samples: 0,
-            smallest: 0,
-            largest: 0,
         }
     }
 
@@ -53,20 +45,9 @@ impl Totals {
         self.samples = self.samples.saturating_add(count);
     }
 
-    /// Adds a frame of this size.
-    fn add_frame(&mut self, size: usize) {
-        let size = size.min(LARGEST) as u32;
-        if self.smallest == 0 || size < self.smallest {
-            self.smallest = size;
-        }
-        self.largest = self.largest.max(size);
-    }
-
     /// Returns the properties of a file with these totals.
     fn stream_info(self, sound: Sound, block_size: u16) -> Result<StreamInfo, Error> {
         Ok(StreamInfo {
-            minimum_frame_size: self.smallest,
-            maximum_frame_size: self.largest,
             total_samples: if self.samples < TOO_MANY {
                 self.samples
             } else {
@@ -101,136 +82,66 @@ fn channel(alloc: Global, sound: Sound, block: &[u8], at: usize) -> Result<Vec<i
     Ok(samples)
 }
 
-/// Returns the header of a frame of a block.
-fn header(sound: Sound, number: u64, channels: Channels, block: &[Vec<i64>]) -> FrameHeader {
-    let rate = sound.sample_rate;
-    // Other rates and numbers of bits are only in STREAMINFO.
-    let has_rate = rate < 65_536 || (rate % 10 == 0 && rate < 655_360);
-    let has_bits = matches!(sound.bits, 8 | 12 | 16 | 20 | 24 | 32);
-    let block_size = match block.first() {
-        Some(samples) => samples.len().min(65_535) as u32,
-        None => 0,
-    };
-    FrameHeader {
-        variable: false,
-        block_size,
-        sample_rate: if has_rate { rate } else { 0 },
-        channels,
-        sample_size: if has_bits { sound.bits } else { 0 },
-        number,
-    }
-}
-
-/// Returns the frame of a block with these channels.
-fn frame_of(
-    alloc: Global,
-    sound: Sound,
-    header: &FrameHeader,
-    channels: &[Vec<i64>],
-) -> Result<Vec<u8>, Error> {
-    if !is_frame(sound.bits, header, channels) {
-        let bits = sound.bits;
-        let number = header.number;
-        return Err(anyhow!("a sample of block {number} has more than {bits} bits"));
-    }
-    Ok(encode_frame(alloc, sound.bits, header, channels)?)
-}
-
-/// Returns the shortest frame of a block of two channels.
-fn shortest_frame(
-    alloc: Global,
-    sound: Sound,
-    number: u64,
-    channels: &[Vec<i64>],
-) -> Result<Vec<u8>, Error> {
-    let mut shortest = Vec::new(alloc);
-    for pair in PAIRS {
-        let header = header(sound, number, pair, channels);
-        let frame = frame_of(alloc, sound, &header, channels)?;
-        if shortest.is_empty() || frame.len() < shortest.len() {
-            shortest = frame;
-        }
-    }
-    Ok(shortest)
-}
-
-/// Returns the frame of a block.
-fn frame(
-    alloc: Global,
-    sound: Sound,
-    stereo: Stereo,
-    number: u64,
-    block: &[u8],
-) -> Result<Vec<u8>, Error> {
+/// Returns the samples of all channels in a block.
+fn channels(alloc: Global, sound: Sound, block: &[u8]) -> Result<Vec<Vec<i64>>, AllocError> {
     let mut channels = Vec::new(alloc);
     for at in 0..sound.channels {
         channels.push(channel(alloc, sound, block, at as usize)?)?;
     }
-    let channels = channels.as_slice();
-    let count = sound.channels.clamp(1, 8);
-    let coding = match stereo {
-        Stereo::Tried if count == 2 => return shortest_frame(alloc, sound, number, channels),
-        Stereo::Apart => Channels::Independent(count),
-        _ => best_channels(count, channels),
-    };
-    let header = header(sound, number, coding, channels);
-    frame_of(alloc, sound, &header, channels)
+    Ok(channels)
 }
 
-/// Writes the header of a block of metadata.
-fn write_head<W: Write>(out: &mut W, kind: u8, is_last: bool, size: u32) -> Result<(), Error> {
-    let [_, a, b, c] = size.to_be_bytes();
-    let last = if is_last { 0x80 } else { 0 };
-    out.write_all(&[last | kind, a, b, c])?;
-    Ok(())
+/// Returns the blocks of metadata after STREAMINFO: the seek points, which are filled in later, and the padding, if there are
+/// any.
+fn metadata(alloc: Global, encoding: Encoding) -> Result<Vec<MetadataBlock>, AllocError> {
+    let mut blocks = Vec::new(alloc);
+    if encoding.seek_points > 0 {
+        let points = SeekTable::new(alloc, encoding.seek_points);
+        blocks.push(MetadataBlock {
+            kind: 3,
+            bytes: points.to_bytes(alloc)?,
+        })?;
+    }
+    if encoding.padding > 0 {
+        let mut bytes = Vec::new(alloc);
+        bytes.resize(encoding.padding as usize, 0)?;
+        blocks.push(MetadataBlock { kind: 1, bytes })?;
+    }
+    Ok(blocks)
 }
 
-/// Writes the marker, STREAMINFO, the seek points, which are filled in later, and the padding, if there are any.
-fn write_metadata<W: Write>(
+/// Writes all that precedes the first frame, and returns the encoder of the frames.
+fn begin<W: Write + Drop>(
     alloc: Global,
     encoding: Encoding,
     info: &StreamInfo,
-    out: &mut W,
-) -> Result<(), Error> {
-    let mut bytes = [0u8; 34];
-    info.pack_into(&mut bytes)?;
-    let Encoding {
-        seek_points,
-        padding,
-        ..
-    } = encoding;
-    out.write_all(b"fLaC")?;
-    write_head(out, 0, seek_points == 0 && padding == 0, 34)?;
-    out.write_all(&bytes)?;
-    if seek_points > 0 {
-        let points = SeekTable::new(alloc, seek_points).to_bytes(alloc)?;
-        write_head(out, 3, padding == 0, seek_points.saturating_mul(18))?;
-        out.write_all(points.as_slice())?;
+    out: W,
+) -> Result<Encoder<W>, Error> {
+    let metadata = metadata(alloc, encoding)?;
+    let blocks = metadata.as_slice();
+    if !is_start(info, blocks) {
+        return Err(anyhow!("the metadata has no room for its numbers"));
     }
-    if padding > 0 {
-        let mut zeros = Vec::new(alloc);
-        zeros.resize(padding as usize, 0)?;
-        write_head(out, 1, true, padding)?;
-        out.write_all(zeros.as_slice())?;
-    }
-    Ok(())
+    Ok(Encoder::new(alloc, out, info, blocks, encoding.stereo)?)
 }
 
-/// The properties of a file and its seek points, after its last frame.
+/// The writer, the properties of a file and its seek points, after its last frame.
 #[derive(Drop)]
-struct Written {
+struct Written<W> {
+    out: W,
     info: StreamInfo,
     points: SeekTable,
 }
 
 /// Writes the frames of all samples.
-fn write_frames<R: Read + Drop, W: Write>(
+fn write_frames<R: Read + Drop, W: Write + Drop>(
     alloc: Global,
     encoding: Encoding,
     samples: &mut Samples<R>,
-    out: &mut W,
-) -> Result<Written, Error> {
+    encoder: Encoder<W>,
+) -> Result<Written<W>, Error> {
     let sound = samples.sound();
+    let mut encoder = encoder;
     let mut totals = Totals::new();
     let mut points = SeekTable::new(alloc, encoding.seek_points);
     for number in 0..u64::MAX {
@@ -238,15 +149,33 @@ fn write_frames<R: Read + Drop, W: Write>(
             break;
         }
         let block = samples.block();
-        let frame = frame(alloc, sound, encoding.stereo, number, block)?;
-        out.write_all(frame.as_slice())?;
-        let first = totals.samples;
+        let channels = channels(alloc, sound, block)?;
+        let first = encoder.samples();
+        let size = write_frame(alloc, sound, number, channels.as_slice(), &mut encoder)?;
         totals.add_block(sound, block);
-        totals.add_frame(frame.len());
-        points.add_frame(alloc, first, totals.samples, frame.len())?;
+        points.add_frame(alloc, first, encoder.samples(), size)?;
     }
-    let info = totals.stream_info(sound, encoding.block_size)?;
-    Ok(Written { info, points })
+    let (out, info) = encoder.finish();
+    let info = StreamInfo {
+        checksum: totals.md5.finalize(),
+        ..info
+    };
+    Ok(Written { out, info, points })
+}
+
+/// Writes a frame, and returns its size in bytes.
+fn write_frame<W: Write>(
+    alloc: Global,
+    sound: Sound,
+    number: u64,
+    channels: &[Vec<i64>],
+    encoder: &mut Encoder<W>,
+) -> Result<usize, Error> {
+    if !encoder.is_next(channels) {
+        let bits = sound.bits;
+        return Err(anyhow!("a sample of block {number} has more than {bits} bits"));
+    }
+    Ok(encoder.write_frame(alloc, channels)?)
 }
 
 /// Returns the number of samples and their MD5, in the properties of the file that they are encoded as, or `None` if the
@@ -315,13 +244,13 @@ fn end<P: Write>(name: &str, ending: Ending, report: &mut Report<P>) -> Status {
 /// # Errors
 ///
 /// A read, a write or an allocation failed, a sample has too many bits, or the samples are others than those that were measured.
-pub fn encode<R: Read + Drop, W: Write, P: Write>(
+pub fn encode<R: Read + Drop, W: Write + Drop, P: Write>(
     alloc: Global,
     encoding: Encoding,
     name: &str,
     reader: R,
     known: Option<StreamInfo>,
-    out: &mut W,
+    out: W,
     report: &mut Report<P>,
 ) -> Result<Status, Error> {
     let Some(mut samples) = open(alloc, encoding, name, reader, report)? else {
@@ -334,9 +263,9 @@ pub fn encode<R: Read + Drop, W: Write, P: Write>(
             ..samples.sound().stream_info(encoding.block_size)?
         },
     };
-    write_metadata(alloc, encoding, &first, out)?;
-    let Written { info, points: _ } = write_frames(alloc, encoding, &mut samples, out)?;
-    if known.is_some() && info.checksum != first.checksum {
+    let encoder = begin(alloc, encoding, &first, out)?;
+    let written = write_frames(alloc, encoding, &mut samples, encoder)?;
+    if known.is_some() && written.info.checksum != first.checksum {
         return Err(anyhow!("the file changed while it was read"));
     }
     Ok(end(name, samples.ending(), report))
@@ -347,20 +276,35 @@ pub fn encode<R: Read + Drop, W: Write, P: Write>(
 /// # Errors
 ///
 /// A read, a write, a seek or an allocation failed, or a sample has too many bits.
-pub fn encode_and_return<R: Read + Drop, W: Write + Seek, P: Write>(
+pub fn encode_and_return<R: Read + Drop, W: Write + Seek + Drop, P: Write>(
     alloc: Global,
     encoding: Encoding,
     name: &str,
     reader: R,
-    out: &mut W,
+    out: W,
     report: &mut Report<P>,
 ) -> Result<Status, Error> {
     let Some(mut samples) = open(alloc, encoding, name, reader, report)? else {
         return Ok(Status::Refused);
     };
     let first = samples.sound().stream_info(encoding.block_size)?;
-    write_metadata(alloc, encoding, &first, out)?;
-    let Written { info, points } = write_frames(alloc, encoding, &mut samples, out)?;
+    let encoder = begin(alloc, encoding, &first, out)?;
+    let written = write_frames(alloc, encoding, &mut samples, encoder)?;
+    complete(alloc, encoding, written)?;
+    Ok(end(name, samples.ending(), report))
+}
+
+/// Writes STREAMINFO and the seek points again.
+fn complete<W: Write + Seek + Drop>(
+    alloc: Global,
+    encoding: Encoding,
+    written: Written<W>,
+) -> Result<(), Error> {
+    let Written {
+        mut out,
+        info,
+        points,
+    } = written;
     let mut bytes = [0u8; 34];
     info.pack_into(&mut bytes)?;
     out.seek(SeekFrom::Start(STREAM_INFO))?;
@@ -369,7 +313,7 @@ pub fn encode_and_return<R: Read + Drop, W: Write + Seek, P: Write>(
         out.seek(SeekFrom::Start(SEEK_POINTS))?;
         out.write_all(points.to_bytes(alloc)?.as_slice())?;
     }
-    Ok(end(name, samples.ending(), report))
+    Ok(())
 }
 
 /// Writes the samples of the bytes of a file as FLAC.

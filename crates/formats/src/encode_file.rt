@@ -1,14 +1,15 @@
 //! Encodes a file as FLAC over a file that can seek.
 
+use crate::command::Command;
 use crate::encode::encode_and_return;
 use crate::report::{Extent, Report, Watched};
 use crate::run::flush;
 use crate::settings::Encoding;
 use crate::status::Status;
-use anyhow::{Error, anyhow};
+use anyhow::Error;
 use std::fs::File;
-use std::io::{BufWriter, IsTerminal, Read};
-use std::{fs, io};
+use std::io;
+use std::io::{BufWriter, IsTerminal, Read, Seek, Write};
 
 /// Encodes a file, or standard input, and returns the exit status.
 pub fn encode_file(
@@ -28,11 +29,11 @@ pub fn encode_file(
 }
 
 /// Encodes a file, or standard input.
-fn encode_path(
+pub fn encode_path<W: Write + Seek>(
     rt: &HostRuntime,
     encoding: Encoding,
     name: &str,
-    out: &mut BufWriter<File>,
+    out: &mut W,
 ) -> Result<Status, Error> {
     if name == "-" {
         return encode_from(rt, encoding, name, rt.stdin(), Extent::unknown(), out);
@@ -40,7 +41,7 @@ fn encode_path(
     let file = File::open(rt, name)?;
     let about = file.metadata()?;
     if about.is_dir() {
-        return Err(anyhow!("a directory, which --errors alone reads"));
+        return Err(Command::FlacEncode(encoding).directory_error());
     }
     let extent = Extent {
         files: 0,
@@ -50,13 +51,13 @@ fn encode_path(
 }
 
 /// Encodes what a reader reads.
-fn encode_from<R: Read + Drop>(
+fn encode_from<R: Read + Drop, W: Write + Seek>(
     rt: &HostRuntime,
     encoding: Encoding,
     name: &str,
     reader: R,
     extent: Extent,
-    out: &mut BufWriter<File>,
+    out: &mut W,
 ) -> Result<Status, Error> {
     let shown = rt.stderr().is_terminal();
     let mut report = Report::new(rt.stderr(), shown, extent);

@@ -3,10 +3,11 @@
 use crate::command::{Command, play};
 use crate::damaged::play_damaged;
 use crate::encode::encode_and_return;
+use crate::encode_file::encode_path;
 use crate::options::{Call, Options, Style, parse_command};
 use crate::print::Printer;
 use crate::report::{Extent, Report};
-use crate::run::read_directory;
+use crate::run::{read_directory, read_path};
 use crate::settings::{ByteOrder, Encoding};
 use crate::status::Status;
 use anyhow::{Error, anyhow, bail};
@@ -125,7 +126,8 @@ struct Case {
 /// directory, and a file of the errors of the directory's files. After the word `damaged`, the line has
 /// a command, and a file whose damaged copies are counted. After the word `encoded`, the line has a file that is
 /// encoded as FLAC, a file of the samples that are then decoded, and options of the encoder. After the word `summed`, the
-/// line has a FLAC file with the MD5 of its samples, and a file of the same samples with another MD5.
+/// line has a FLAC file with the MD5 of its samples, and a file of the same samples with another MD5. After the word
+/// `directory`, the line has a command, and a directory, which the command rejects.
 pub fn play_rows(rt: &HostRuntime, list: &str) -> Result<(), Error> {
     let text = fs::read_to_string(rt, list)?;
     for line in text.as_str().lines() {
@@ -173,6 +175,7 @@ fn play_line(
             compare_encoded(rt, command, path, other, case)
         }
         ("summed", _) => compare_sums(rt, path, other),
+        ("directory", _) => reject_directory(rt, command_of(path)?, other),
         ("damaged", _) => play_damaged(rt, command_of(path)?, other),
         ("errors", [rows, ..]) => compare_errors(rt, command_of(path)?, other, rows.as_str()),
         _ => {
@@ -343,6 +346,24 @@ fn compare_sums(rt: &HostRuntime, path: &str, other: &str) -> Result<(), Error> 
         bail!("{other}: the MD5 made is not that of {path}");
     }
     println!(rt; "{path}: its MD5 is that of its samples, and that of {other} is not")?;
+    Ok(())
+}
+
+/// Prints the error of a command for a directory, and that of the encoder for an output that can seek.
+fn reject_directory(rt: &HostRuntime, command: Command, directory: &str) -> Result<(), Error> {
+    let alloc = rt.alloc();
+    let mut out = Cursor::new(Vec::new(alloc));
+    let mut printer = Printer::new(alloc, Options::of(alloc, Style::Rows));
+    match read_path(rt, command, directory, &mut printer, &mut out) {
+        Ok(status) => bail!("{directory}: {status:?}"),
+        Err(error) => println!(rt; "{directory}: {error}")?,
+    }
+    if let Command::FlacEncode(encoding) = command {
+        match encode_path(rt, encoding, directory, &mut out) {
+            Ok(status) => bail!("{directory}: {status:?}"),
+            Err(error) => println!(rt; "{directory}: {error}")?,
+        }
+    }
     Ok(())
 }
 

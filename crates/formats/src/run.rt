@@ -190,7 +190,7 @@ pub fn flush<W: Write + Drop>(rt: &HostRuntime, status: Status, out: W) -> io::R
 }
 
 /// Runs a command on a file, on standard input, or on the files of a directory.
-fn read_path<W: Write + Drop>(
+pub fn read_path<W: Write + Drop>(
     rt: &HostRuntime,
     command: Command,
     name: &str,
@@ -212,7 +212,7 @@ fn read_path<W: Write + Drop>(
         return read_file(rt, command, name, 0, printer, out);
     }
     if printer.style() != Style::Errors {
-        return Err(anyhow!("a directory, which --errors alone reads"));
+        return Err(command.directory_error());
     }
     read_directory(rt, command, name, printer, out)
 }

@@ -4,17 +4,13 @@ ghost use Rattle.std.specs.Prelude.{◌≤◌};
 use crate::settings::{ByteOrder, Encoding, Raw};
 use anyhow::{Error, anyhow};
 use bitstream_formats::riff_chunk::RiffChunk;
-use bitstream_formats::wav::WavError;
-use bitstream_formats::wav_format::{Coding, WavFormat};
+use bitstream_formats::wav::{NO_SIZE, WavError, pcm_format};
+use bitstream_formats::wav_format::WavFormat;
 use flac_codec::stream_info::StreamInfo;
 use std::alloc::Global;
 use std::io;
 use std::io::Read;
 use std::num::NonZero;
-
-/// The smallest size of a chunk `data` that means all bytes up to the end of the file. Programs write such a size if they do
-/// not know it.
-const NO_SIZE: u32 = 0xffff_fffe;
 
 /// The greatest number of bytes of a chunk `fmt ` that are read.
 const FORMAT: u64 = 40;
@@ -305,24 +301,6 @@ fn samples_of(format: Option<WavFormat>, size: u32) -> Result<(WavFormat, Option
         Some(format) if size >= NO_SIZE => Ok((format, None)),
         Some(format) => Ok((format, Some(size as u64))),
         None => Err(WavError::NoFormat),
-    }
-}
-
-/// Returns the format in the bytes of a chunk `fmt `, of samples that are whole numbers.
-fn pcm_format(bytes: &[u8]) -> Result<WavFormat, WavError> {
-    let Ok(format) = WavFormat::parse(bytes) else {
-        return Err(WavError::NoFormat);
-    };
-    let is_pcm = match format.coding {
-        Coding::Pcm => true,
-        // The extension has the coding in bytes 24 and 25.
-        Coding::Extensible => bytes.get(24..26).unwrap_or(&[]) == [1, 0].as_slice(),
-        _ => false,
-    };
-    if is_pcm {
-        Ok(format)
-    } else {
-        Err(WavError::NotPcm)
     }
 }
 

@@ -1,6 +1,6 @@
 //! The settings of an encoder of FLAC, and the form of samples without a header.
 
-use flac_codec::Channels;
+use flac_codec::Stereo;
 
 /// The orders of the bytes of a sample.
 #[derive(Clone, Copy, Debug, PartialEq, Eq)]
@@ -50,25 +50,6 @@ pub struct Raw {
     /// The order of the bytes of a sample.
     pub order: ByteOrder,
 }
-
-/// The ways in which the coding of two channels is chosen for a block.
-#[derive(Clone, Copy, Debug, PartialEq, Eq)]
-pub enum Stereo {
-    /// Each channel is coded by itself.
-    Apart,
-    /// The coding that seems shortest.
-    Estimated,
-    /// The shortest one of the four codings.
-    Tried,
-}
-
-/// The codings of two channels.
-pub const PAIRS: [Channels; 4] = [
-    Channels::Independent(2),
-    Channels::LeftSide,
-    Channels::SideRight,
-    Channels::MidSide,
-];
 
 /// The settings of an encoder.
 #[derive(Clone, Copy, Debug, PartialEq, Eq)]
