@@ -31,8 +31,9 @@ class Sheet:
     order: str
     depth: int
     lists: bool
-    # The last line, if it has the bytes to the end.
+    # The line that has the bytes to the end, and the lines of constant width after it.
     rest: str = ""
+    ends: list[str] = field(default_factory=list)
     lines: list[str] = field(default_factory=list)
     later: list[str] = field(default_factory=list)
     names: list[str] = field(default_factory=list)
@@ -93,8 +94,18 @@ class Sheet:
             inner.add(f"size {(name := inner.name())} 8")
             inner.add(f"sized {name} bytes")
         item = inner.part(lists=False, wide=True) if self.depth > 1 and self.draw.random() < 0.5 else "bytes"
-        head = [f"struct {inner.type}: A record.", f"order {inner.order}"]
-        self.others[module] = "\n".join([*head, *inner.lines, f"rest {inner.name()} {item}", ""])
+        head, rest = [f"struct {inner.type}: A record.", f"order {inner.order}"], f"rest {inner.name()} {item}"
+        after = [f"{inner.name()} {self.draw.choice(('u8 8', 'bytes 2'))}"] * (self.draw.random() < 0.4)
+        self.others[module] = "\n".join([*head, *inner.lines, rest, *after, ""])
+        return f"{inner.type} of {module}"
+
+    def whole_part(self) -> str:
+        """Draws the description of a part of a constant number of bytes without an error, and returns `TYPE of MODULE`."""
+        module = f"{self.module.split('_')[0]}_{chr(ord('a') + len(self.others))}"
+        inner = Sheet(self.draw, module, self.others, self.order, 0, False)
+        for line in self.draw.sample(("u16 16", "bytes 3", "u32 32", "i8 8"), 2):
+            inner.add(f"{inner.name()} {line}")
+        self.others[module] = "\n".join([f"struct {inner.type}: A record.", f"order {self.order}", *inner.lines, ""])
         return f"{inner.type} of {module}"
 
 
@@ -359,7 +370,41 @@ def ended(sheet: Sheet) -> None:
 
 
 def to_end(sheet: Sheet) -> None:
-    """Adds the bytes, the parts or the choice to the end as the last line."""
+    """Adds the bytes, the parts or the choice to the end, and sometimes lines of constant width after them."""
+    rest_line(sheet)
+    if sheet.draw.random() < 0.5:
+        return
+    before, sheet.lines = sheet.lines, []
+    for _ in range(sheet.draw.randint(1, 2)):
+        constant(sheet, sheet.draw.choice([it for it in SIMPLE if it not in ("enum", "enums")]))
+    if sheet.draw.random() < 0.3:
+        sheet.add(f"check {unused_sum(sheet)} over all {sheet.error()}")
+    sheet.ends, sheet.lines = sheet.lines, before
+    sheet.asked, sheet.selectors = [], []
+
+
+def before_end(sheet: Sheet) -> None:
+    """Adds a line before the bytes to the end: of constant width, bytes, or an optional part or a choice of whole bytes."""
+    draw = sheet.draw
+    what = draw.choice(("constant", "constant", "bytes", "option", "choice"))
+    if what == "constant" or sheet.depth == 0:
+        return simple(sheet)
+    name = sheet.name()
+    if what == "bytes":
+        sheet.add(f"size {name} {draw.choice((8, 12, 16))}")
+        sheet.later.append(f"sized {name} bytes")
+    elif what == "option":
+        sheet.add(f"flag {name}")
+        sheet.later.append(f"option {name} {sheet.whole_part()}")
+    else:
+        sheet.add(f"tag {name} {(width := draw.randint(2, 8))}")
+        numbers = sorted(draw.sample(range(1 << width), 2))
+        said = f"{numbers[0]} Arm0 {sheet.whole_part()}, {numbers[1]} Arm1{draw.choice(('', ', .. Else'))}"
+        sheet.later.append(f"choose {name} {sheet.new('Choice')}: {said}")
+
+
+def rest_line(sheet: Sheet) -> None:
+    """Draws the line that has the bytes, the parts or the choice to the end."""
     draw, kind = sheet.draw, sheet.draw.random()
     if kind < 0.2 and sheet.depth > 0:
         name, width = sheet.name(), draw.randint(1, 8)
@@ -444,13 +489,8 @@ def computed(sheet: Sheet) -> None:
 
 def given(sheet: Sheet) -> None:
     """Adds a part that the caller gives, and a number, with the checksum of both."""
-    module, number = f"{sheet.module}_{chr(ord('a') + len(sheet.others))}", sheet.name()
-    inner = Sheet(sheet.draw, module, sheet.others, sheet.order, 0, False)
-    for line in sheet.draw.sample(("u16 16", "bytes 3", "u32 32", "i8 8"), 2):
-        inner.add(f"{inner.name()} {line}")
-    sheet.others[module] = "\n".join([f"struct {inner.type}: A record.", f"order {sheet.order}", *inner.lines, ""])
-    name = sheet.name()
-    sheet.add(f"given {name} {inner.type} of {module}")
+    number, name = sheet.name(), sheet.name()
+    sheet.add(f"given {name} {sheet.whole_part()}")
     sheet.add(f"{number} u16 16")
     sheet.add(f"check {unused_sum(sheet)} over {name} {number} {sheet.error()}")
 
@@ -485,14 +525,14 @@ def description(sheet: Sheet, count: int, first: Adds = simple) -> str:
         padded(sheet)
     first(sheet)
     for _ in range(count - 1):
-        add: Adds = simple if sheet.rest or draw.random() < 0.3 else draw.choice(kinds)
+        add: Adds = before_end if sheet.rest else simple if draw.random() < 0.3 else draw.choice(kinds)
         add(sheet)
         while sheet.later and draw.random() < 0.5:
             sheet.add(sheet.later.pop(draw.randrange(len(sheet.later))))
     if not sheet.names:
         sheet.add(f"{sheet.name()} bool")
     draw.shuffle(sheet.later)
-    lines = [*sheet.lines, *sheet.later, *[sheet.rest] * bool(sheet.rest)]
+    lines = [*sheet.lines, *sheet.later, *[sheet.rest] * bool(sheet.rest), *sheet.ends]
     head = [f"struct {sheet.type}: A record.", f"order {sheet.order}"]
     return "\n".join([*head, *lines, ""])
 
@@ -680,11 +720,15 @@ def drawn(draw: Random, module: str, folder: Path) -> dict[str, str]:
 def closed(text: str, path: str, module: str, align: bool) -> str:
     """Adds the line of the error, if bits are refused, and fills the last byte of a constant width, if `align` by that."""
     said = parsed(text, beside(path, (module,), lambda it: None))
+    rest = next((it for it in said.kinds if m.is_rest(it)), None)
+    bits = sum(m.bits(it) or 0 for it in said.kinds) if rest else m.total(said.kinds)
+    if bits is not None and bits % 8:
+        lines, after = text.rstrip().split("\n"), rest.after if rest else 0
+        varies = m.total([it for it in said.kinds if it is not rest]) is None
+        fill = "align" if align and after % 8 == 0 and not varies else f"any {-bits % 8}"
+        text = (
+            "\n".join([*lines[: rest.at.line - 1], fill, *lines[rest.at.line - 1 :]] if rest else [*lines, fill]) + "\n"
+        )
     if any(m.error(it) for it in said.kinds):
         text = text.replace("\n", f"\nerror {said.name}Error\n", 1)
-    bits = m.total([it for it in said.kinds if not m.is_rest(it)])
-    if bits is not None and bits % 8:
-        *lines, last = text.rstrip().split("\n")
-        fill = "align" if align else f"any {-bits % 8}"
-        text = "\n".join([*lines, fill, last, ""] if any(map(m.is_rest, said.kinds)) else [*lines, last, fill, ""])
     return text

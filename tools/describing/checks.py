@@ -135,8 +135,11 @@ def check_target(it: m.Description, index: int, kind: m.Kind) -> None:
         ]
         if parts and isinstance(kind, m.Flag | m.Size):
             raise Refused(f"no `{word} {name}` after it, and {ONLY_PARTS}", kind.at)
-        others = f", `fill {name}` or `choose {name} TYPE sized ERROR`" * isinstance(kind, m.Size)
-        raise Refused(f"no `{word} {name}`{others} after it", kind.at)
+        others, several = "", ""
+        if isinstance(kind, m.Size):
+            others = f", `fill {name}` or `choose {name} TYPE sized ERROR`"
+            several = f"; the size of several lines is `computed {name} BITS over FIELD to FIELD ERROR`"
+        raise Refused(f"no `{word} {name}`{others} after it{several}", kind.at)
 
 
 def fits_words(kind: m.Kind) -> list[tuple[str, set[str]]]:

@@ -2,10 +2,11 @@
 from __future__ import annotations
 
 from describing import model as m
-from describing.layout import Format, Line, all_fit, all_values
+from describing.layout import Format, Line, all_fit, all_values, is_part_size
 from describing.model import snake
 from describing.names import Table, merged, spec_of
 from describing.specs.last import asked, case_name, inner_cases, inner_name, number_name
+from describing.specs.limits import names as limit_names
 from describing.specs.terms import called
 
 WITHIN = "Rattle.bitstream_format"
@@ -73,6 +74,8 @@ def line_names(f: Format, line: Line) -> Table:
         own.append({f.specs_path: f"{line.name}_sized {line.name}_ended", f"{WITHIN}.specs.Within": SIZES})
     if line.units or isinstance(line.kind, m.Size) and line.kind.units:
         own.append({f.specs_path: f"{line.name}_stated" * bool(line.units), f"{WITHIN}.specs.Stated": STATED})
+    if m.is_capped(line.kind) and is_part_size(line):
+        own.append({"Rattle.bitstream_io.specs.Lengths": "counted_bits=FormatBits"})
     if isinstance(line.kind, m.List) and line.kind.less:
         own.append({f"{WITHIN}.specs.Stated": "size_in_units stored_size"})
     if isinstance(line.kind, m.Pad):
@@ -133,6 +136,7 @@ def own_specs(f: Format) -> Table:
     for it in f.summed:
         more = [f"_{k + 1}" * (k > 0) for k in range(len(f.covered(it)))]
         names += [f"{it.word}_sum", *[it.called] * (it.called != it.word), *(f"{it.word}_writes{one}" for one in more)]
+    names += limit_names(f)
     lines = {module: it for module, it in all_names(f).items() if ".declared." not in module}
     return merged({f.specs_path: " ".join(names)}, lines)
 
@@ -143,6 +147,7 @@ def line_lemmas(f: Format, line: Line) -> Table:
     own += [{f"{WITHIN}.proofs.StatedLemmas": STATED_LEMMAS} | STATED_LAWS] * bool(line.units)
     own += [STATED_LAWS] * (isinstance(line.kind, m.List) and bool(line.kind.less))
     own += [{f"{WITHIN}.proofs.WithinLemmas": "counts-is"} | COUNT_LEMMAS] * isinstance(line.kind, m.Pad)
+    own += [{f"{WITHIN}.proofs.WithinLemmas": "counts-is"}] * (m.is_capped(line.kind) and is_part_size(line))
     own += [{f"{WITHIN}.proofs.FilledLemmas": FILL_LEMMAS} | COUNT_LEMMAS] * isinstance(line.kind, m.Fill)
     own += [{f"{WITHIN}.proofs.UpToLastLemmas": LAST_LEMMAS}] * isinstance(line.kind, m.UpToLast)
     if isinstance(line.kind, m.Choose):

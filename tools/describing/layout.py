@@ -118,6 +118,7 @@ class Line:
         return (
             m.is_varint(self.kind)
             or m.is_golomb(self.kind)
+            or m.is_capped(self.kind)
             or isinstance(
                 self.kind, m.Golomb | m.Part | m.Optional | m.If | m.Choose | m.Fill | m.Until | m.UpToLast | m.Blocks
             )
@@ -249,6 +250,11 @@ def is_octets(kind: m.Kind | None) -> bool:
     return isinstance(kind, m.Sized) and isinstance(kind.item, m.Octet)
 
 
+def is_part_size(line: Line) -> bool:
+    """Returns true for the size of another line than bytes."""
+    return isinstance(line.kind, m.Size) and not is_octets(line.measures)
+
+
 def states_choice(description: m.Description, kind: m.Size, groups: m.Groups) -> bool:
     """Returns true for the size of a choice in strict groups of 8 bits."""
     return groups.group == 8 and not groups.any and isinstance(measured_by(description, kind), m.Choose)
@@ -338,19 +344,17 @@ def is_loose(kind: m.Kind) -> bool:
 
 
 def check_rest(description: m.Description, kind: m.Rest | m.Choose) -> None:
-    """Refuses a rest that is no bytes, that a line follows, or whose first byte is not known."""
+    """Refuses a rest that is no bytes or parts, a second one, and one whose bytes are not known by their number."""
     head = tuple(it for it in description.kinds if it is not kind and not isinstance(it, m.Verify))
     if isinstance(kind, m.Rest):
         check_rest_item(description, kind)
-    if description.kinds.index(kind) != len(head):
-        raise Refused(f"{UNPRINTED}: in code the rest is the last line", kind.at)
     if m.total(tuple(it for it in head if not varies(it))) is None:
-        why = "in code only bytes of variable length, and optional parts of constant size, stand before the rest"
+        why = "in code only bytes of variable length, and optional parts or choices of constant sizes, stand before the rest"
         raise Refused(f"{UNPRINTED}: {why}", kind.at)
     if head_bits(description) % 8:
-        raise Refused(f"{UNPRINTED}: in code the lines before the rest have whole bytes", kind.at)
-    if any(varies(it) for it in head) and not all_values(description.kinds):
-        why = "no checksum stands with a rest after bytes of variable length or an optional part"
+        raise Refused(f"{UNPRINTED}: in code the lines around the rest have whole bytes together", kind.at)
+    if any(varies(it) for it in head) and m.given(description):
+        why = "no part is given to a format with a rest after bytes of variable length, an optional part or a choice"
         raise Refused(f"{UNPRINTED}: {why}", kind.at)
 
 
@@ -369,9 +373,12 @@ def is_length(kind: m.Kind) -> bool:
     return is_octets(kind) or isinstance(kind, m.List) and isinstance(kind.item, m.Octet)
 
 
-def is_some_bytes(kind: m.Kind) -> TypeGuard[m.Optional | m.If]:
-    """Returns true for an optional part that has a constant number of bytes if it is there."""
-    return isinstance(kind, m.Optional | m.If) and (kind.use.description.bits or 1) % 8 == 0
+def is_some_bytes(kind: m.Kind) -> TypeGuard[m.Optional | m.If | m.Choose]:
+    """Returns true for an optional part of a constant number of bytes, and for a choice without a size of such parts."""
+    if isinstance(kind, m.Choose) and (kind.sized or m.any_octets(kind)):
+        return False
+    whole = all((it.description.bits or 1) % 8 == 0 for it in m.uses(kind))
+    return isinstance(kind, m.Optional | m.If | m.Choose) and whole
 
 
 def varies(kind: m.Kind) -> bool:
@@ -385,8 +392,8 @@ def head_bits(description: m.Description) -> int:
 
 
 def is_open(use: m.Use) -> bool:
-    """Returns true for a part whose last line is a rest."""
-    return m.is_rest(use.description.kinds[-1])
+    """Returns true for a part with a rest."""
+    return any(map(m.is_rest, use.description.kinds))
 
 
 def by_size(kind: m.Kind) -> bool:
@@ -487,7 +494,7 @@ class Format:
 
     @property
     def before_rest(self) -> list[Line]:
-        """The lines before the rest, of bytes or optional parts, whose number of bytes is no constant."""
+        """The lines before the rest, of bytes, optional parts or choices, whose number of bytes is no constant."""
         return [it for it in self.lines if self.rest and varies(it.kind)]
 
     @property

@@ -502,7 +502,7 @@ class Choose(Field):
     """choose NAME TYPE [by FIELD] [sized ERROR | rest ERROR]: ARM, ..; DOC
 
     `overrun` is the error of a wrong size, and `width` the number of bits of the number that selects a case. `sized` is also
-    true of a choice `to_end`, whose size is that of the bytes to the end.
+    true of a choice `to_end`, whose size is that of the bytes to the end, or up to the `after` bits of the lines after it.
     """
 
     type: str
@@ -512,6 +512,7 @@ class Choose(Field):
     arms: tuple[Arm, ...]
     width: int = 32
     to_end: bool = False
+    after: int = 0
 
     @property
     def other(self) -> Arm | None:
@@ -545,9 +546,10 @@ class Choose(Field):
 
 @dataclass(frozen=True, slots=True)
 class Rest(Field):
-    """rest NAME ITEM: items up to the end of the bytes, or of the size around them."""
+    """rest NAME ITEM: items up to the end of the bytes, or of the size around them; but for the `after` bits of later lines."""
 
     item: Item
+    after: int = 0
 
 
 @dataclass(frozen=True, slots=True)
@@ -839,6 +841,14 @@ def is_limited(kind: Kind) -> TypeGuard[Limited]:
     return isinstance(kind, Number | Count | Size | Pad) and kind.limit is not None
 
 
+Capped: TypeAlias = Number | Count | Size
+
+
+def is_capped(kind: Kind) -> TypeGuard[Capped]:
+    """Returns true for a number of the record with a greatest value of its own: a greater one is not written."""
+    return is_limited(kind) and not isinstance(kind, Pad)
+
+
 def grouped(kind: Kind) -> Kind:
     """Returns the number in groups by which a size is stored, or the line itself."""
     return kind.groups if isinstance(kind, Size) and kind.groups else kind
@@ -884,6 +894,13 @@ def open_ended(description: Description) -> bool:
 def is_rest(kind: Kind) -> TypeGuard[Rest | Choose]:
     """Returns true for a line that reads to the end of the bytes."""
     return isinstance(kind, Rest) or isinstance(kind, Choose) and kind.to_end
+
+
+def end_text(kind: Rest | Choose) -> str:
+    """Returns the text of where the bytes of a line end that reads to the end of the bytes, or to the lines after it."""
+    if not kind.after:
+        return "to the end"
+    return f"up to the last {f'{kind.after // 8} bytes' if kind.after % 8 == 0 else f'{kind.after} bits'}"
 
 
 def any_octets(kind: Choose) -> bool:

@@ -86,6 +86,20 @@ Rattle.bitstream_format.specs.InGroupsLaws: size_in_groups
 """
 )
 
+# In the definitions of numbers with a greatest value.
+LIMITS = table(
+    """
+Rattle.std.proofs.Common: ∙ sym subst ap refl
+Rattle.std.proofs.lemmas.Bool: le-leb
+Rattle.bitstream_io.specs.Lengths: counted_bits=FormatBits
+Rattle.bitstream_io.proofs.CallerLemmas: RoundTrip=FormatRoundTrip Packs=FormatPacks
+Rattle.bitstream_format.specs.Format: AllOf=FormatFacts Part=FormatPart first_of_facts others_of_facts
+Rattle.bitstream_format.specs.Measured: size-most stored-most Written=WrittenPart
+Rattle.bitstream_format.specs.SizeLaws: counted-is
+Rattle.bitstream_format.specs.Bounded: own_bounded
+"""
+)
+
 # In specs of a format with a checksum.
 ENUMS = table(
     """
@@ -121,6 +135,7 @@ Rattle.bitstream_io.proofs.CallerLemmas: RoundTrip Finds Packs inl inr is_error 
 Rattle.bitstream_io.proofs.GrowsLemmas: go_grown stop_grown grown_end vec-grown
 Rattle.bitstream_io.proofs.EachLemmas: grown_made own_map_err
     made_items-finds part_items-finds part_items-misses all_ok-items made-put made-all made-stop
+Rattle.bitstream_format.proofs.InGroupsLemmas: above-leb
 Rattle.bitstream_format.proofs.RestLemmas: rest-back
 Rattle.bitstream_format.proofs.ChecksLemmas: sum16-small sum16_udp-small crc32-small crc32_mpeg-small crc16_ccitt-small crc16_x25-small crc16_kermit-small
     crc24_adsb-small over-then sum-then verified-back
@@ -136,7 +151,10 @@ PROOFS |= {module: names for module, names in SPECS.items() if module != "Rattle
 # Names that no type or case of a format may have.
 TAKEN = {
     it
-    for names in [*SPECS.values(), "PlainFormat OwnFormat FormatParts FormatChoice CaseGoes WrittenPart"]
+    for names in [
+        *SPECS.values(),
+        "PlainFormat OwnFormat FormatParts FormatPart FormatBits FormatFacts FormatPacks FormatRoundTrip FormatChoice CaseGoes WrittenPart",
+    ]
     for it in names.split()
 } - {"NonZero"} | {
     "Reader",

@@ -470,7 +470,8 @@ def list_line(words: Words, context: Context, at: Position) -> m.Kind:
         return m.List(at, doc, name, found, power(words, context, found))
     count = context.count_of(name)
     if not count:
-        raise Refused(f"no `count {name} BITS` before it", place)
+        to_end = f"; if `{name}` is all up to the end, it is `rest {name} ..`" * isinstance(found, m.Octet | m.Use)
+        raise Refused(f"no `count {name} BITS` before it{to_end}", place)
     if isinstance(found, m.Octet | m.EnumType) and (count.less or count.golomb):
         raise Refused(f"`ue` and `less` count numbers or parts, and `{name}` is a list of others", place)
     return m.List(at, doc, name, found, None, count)
@@ -893,6 +894,20 @@ def verified(kinds: tuple[m.Kind, ...], order: str) -> tuple[m.Kind, ...]:
     return tuple(found)
 
 
+def with_ends(kinds: tuple[m.Kind, ...]) -> tuple[m.Kind, ...]:
+    """Returns lines of which the one that reads to the end knows how many bits the lines after it have."""
+    return tuple(replace(it, after=bits_after(kinds[k + 1 :])) if m.is_rest(it) else it for k, it in enumerate(kinds))
+
+
+def bits_after(kinds: tuple[m.Kind, ...]) -> int:
+    """Returns the number of bits of the lines after the rest, which is a constant."""
+    for it in kinds:
+        if m.bits(it) is None:
+            why = "after the rest only lines of constant width, and parts without errors, stand"
+            raise Refused(f"{why}: the rest ends before them", it.at)
+    return m.total(kinds) or 0
+
+
 def check_sum(kinds: tuple[m.Kind, ...], check: m.Check, names: list[str]) -> None:
     """Refuses a checksum of a field that no line describes, of no line, or of bits that are no whole bytes."""
     missing = [it for it in check.over if it and it not in names]
@@ -954,7 +969,7 @@ def parsed(text: str, find: Find) -> m.Description:
         except (ValueError, IndexError):
             why = f"`{line.strip()}` is not understood: it is "
             raise Refused(why + form_of(words), words.place()) from None
-    kinds, examples = verified(commented(context.kinds), head.order), tuple(head.examples)
+    kinds, examples = with_ends(verified(commented(context.kinds), head.order)), tuple(head.examples)
     return m.Description(head.name, head.doc, head.order, head.error, kinds, head.heads, examples, head.whole)
 
 

@@ -59,9 +59,10 @@ def said(kind: m.Kind, kinds: tuple[m.Kind, ...]) -> str:
             return f"{of}{size} bytes"
         case m.Choose():
             names = [it.case for it in kind.arms]
-            return ", ".join(names[:-1]) + " or " * (len(names) > 1) + names[-1] + " to the end" * kind.to_end
+            return ", ".join(names[:-1]) + " or " * (len(names) > 1) + names[-1] + f" {m.end_text(kind)}" * kind.to_end
         case m.Rest():
-            return "bytes to the end" if isinstance(kind.item, m.Octet) else f"{m.item_type(kind.item)} to the end"
+            what = "bytes" if isinstance(kind.item, m.Octet) else m.item_type(kind.item)
+            return f"{what} {m.end_text(kind)}"
         case m.Blocks():
             return "blocks up to an empty one"
         case m.UpToLast():

@@ -272,8 +272,8 @@ def composite(kind: m.Kind) -> Composite:
             return powered(power, item)
         case m.List(item=item, name=name):
             return counted(name, item)
-        case m.Rest(item=item):
-            return up_to_end(item)
+        case m.Rest():
+            return resting(kind)
         case m.Sized():
             return sized(kind)
         case m.Fill():
@@ -336,6 +336,23 @@ def up_to_end(item: m.Item) -> Composite:
     return lambda row, scope: many(row, one, lambda found: row.reach(row.at + 1))
 
 
+def resting(kind: m.Rest) -> Composite:
+    """Returns the reader of items up to the end of the bytes, or up to the lines after them."""
+    fill = up_to_end(kind.item)
+    if not kind.after:
+        return fill
+
+    def read(row: Input, scope: Scope) -> tuple[Value, list[Node]]:
+        size = bytes_left(row, kind.after)
+        end, row.end = row.end, row.at + 8 * size
+        try:
+            return fill(row, scope)
+        finally:
+            row.end = end
+
+    return read
+
+
 def up_to_last(kind: m.UpToLast) -> Composite:
     """Returns the reader of parts up to the last one."""
     one = part_reader(kind.use)
@@ -352,10 +369,10 @@ def remaining(row: Input) -> bytes:
     return row.bytes(bytes_left(row))
 
 
-def bytes_left(row: Input) -> int:
-    """Returns the number of bytes up to the end."""
+def bytes_left(row: Input, after: int = 0) -> int:
+    """Returns the number of bytes up to the end, or up to the last `after` bits."""
     row.finish()
-    return (row.end - row.at) // 8
+    return max(row.end - row.at - after, 0) // 8
 
 
 def bytes_text(count: int) -> str:
@@ -423,7 +440,7 @@ def choice(kind: m.Choose) -> Composite:
         number = scope[kind.by]
         if not kind.sized:
             return held(row, number)
-        size = bytes_left(row) if kind.to_end else scope[f"{kind.name}_bytes"]
+        size = bytes_left(row, kind.after) if kind.to_end else scope[f"{kind.name}_bytes"]
         return within(row, kind, size, kind.overrun, lambda: held(row, number))
 
     return read

@@ -26,7 +26,7 @@ QUOTED = frozenset(
 LIFTED = (QUOTED - WORDS) | frozenset(
     """
     alloc atom byte_list const done even_array even_list field free list own_done
-    own_even_list own_field own_list own_optional sure with_error
+    own_even_list own_field own_list own_optional sure with_error own_bounded own_limited own_limited_size
     chosen filling in_units of_choice of_format of_items over_bytes size_of_part stored_of_part varint vec
     at bit bits cc drop first_bit fits from gives grind map more number o omega optional packet plain reader result
     rw search signed simp take unsigned value word words writer zeros

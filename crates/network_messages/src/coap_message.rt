@@ -1,13 +1,13 @@
 //! A message of CoAP with its options as bytes (RFC 7252, section 3).
 //!
 //! Made by `./format` from formats/coap_message.fields: edit that file and make this one anew.
-ghost use Rattle.network_messages.specs.CoapMessage.{coap_message_decoder, coap_message_writes, coap_message_size, coap_message_bits, Fits, becomes_coap_message, message_of, message_number, message_read};
+ghost use Rattle.network_messages.specs.CoapMessage.{coap_message_decoder, coap_message_writes, coap_message_size, coap_message_bits, Fits, becomes_coap_message, within_most, message_of, message_number, message_read};
 ghost use Rattle.network_messages.specs.declared.coap_message.CoapMessage.{CoapMessage};
 ghost use Rattle.network_messages.specs.declared.coap_message.CoapMessageError.{CoapMessageError};
 ghost use Rattle.network_messages.specs.declared.coap_message.CoapMessageError.TheVariants.{Reader};
-ghost use Rattle.std.specs.Prelude.{◌≡◌, ◌<◌, ◌≤◌, ◌+◌, ◌-◌, ◌*◌, ◌++◌, ◌⊎◌, ℕ, Bool, List, Ok, Err, length, IfOk, IsOk};
+ghost use Rattle.std.specs.Prelude.{◌≡◌, ◌<◌, ◌≤◌, ◌+◌, ◌-◌, ◌*◌, ◌++◌, ◌∷◌, [], ◌⊎◌, ℕ, Bool, List, Ok, Err, length, IfOk, IsOk};
 ghost use Rattle.std.specs.declared.io.ErrorKind.TheVariants.{WriteZero};
-ghost use Rattle.bitstream_io.specs.Callers.{Done, Error, Order, High, bits, write_sequence, Reads, OwnAnswer, WritesAll, AllAccepted, sequence_length, sure_answer, GrowsOwn, MayAllocate, OutOfMemory, Stream, same_error};
+ghost use Rattle.bitstream_io.specs.Callers.{Done, Error, Order, High, bits, unsigned, write_sequence, Reads, OwnAnswer, WritesAll, AllAccepted, sequence_length, sure_answer, GrowsOwn, MayAllocate, OutOfMemory, Stream, same_error};
 ghost use Rattle.bitstream_io.specs.SliceMut.{HoldsFirst, written_bytes};
 
 use bitstream_format::rest::{rest_after, rest_of};
@@ -41,7 +41,7 @@ pub struct CoapMessage {
     pub detail: u8,
     /// The number that an acknowledgement shares with its message.
     pub id: u16,
-    /// The bytes that a response shares with its request. Fewer than 2^4.
+    /// The bytes that a response shares with its request. At most 8.
     pub token: Vec<u8>,
     /// The options, and the payload after a byte 0xFF.
     pub options: Vec<u8>,
@@ -135,6 +135,23 @@ impl Message {
     }
 }
 
+/// Writes the number of items of `token`.
+///
+/// # Errors
+///
+/// `Checked` if it is above 8. If so, nothing is written. Otherwise, the errors of the sink.
+fn write_token_count<W: BitWrite>(writer: &mut W, number: u64) -> Result<(), Error>
+    ensures { WritesAll W.sink (within_most 8 number W.sink.order (unsigned W.sink.order 64 4 number ∷ []))
+        writer.old result writer.new }
+{
+    let is_most = number <= 8;
+    if is_most {
+        return writer.write::<Bits<4>, u64>(number);
+    }
+    // One bit does not hold 2, so nothing is written.
+    writer.write::<Bits<1>, u8>(2)
+}
+
 impl CoapMessage {
     /// Reads the fields in order, and `options_bytes` bytes of `token` and `options`.
     ///
@@ -199,14 +216,14 @@ impl CoapMessage {
     ///
     /// # Errors
     ///
-    /// `Checked` for a field that does not fit its bits. The fields before it have been written.
+    /// `Checked` for a field that does not fit its bits, or is above its greatest value. The fields before it have been written.
     /// Otherwise the sink's errors.
     pub fn write<W: BitWrite>(&self, writer: &mut W) -> Result<(), Error>
         ensures { WritesAll W.sink (coap_message_writes W.sink.order self.now) writer.old result writer.new }
     {
         writer.write_const::<Bits<2>, Bits<1>>()?;
         writer.write::<Bits<2>, u8>(self.kind.number())?;
-        writer.write::<Bits<4>, u64>(self.token.len() as u64)?;
+        write_token_count(writer, self.token.len() as u64)?;
         writer.write::<Bits<3>, u8>(self.class)?;
         writer.write::<Bits<5>, u8>(self.detail)?;
         writer.write::<Bits<16>, u16>(self.id)?;

@@ -5,10 +5,10 @@ from collections import Counter
 from dataclasses import dataclass, field
 
 from describing import model as m
-from describing.layout import Format, Line, is_octets, is_some_bytes
+from describing.layout import Format, Line, is_octets, is_part_size, is_some_bytes
 from describing.model import snake
 from describing.proofs.chains import VIEW, Answers, Call
-from describing.specs.terms import asked_enums, by_enum, short
+from describing.specs.terms import asked_enums, by_enum, bytes_name, short
 
 # Contracts of reads, from the weakest: a plain read, one with errors of its own, one that allocates.
 PLAIN, OWN, GROWING = "Reads", "ReadsOwn", "GrowsOwn"
@@ -138,8 +138,8 @@ def known_after(f: Format, steps: Labels) -> list[str]:
     """Returns the equations of the number of bytes of the rest, after bytes before it."""
     found = list[str]()
     for it in f.before_rest:
-        if it.use and is_some_bytes(it.kind):
-            size = f"c.{steps.next(f'bytes_of_{snake(it.use.name)}')}.ensures"
+        if is_some_bytes(it.kind):
+            size = f"c.{steps.next(bytes_name(it.kind))}.ensures"
             found = [f"c.{steps.next('bytes_after')}.ensures", size, *found]
         else:
             found = [f"c.{steps.next('rest_after')}.ensures", f"c.{steps.next('deref')}.ensures.value", *found]
@@ -191,7 +191,10 @@ class Writes:
     def call(self, line: Line) -> Call:
         """Returns the call that writes a line."""
         form, name, fact, wide = self.form(line.kind)
-        if isinstance(line.kind, m.Size) and not (line.measures and is_octets(line.measures)):
+        if m.is_capped(line.kind):
+            form, name, fact = "list", f"write_{line.name}", ""
+        elif is_part_size(line):
+            assert isinstance(line.kind, m.Size)
             name = f"write_{'stored_' * bool(line.kind.units)}size{'_in_groups' * bool(line.kind.groups)}"
             fact = ""
         known = self.known(line)
@@ -275,6 +278,8 @@ class Writes:
         if line.measures and is_octets(line.measures):
             length = self.known_length(kind.target)
             return (f"c.{self.steps.next('stored_size')}.ensures", length) if kind.units else (length,)
+        if m.is_capped(kind):
+            return (f"c.{self.steps.next('deref')}.ensures.value",) if isinstance(line.measures, m.Fill) else ()
         if isinstance(line.measures, m.Fill):
             slice = f"c.{self.steps.next('deref')}.ensures.value"
             counted = f"(rw {slice} at c.{self.steps.next(f'count_{kind.target}')}.ensures)"

@@ -5,7 +5,7 @@ import re
 
 from describing import model as m
 from describing.layout import Format, Line
-from describing.specs import checks, values
+from describing.specs import checks, measured, values
 from describing.specs.terms import of_value, rest_count
 
 
@@ -65,7 +65,8 @@ def of_part(f: Format, line: Line, law: str) -> str:
     """Returns a law of a line that is a part, of the record."""
     part = values.line_part(f, line, as_written).replace("(λ s. ", f"(λ (s : {f.type}). ")
     part = PART.sub(lambda it: f"{it[0]} {{{f'B = {f.type}' if it[2] else f'W = {f.result}'}}}", part)
-    facts = values.placed_at(values.pairs(values.line_facts(f, line)), "value").replace("fits.1", "refl")
+    facts = values.placed_at(values.pairs(values.line_facts(f, line)), "value").replace(measured.BEFORE, "omega arith")
+    facts = facts.replace("fits.1", "refl")
     facts = f"({facts})" if " " in facts and not facts.startswith("(") else facts
     made = "refl" if values.is_made(line) else "tt"
     return f"({part}).{law} o value {'_ _ _ ' * (law == 'round_trip')}{facts} {made}"

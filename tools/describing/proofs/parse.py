@@ -5,10 +5,20 @@ from typing import Sequence
 
 from describing import model as m
 from describing.layout import Format, Line, is_some_bytes
-from describing.model import snake
 from describing.proofs.found import found as line_found
 from describing.proofs.found import missed
-from describing.specs.terms import at_bits, fails, handed, known_of, only_constants, rest_count, some_bits
+from describing.specs.choices import pattern
+from describing.specs.terms import (
+    at_bits,
+    bytes_name,
+    fails,
+    handed,
+    known_of,
+    only_constants,
+    rest_count,
+    some_bits,
+    spec_type,
+)
 
 Clause = tuple[str, str, str]  # a clause, the parameters of its answer, and the term
 OVER = "slice_ends c.over.ensures.state refl c.read.ensures"
@@ -24,21 +34,22 @@ def parse_lines(f: Format) -> list[str]:
     return out
 
 
-def some_parts(f: Format) -> list[Line]:
-    """Returns the optional parts before the rest."""
-    return [it for it in f.before_rest if is_some_bytes(it.kind)]
+def some_parts(f: Format) -> list[m.Optional | m.If | m.Choose]:
+    """Returns the optional parts, and the choices without a size, before the rest."""
+    return [it.kind for it in f.before_rest if is_some_bytes(it.kind)]
 
 
 def some_sizes(f: Format) -> list[str]:
-    """Returns the lemmas that the optional parts before the rest have whole bytes."""
+    """Returns the lemmas that the optional parts and the choices before the rest have whole bytes."""
     out: list[str] = []
-    for use in {it.use.module: it.use for it in some_parts(f) if it.use}.values():
-        name, bits = f"bytes_of_{snake(use.name)}", some_bits(use, "value")
+    for name, kind in {bytes_name(it): it for it in some_parts(f)}.items():
+        bits, cases = some_bits(kind, "value"), ["None", "(Some value)"]
+        if isinstance(kind, m.Choose):
+            cases = [pattern(kind, it) for it in kind.arms]
         out += [
-            f"-- a `{use.name}` has whole bytes",
-            f"{name} : (value : Option {use.name}) → {bits} ≡ 8 * ({bits} / 8)",
-            f"{name} None = refl",
-            f"{name} (Some value) = refl",
+            f"-- a `{kind.type if isinstance(kind, m.Choose) else kind.use.name}` has whole bytes",
+            f"{name} : (value : {spec_type(kind)}) → {bits} ≡ 8 * ({bits} / 8)",
+            *(f"{name} {it} = refl" for it in cases),
             "",
         ]
     return out
@@ -60,9 +71,7 @@ def back_term(f: Format) -> str:
     front = f"(ap (({f.decoder(f.o, handed(f))}).reads 0) {is_} ∙ {back})"
     if f.rest:
         written, size = f"({f.m}_writes {f.o} value)", "omega arith"
-        wholes = {
-            f"{it.name}_whole": f"bytes_of_{snake(it.use.name)} value.{it.name}" for it in some_parts(f) if it.use
-        }
+        wholes = {f"{it.name}_whole": f"{bytes_name(it)} value.{it.name}" for it in some_parts(f)}
         if f.rest_line and f.rest_line.measured:
             wholes["whole"] = f"fits.{f.rest.name}_whole {f.o}"
         if wholes:

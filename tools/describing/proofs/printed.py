@@ -5,7 +5,7 @@ from describing import model as m
 from describing.imports import own_lemmas, own_specs, parts_lemmas, types
 from describing.layout import Format, Line
 from describing.names import PROOFS, VALUES, Table, modules_of, uses
-from describing.proofs import checks, choices, enums, last, lists, parts, sizes
+from describing.proofs import checks, choices, enums, last, limits, lists, parts, sizes
 from describing.proofs.laws import lemmas
 from describing.proofs.parse import parse_lines
 from describing.proofs.rows import rows
@@ -87,7 +87,9 @@ def line_answers(f: Format, line: Line) -> Answers:
         found |= lists.answers(f, line, kind)
     if isinstance(kind, m.Pad):
         found |= sizes.padding_answers(f, kind)
-    if m.is_golomb(kind):
+    if m.is_capped(kind):
+        found |= limits.answers(f, line, kind)
+    elif m.is_golomb(kind):
         found |= lists.count_answers(f, kind)
     if isinstance(kind, m.UpToLast):
         found |= last.answers(f, line, kind)

@@ -5,11 +5,11 @@ import re
 from typing import assert_never
 
 from describing import model as m
-from describing.layout import Format, Line, enum_bits, is_octets, is_some_bytes
+from describing.layout import Format, Line, enum_bits, is_octets, is_part_size, is_some_bytes
 from describing.model import snake
 from describing.rust.asked import test
 from describing.rust.checks import arguments
-from describing.specs.terms import by_enum, short, tag_bits, tag_of, width
+from describing.specs.terms import by_enum, bytes_name, short, tag_bits, tag_of, width
 from describing.text import article
 
 
@@ -29,6 +29,8 @@ def limits(line: Line) -> str:
     """Returns the sentence about the range of a field, or an empty text."""
     kind = line.kind
     match kind:
+        case m.Number(limit=int() as most):
+            return f"At most {most}."
         case m.Number():
             said = integer_range(kind.integer)
             return f"{said.capitalize()}." if said else ""
@@ -59,7 +61,7 @@ def list_limits(f: Format, line: Line, kind: m.List) -> str:
         there = f" if `{kind.power.there}` is set, and else none" * bool(kind.power.there)
         return f"{kind.power.spelled} items{there}{f', each {said}' if said else ''}."
     assert kind.count
-    many = f"Fewer than 2^{kind.count.width}"
+    many = f"Fewer than 2^{kind.count.width}" if kind.count.limit is None else f"At most {kind.count.limit}"
     if kind.less or kind.count.golomb:
         many = f"From {kind.less} to {kind.count.most_items} items"
     return f"{many}{f', each {said}' if said else ''}."
@@ -130,12 +132,18 @@ def refusal(line: Line) -> str:
 
 def limit_text(kind: m.Number | m.Count | m.Size) -> str:
     """Returns the comment of the case of the error for a number above its greatest value."""
+    name = limit_name(kind)
+    return f"{name[0].upper()}{name[1:]} is above {kind.limit}."
+
+
+def limit_name(kind: m.Number | m.Count | m.Size) -> str:
+    """Returns what comments call a number with a greatest value."""
     if isinstance(kind, m.Number):
-        return f"`{kind.name}` is above {kind.limit}."
+        return f"`{kind.name}`"
     what = "number of items" if isinstance(kind, m.Count) else "size"
     what = "number for the size" if isinstance(kind, m.Size) and kind.units else what
     less = f", less {kind.less}," if isinstance(kind, m.Count) and kind.less else ""
-    return f"The {what} of `{kind.target}`{less} is above {kind.limit}."
+    return f"the {what} of `{kind.target}`{less}"
 
 
 def error_cases(line: Line) -> dict[str, list[str]]:
@@ -152,13 +160,18 @@ def error_cases(line: Line) -> dict[str, list[str]]:
     if kind.by != kind.name:
         why = f"`{kind.type}` has no case for `{kind.by}`."
     own = {kind.unknown: [f"    /// {why}", f'    #[error("{shown(why)}")]', f"    {kind.unknown},"]}
-    own = (own if kind.unknown else {}) | (overrun_case(kind.name, kind.overrun, kind.to_end) if kind.sized else {})
+    own = (own if kind.unknown else {}) | (overrun_case(kind.name, kind.overrun, ending(kind)) if kind.sized else {})
     return own | {it.error: error_case(it) for it in line.parts if it.error}
 
 
-def overrun_case(name: str, error: str, to_end: bool = False) -> dict[str, list[str]]:
+def ending(kind: m.Choose) -> str:
+    """Returns the text of which bytes a choice fills."""
+    return m.end_text(kind) if kind.to_end else "that its size states"
+
+
+def overrun_case(name: str, error: str, which: str = "that its size states") -> dict[str, list[str]]:
     """Returns the case of the error for a part that does not fill its size, or the bytes to the end."""
-    why = f"`{name}` does not fill the bytes {'to the end' if to_end else 'that its size states'}."
+    why = f"`{name}` does not fill the bytes {which}."
     return {error: [f"    /// {why}", f'    #[error("{shown(why)}")]', f"    {error},"]}
 
 
@@ -282,9 +295,8 @@ def rest_bytes(f: Format, name: str) -> str:
     """Returns the number of bytes of the rest: of those that the read is given, the ones after bytes before it."""
     given = f"{name}_bytes"
     for it in f.before_rest:
-        some = it.use and is_some_bytes(it.kind)
-        before = f"bytes_after({given}, bytes_of_{snake(it.use.name)}({it.name}))" if it.use and some else ""
-        given = before or f"rest_after({given}, &{it.name})"
+        some = f"bytes_after({given}, {bytes_name(it.kind)}({it.name}))" if is_some_bytes(it.kind) else ""
+        given = some or f"rest_after({given}, &{it.name})"
     return given
 
 
@@ -347,10 +359,15 @@ def read_item(item: m.Item) -> str:
 def write(line: Line) -> str:
     """Returns the call that writes a line."""
     kind, target = line.kind, line.choice.name if line.choice else ""
+    if m.is_capped(kind):
+        given = f"&self.{kind.target}" if isinstance(kind, m.Size) and is_part_size(line) else ""
+        return f"write_{line.name}(writer, {given or number_written(line, kind)})"
     match kind:
         case m.Bool():
             return f"writer.write_bit(self.{kind.name})"
-        case m.Number() | m.NonZero() | m.MaybeNonZero():
+        case m.Number() | m.Count() | m.Size():
+            return write_number(line, kind, number_written(line, kind))
+        case m.NonZero() | m.MaybeNonZero():
             return f"writer.write::<Bits<{kind.integer.width}>, {m.rust_type(kind)}>(self.{kind.name})"
         case m.Enum():
             return f"writer.write::<Bits<{kind.enum.width}>, u{enum_bits(kind.enum)}>(self.{kind.name}.number())"
@@ -380,16 +397,8 @@ def write(line: Line) -> str:
             return f"writer.write_var::<u64>({kind.counted}(&self.{kind.target}), 0)"
         case m.Flag():
             return f"writer.write_bit(self.{kind.target}.is_some())"
-        case m.Count():
-            number = f"self.{kind.target}.len() as u64"
-            number = f"stored_size({number}, 1, 0, {kind.less})" if kind.less else number
-            if kind.golomb:
-                return f"write_{kind.target}_count(writer, {number})"
-            return f"writer.write::<Bits<{kind.width}>, u64>({number})"
         case m.Tag():
             return f"writer.write::<Bits<{kind.width}>, {value_type(kind)}>(self.{target}.number())"
-        case m.Size():
-            return write_size(line, kind)
         case m.Check():
             number = f"{kind.word}_of({arguments(line.covers, 'self.')})"
             number = f"self.{kind.called}()" if kind.lines else number
@@ -405,21 +414,51 @@ def write(line: Line) -> str:
     assert_never(kind)
 
 
-def write_size(line: Line, kind: m.Size) -> str:
-    """Returns the call that writes the size of a later line."""
-    units = "".join(f", {it}" for it in kind.units.split())
+def number_written(line: Line, kind: m.Number | m.Count | m.Size) -> str:
+    """Returns the number that a line writes, or the number of bits of the part whose size it writes."""
+    if isinstance(kind, m.Number):
+        return f"self.{kind.name}"
+    length = f"self.{kind.target}.len() as u64"
+    if isinstance(kind, m.Count):
+        return f"stored_size({length}, 1, 0, {kind.less})" if kind.less else length
     if line.measures and is_octets(line.measures):
-        length = f"self.{kind.target}.len() as u64"
-        if kind.varint:
-            return f"write_varint(writer, {length})"
-        if kind.groups:
-            return f"writer.write_vbr::<Bits<{kind.groups.group}>, u64>({length})"
-        return f"writer.write::<Bits<{kind.width}>, u64>({f'stored_size({length}{units})' if units else length})"
-    bits = f"self.{kind.target}.bits::<u64>()"
-    if isinstance(line.measures, m.Fill):
-        bits = f"count_{kind.target}(&self.{kind.target})"
+        return stored_number(kind, length)
+    return bits_written(line, kind, f"self.{kind.target}", "&")
+
+
+def bits_written(line: Line, kind: m.Size, value: str, borrowed: str = "") -> str:
+    """Returns the number of bits of a value whose size a line has."""
+    return f"count_{kind.target}({borrowed}{value})" if isinstance(line.measures, m.Fill) else f"{value}.bits::<u64>()"
+
+
+def stored_number(kind: m.Size, size: str) -> str:
+    """Returns the number that states a number of bytes."""
+    return f"stored_size({size}, {', '.join(kind.units.split())})" if kind.units else size
+
+
+def write_number(line: Line, kind: m.Number | m.Count | m.Size, number: str) -> str:
+    """Returns the call that writes a number, or the size of a part of a number of bits, whatever its greatest value is."""
+    match kind:
+        case m.Number():
+            return f"writer.write::<Bits<{kind.integer.width}>, {m.rust_type(kind)}>({number})"
+        case m.Count(golomb=True) if kind.limit is None:
+            return f"write_{kind.target}_count(writer, {number})"
+        case m.Count(golomb=True):
+            return f"write_ue(writer, {number} as u32)"
+        case m.Size(varint=True):
+            return f"write_varint(writer, {number})"
+        case m.Size() if not (line.measures and is_octets(line.measures)):
+            return write_size(kind, number)
+        case m.Size(groups=m.Groups() as groups):
+            return f"writer.write_vbr::<Bits<{groups.group}>, u64>({number})"
+    return f"writer.write::<Bits<{kind.width}>, u64>({number})"
+
+
+def write_size(kind: m.Size, bits: str) -> str:
+    """Returns the call that writes the size of a part of a number of bits."""
     if kind.groups:
         return f"write_size_in_groups(writer, {bits})"
+    units = "".join(f", {it}" for it in kind.units.split())
     return f"write_{'stored_' * bool(units)}size(writer, {kind.width}, {bits}{units})"
 
 

@@ -3,9 +3,10 @@ from __future__ import annotations
 
 from describing import model as m
 from describing.imports import part_cases
-from describing.layout import Format, Line
+from describing.layout import Format, Line, is_some_bytes
 from describing.model import snake
-from describing.specs.terms import here, placed, some_bits
+from describing.rust.choices import pattern
+from describing.specs.terms import bytes_name, here, placed, some_bits
 
 
 def error_code(f: Format, line: Line, use: m.Use) -> list[str]:
@@ -35,21 +36,26 @@ def optional_code(f: Format, line: Line, use: m.Use) -> list[str]:
     """Returns the functions that read and write an optional part."""
     if not f.is_first_optional(line):
         return []
-    size = size_code(use) if line in f.before_rest else []
-    return [*read_code(f, line, use), *write_code(use), *size]
+    return [*read_code(f, line, use), *write_code(use), *size_code(f, line)]
 
 
-def size_code(use: m.Use) -> list[str]:
-    """Returns the function that counts the bytes of an optional part of a constant size."""
-    name = snake(use.name)
+def size_code(f: Format, line: Line) -> list[str]:
+    """Returns the function that counts the bytes of an optional part, or of a choice, that is before the rest."""
+    kind = line.kind
+    if line not in f.before_rest or not is_some_bytes(kind):
+        return []
+    if isinstance(kind, m.Choose):
+        said, parts = f"`{kind.type}`", [(pattern(kind, it), it.held) for it in kind.arms]
+    else:
+        said, parts = f"`{kind.use.name}`, if there is one", [("Some(_)", kind.use), ("None", None)]
+    arms = [(case, (held.description.bits or 0) // 8 if isinstance(held, m.Use) else 0) for case, held in parts]
     return [
-        f"/// Returns the number of bytes of a `{use.name}`, if there is one.",
-        f"fn bytes_of_{name}(value: Option<{use.name}>) -> u64",
-        f"    ensures {{ result ≡ {some_bits(use, 'value')} / 8 }}",
+        f"/// Returns the number of bytes of a {said}.",
+        f"fn {bytes_name(kind)}(value: {m.rust_type(kind)}) -> u64",
+        f"    ensures {{ result ≡ {some_bits(kind, 'value')} / 8 }}",
         "{",
         "    match value {",
-        f"        Some(_) => {(use.description.bits or 0) // 8},",
-        "        None => 0,",
+        *(f"        {case} => {size}," for case, size in arms),
         "    }",
         "}",
         "",

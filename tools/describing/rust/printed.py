@@ -17,6 +17,7 @@ from describing.rust.choices import choice_code
 from describing.rust.clauses import clauses
 from describing.rust.enums import enum_code
 from describing.rust.last import last_code
+from describing.rust.limits import limit_code
 from describing.rust.lists import (
     count_code as count_writer,
     list_code,
@@ -24,7 +25,7 @@ from describing.rust.lists import (
     refused_memory,
     write_code as write_items,
 )
-from describing.rust.parts import error_code as part_error, optional_code
+from describing.rust.parts import error_code as part_error, optional_code, size_code
 from describing.rust.reads import parse_code, read_code
 from describing.rust.sizes import count_code, padding_code, sized_code, stated_code
 from describing.rust.traits import from_code, law_code, to_code, to_impl
@@ -63,6 +64,7 @@ def declares(f: Format, line: Line) -> list[str]:
     if isinstance(kind, m.Choose):
         out += choice_code(f, line, kind, number_type(f, kind))
         out += to_impl(kind.type, f"{snake(kind.type)}_writes") if line.size else []
+        out += size_code(f, line)
     if isinstance(kind, m.Fill):
         out += [*refused_memory(f, line), *write_items(kind), *(count_code(kind) if line.size else [])]
     if line.measured:
@@ -80,7 +82,9 @@ def declares(f: Format, line: Line) -> list[str]:
         out += write_items(kind)
     if isinstance(kind, m.List) and not isinstance(kind.item, m.Octet):
         out += list_code(f, line, kind)
-    if m.is_golomb(kind):
+    if m.is_capped(kind):
+        out += limit_code(line, kind)
+    elif m.is_golomb(kind):
         out += count_writer(kind)
     if isinstance(kind, m.Pad):
         out += padding_code(f, kind)

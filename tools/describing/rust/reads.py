@@ -42,6 +42,14 @@ def rest_text(f: Format) -> str:
     return f", and `{f.given[-1].name}` bytes of {names}{' and ' * bool(names)}`{f.rest.name}`"
 
 
+def parsed_text(f: Format) -> str:
+    """Returns the text of what `parse` reads."""
+    if not f.rest:
+        return "the value at the start of `packet`"
+    after = f", before {f.rest.after // 8} more bytes" if f.rest.after else ""
+    return f"`packet`, whose last bytes are `{f.rest.name}`{after}"
+
+
 def given(lines: list[Line]) -> str:
     """Returns the parameters for what a read is given."""
     return "".join(f", {it.name}: {value_type(it.kind)}" for it in lines)
@@ -99,7 +107,7 @@ def parse_code(f: Format) -> list[str]:
     more_bits = "" if f.rest else " ++ more"
     same = "".join(f"\n            → value.{it.name} ≡ {it.name}" for it in f.handed)
     return [
-        f"    /// Parses {f'`packet`, whose last bytes are `{f.rest.name}`' if f.rest else 'the value at the start of `packet`'}.",
+        f"    /// Parses {parsed_text(f)}.",
         "    ///",
         "    /// # Errors",
         "    ///",

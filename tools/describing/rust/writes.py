@@ -7,14 +7,18 @@ from describing.rust.calls import write
 from describing.rust.clauses import clause, first_of
 
 
-def write_head(what: str, name: str) -> list[str]:
-    """Returns the comment, the head and the contract of a function that writes a value; `name` is that of its writes."""
+def write_head(what: str, name: str, limited: bool = False) -> list[str]:
+    """Returns the comment, the head and the contract of a function that writes a value; `name` is that of its writes.
+
+    `limited` is true if a number of the value has a greatest value.
+    """
+    misfits = "does not fit its bits" + ", or is above its greatest value" * limited
     return [
         f"    /// Writes {what}.",
         "    ///",
         "    /// # Errors",
         "    ///",
-        "    /// `Checked` for a field that does not fit its bits. The fields before it have been written.",
+        f"    /// `Checked` for a field that {misfits}. The fields before it have been written.",
         "    /// Otherwise the sink's errors.",
         "    pub fn write<W: BitWrite>(&self, writer: &mut W) -> Result<(), Error>",
         f"        ensures {{ WritesAll W.sink ({name}_writes W.sink.order self.now) writer.old result writer.new }}",
@@ -24,7 +28,7 @@ def write_head(what: str, name: str) -> list[str]:
 def write_code(f: Format) -> list[str]:
     """Returns the functions that write the format."""
     return [
-        *write_head("the fields in order", f.m),
+        *write_head("the fields in order", f.m, any(m.is_capped(it.kind) for it in f.lines)),
         *write_body(f, "write", f.pieces(), 0),
         *later_writes(f, "write", f"{f.m}_writes", f.pieces()),
         *[line for it in f.summed for line in sum_code(f, it)],

@@ -9,6 +9,8 @@ from describing.specs.sizes import overrun, reader_error
 from describing.specs.terms import Of, measured_module, rest_left, selected, sized_bytes, tag_of
 
 REFL = "refl"
+# The rest has the bytes that the read is given, less those of the lines before it, in a record of so many bytes.
+BEFORE = "let sum = fits.1 in omega (arith, sum)"
 
 
 # ---- choices
@@ -226,7 +228,7 @@ def measured_facts(f: Format, line: Line, kind: m.Measured) -> list[str]:
     name, size = kind.name, line.size
     if not size:
         bits = f"λ (k : ℕ). {measured_bits(kind, f's.{name}')} ≡ 8 * k"
-        left = "(let sum = fits.1 in omega (arith, sum))" if f.before_rest else "fits.1"
+        left = f"({BEFORE})" if f.before_rest else "fits.1"
         fact = f"subst ({bits}) {left} (fits.{name}_whole High)"
         return [choice_facts(f, kind, left) if isinstance(kind, m.Choose) else f"fits.{name}", fact]
     if is_octets(kind):

@@ -6,10 +6,10 @@ import re
 from describing import model as m
 from describing.imports import parts_specs, types
 from describing.layout import Format, Line
-from describing.names import ENUMS, SPECS, VALUES, uses
-from describing.specs import values
+from describing.names import ENUMS, LIMITS, SPECS, VALUES, merged, uses
+from describing.specs import limits, values
 from describing.specs.definitions import definitions
-from describing.specs.terms import binds, fits, place, size, spec_type, word
+from describing.specs.terms import binds, fits, place, size, spec_type
 from describing.text import article, wrapped
 
 
@@ -37,7 +37,7 @@ def bytes_specs(f: Format, unnamed: list[str]) -> str:
 
 def specs(f: Format) -> str:
     """Returns the text of the definitions."""
-    out = becomes(f) + (BITS_AT if f.sized else [])
+    out = becomes(f) + (BITS_AT if f.sized else []) + limits.definitions(f)
     out += [line for it in f.lines for line in definitions(f, it)]
     out += [line for it in sums_in_order(f) for line in sum_definitions(f, it)]
     out += [*values.lines(f), *values.reads(f), *values.writes(f)] if f.valued else [*entries(f), *writes(f)]
@@ -46,6 +46,7 @@ def specs(f: Format) -> str:
     text = "\n".join(out)
     # here `bits` is bound in each definition that names it
     own = VALUES if f.valued else ENUMS
+    own = merged(own, LIMITS) if limits.lines(f) else own
     imports = uses(re.sub(r"\bbits\b", "", text), types(f), parts_specs(f), own, SPECS)
     imports += [values.ATOMS] * (" atom." in text or "(atom." in text)
     return wrapped("\n".join([f"-- {f.doc}", *imports, "", f"-- {f.made}", "", text.rstrip()])) + "\n"
@@ -163,7 +164,7 @@ def written_list(lines: tuple[Line, ...], behind: str) -> list[str]:
     opened = [k for k, it in enumerate(lines) if it.many][:-1]
     out, join = list[str](), ""
     for k, it in enumerate(lines):
-        out.append(f"    {join}{word(it)}")
+        out.append(f"    {join}{limits.written(it)}")
         join = f"++ {'(' * (k in opened)}" if it.many else "∷ "
     return [*out, f"    {join}{behind}{')' * len(opened)}"]
 

@@ -231,12 +231,19 @@ def rest_count(f: Format) -> str:
 
 def bytes_taken(line: Line, term: str) -> str:
     """Returns the number of bytes of a line before a rest, of the term for its value."""
-    return f"{some_bits(line.use, term)} / 8" if is_some_bytes(line.kind) and line.use else f"length {term}"
+    return f"{some_bits(line.kind, term)} / 8" if is_some_bytes(line.kind) else f"length {term}"
 
 
-def some_bits(use: m.Use, term: str) -> str:
-    """Returns the number of bits of an optional part."""
-    return f"optional_size ({use.module}_size High) {term}"
+def some_bits(kind: m.Optional | m.If | m.Choose, term: str) -> str:
+    """Returns the number of bits of an optional part, or of a choice without a size."""
+    if isinstance(kind, m.Choose):
+        return f"{snake(kind.type)}_size High {term}"
+    return f"optional_size ({kind.use.module}_size High) {term}"
+
+
+def bytes_name(kind: m.Optional | m.If | m.Choose) -> str:
+    """Returns the name of the function that counts the bytes of an optional part, or of a choice without a size."""
+    return f"bytes_of_{snake(kind.type if isinstance(kind, m.Choose) else kind.use.name)}"
 
 
 def rest_left(f: Format, name: str, of: Of = as_read) -> str:

@@ -6,7 +6,7 @@ import re
 from describing import model as m
 from describing.layout import Format, Line, by_size, enum_bits, is_octets, is_open
 from describing.model import snake
-from describing.specs import measured
+from describing.specs import limits, measured
 from describing.specs.terms import (
     Of,
     bit,
@@ -130,9 +130,8 @@ def end(f: Format) -> str:
 
 def line_part(f: Format, line: Line, of: Of = as_read) -> str:
     """Returns a line as a part of the record `s`, after the values of the lines before it."""
-    if m.is_limited(line.kind):
-        return f"own_bounded {line.kind.limit} {line.kind.error} ({plain_part(f, line, of)})"
-    return plain_part(f, line, of)
+    part = plain_part(f, line, of)
+    return limits.limited_part(line, line.kind, part) if m.is_limited(line.kind) else part
 
 
 def plain_part(f: Format, line: Line, of: Of) -> str:
@@ -371,7 +370,7 @@ def line_facts(f: Format, line: Line) -> list[str]:
             again = f"(units-again 1 {kind.less} (length s.{kind.name}) ({count_bound(count)}) fits.{kind.name}_count refl refl)"
             return [f"fits.{kind.name}", again]
         case m.Rest():
-            return [f"fits.{kind.name}", "let sum = fits.1 in omega (arith, sum)" if f.before_rest else "fits.1"]
+            return [f"fits.{kind.name}", measured.BEFORE if f.before_rest else "fits.1"]
     return [f"fits.{name}" for name, _ in fits(f, line)]
 
 
