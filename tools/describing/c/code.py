@@ -337,7 +337,7 @@ def tests(f: Format, kind: Crossed) -> list[str]:
             return optional.tests(f, kind)
         case m.Choose():
             return choices.tests(f, kind)
-        case m.List() | m.Sized() | m.Fill():
+        case m.List() | m.Sized() | m.Fill() | m.Rest():
             return lists.tests(f, kind)
     assert_never(kind)
 

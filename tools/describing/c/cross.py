@@ -11,17 +11,20 @@ from describing.rust.calls import integer_range
 
 Crossed: TypeAlias = (
     m.Bool | m.Number | m.NonZero | m.MaybeNonZero | m.Enum | m.Array | m.Groups | m.Golomb | m.Varint | m.Part
-    | m.Optional | m.If | m.List | m.Sized | m.Fill | m.Choose
+    | m.Optional | m.If | m.List | m.Sized | m.Fill | m.Rest | m.Choose
 )  # fmt: skip
-Listed: TypeAlias = m.List | m.Sized | m.Fill  # items in storage of the caller
+Listed: TypeAlias = m.List | m.Sized | m.Fill | m.Rest  # items in storage of the caller
 
 # The most bytes of a format whose size varies: `pack` holds them on the stack.
 MOST_BYTES = 4096
 
+# The most bytes up to the end that a pack takes.
+MOST_REST = 65535
+
 # Why a field of another kind does not cross to C.
 OTHERS = {
+    m.Given: "is given to the parse, which does not cross to C yet",
     m.UpToLast: "ends at its last part, which does not cross to C yet",
-    m.Rest: "reads to the end of the bytes, which does not cross to C yet",
     m.Until: "has items up to a last one, which does not cross to C yet",
     m.Blocks: "has bytes in blocks, which does not cross to C yet",
     m.Unary: "is a unary number, which can be longer than any buffer, and does not cross to C",
@@ -65,7 +68,7 @@ def check(description: m.Description) -> None:
         raise Refused("a part without whole bytes does not cross to C yet", description.heads["struct"])
     for it in description.kinds:
         if isinstance(it, m.Check):
-            raise Refused("a checksum does not cross to C yet", it.at)
+            check_sum(description, it)
         if isinstance(it, m.Pad):
             raise Refused("zeros up to a multiple of bits do not cross to C yet", it.at)
         if isinstance(it, m.Size) and (it.groups or m.is_limited(it)):
@@ -76,6 +79,8 @@ def check(description: m.Description) -> None:
         check_field(kind)
         if isinstance(kind, m.Fill):
             check_fill(description, kind)
+        if isinstance(kind, m.Rest):
+            check_rest(description, kind)
     check_types(description)
     names = [it.name for it in members(description)]
     if lists(description) and len(description.kinds) > LONG:
@@ -90,6 +95,23 @@ def check(description: m.Description) -> None:
             f"`{longest.name}` can make the format longer than {MOST_BYTES} bytes, which does not cross to C yet",
             longest.at,
         )
+
+
+def check_sum(description: m.Description, kind: m.Check) -> None:
+    """Refuses a computed number of bytes, and a checksum of fields or in a format whose size varies."""
+    if isinstance(kind, m.Computed):
+        raise Refused("a computed number of bytes does not cross to C yet", kind.at)
+    if not kind.lines:
+        raise Refused("a checksum of fields does not cross to C yet: `over all` is one of lines", kind.at)
+    if lists(description):
+        raise Refused("a checksum next to a list does not cross to C yet", kind.at)
+    if any(m.bits(it) is None for it in description.kinds if it is not kind):
+        raise Refused("a checksum next to lines whose size varies does not cross to C yet", kind.at)
+
+
+def has_sum(use: m.Use) -> bool:
+    """Returns true for a part with a checksum."""
+    return any(isinstance(it, m.Check) for it in use.description.kinds)
 
 
 def check_types(description: m.Description) -> None:
@@ -125,11 +147,23 @@ def check_field(kind: Crossed) -> None:
             check(use.description)
         except Refused as why:
             raise Refused(f"`{use.module}`: {why}", kind.at) from None
-        for holds, what in ((m.allocating(use), "a list"), (bool(choices(use.description)), "a choice")):
+        has_choice = bool(choices(use.description))
+        for holds, what in ((m.allocating(use), "a list"), (has_choice, "a choice"), (has_sum(use), "a checksum")):
             if holds and isinstance(kind, m.List | m.Fill):
                 raise Refused(f"`{kind.name}` has parts with {what}, which do not cross to C yet", kind.at)
             if holds:
                 raise Refused(f"`{kind.name}` is a part with {what}, which does not cross to C yet", kind.at)
+
+
+def check_rest(description: m.Description, kind: m.Rest) -> None:
+    """Refuses parts up to the end, and bytes up to the end before other lines or after lines without a constant width."""
+    if isinstance(kind.item, m.Use):
+        raise Refused(f"`{kind.name}` has parts to the end of the bytes, which do not cross to C yet", kind.at)
+    if description.kinds[-1] is not kind:
+        raise Refused(f"`{kind.name}` has lines after its bytes, which do not cross to C yet", kind.at)
+    if any(m.bits(it) is None for it in description.kinds if it is not kind):
+        what = f"`{kind.name}` reads to the end of the bytes after a list or an optional part"
+        raise Refused(f"{what}, which does not cross to C yet", kind.at)
 
 
 def check_fill(description: m.Description, kind: m.Fill) -> None:
@@ -167,7 +201,12 @@ def spec_item(kind: Listed) -> str:
 
 def is_listed(kind: m.Kind) -> TypeGuard[Listed]:
     """Returns true for a field whose items are in storage of the caller."""
-    return isinstance(kind, m.List | m.Sized | m.Fill)
+    return isinstance(kind, m.List | m.Sized | m.Fill | m.Rest)
+
+
+def rest(description: m.Description) -> m.Rest | None:
+    """Returns the bytes up to the end, if a format has them."""
+    return next((it for it in description.fields if isinstance(it, m.Rest)), None)
 
 
 def counted(description: m.Description, kind: Listed) -> m.Count | m.Size:
@@ -201,7 +240,7 @@ def item_width(kind: Listed | m.Array) -> int:
 
 
 def most(description: m.Description) -> int:
-    """Returns a number of bits that the fields that fit do not exceed."""
+    """Returns a number of bits that the fields that fit do not exceed, without bytes up to the end."""
     return sum(most_of(description, it) for it in description.kinds)
 
 
@@ -219,6 +258,8 @@ def most_of(description: m.Description, kind: m.Kind) -> int:
             return 64
         case m.Size():
             return 64
+        case m.Rest():
+            return 0
         case m.List() | m.Sized():
             return most_items(description, kind) * item_width(kind)
         case m.Fill():
@@ -237,6 +278,16 @@ def most_size(description: m.Description, kind: m.Fill) -> int:
 def lists(description: m.Description) -> list[Listed]:
     """Returns the lists of a format."""
     return [it for it in description.fields if is_listed(it)]
+
+
+def open_lists(description: m.Description) -> list[tuple[Listed, int]]:
+    """Returns the lists without a greatest length, each with the most bytes of it that are packed."""
+    return [(it, MOST_REST) for it in lists(description) if isinstance(it, m.Rest)]
+
+
+def open_most(description: m.Description) -> int:
+    """Returns a number of bits that the fields that are packed do not exceed."""
+    return most(description) + sum(8 * it for _, it in open_lists(description))
 
 
 def choices(description: m.Description) -> list[m.Choose]:
@@ -274,7 +325,7 @@ def members_of(description: m.Description, kind: Crossed) -> list[Member]:
             return [there, Member(kind.name, base(kind), comment(kind), kind.use.module)]
         case m.Array():
             return [Member(kind.name, base(kind), comment(kind), count=kind.count)]
-        case m.List() | m.Sized() | m.Fill():
+        case m.List() | m.Sized() | m.Fill() | m.Rest():
             said, module = list_comment(description, kind), kind.item.module if isinstance(kind.item, m.Use) else ""
             return [Member(kind.name, "usize", said, item=base(kind), of=module)]
         case m.Choose():
@@ -306,7 +357,7 @@ def base(kind: Crossed) -> str:
             return kind.integer.base
         case m.Enum():
             return f"u{enum_bits(kind.enum)}"
-        case m.Array() | m.List() | m.Sized() | m.Fill():
+        case m.Array() | m.List() | m.Sized() | m.Fill() | m.Rest():
             if isinstance(kind.item, m.Use):
                 return f"{kind.item.name}C"
             if isinstance(kind.item, m.EnumType):
@@ -375,6 +426,8 @@ def comment(kind: Crossed) -> str:
 
 def list_comment(description: m.Description, kind: Listed) -> str:
     """Returns the comment of a list, with its range."""
+    if isinstance(kind, m.Rest):
+        return f"{comment(kind)} All bytes up to the end. At most {MOST_REST} are packed."
     line = counted(description, kind)
     if isinstance(kind, m.Fill):
         return f"{comment(kind)} At most {most_items(description, kind)}."

@@ -3,6 +3,7 @@ from __future__ import annotations
 
 from describing import model as m
 from describing.c.cross import Member, choice_members, choices, enums, layout, lists, members, parts
+from describing.c.rests import which_bytes
 from describing.c.status import numbers, own, rooms, statuses, unless_refused
 from describing.c.target import Target
 from describing.c.words import c_comment, c_name, drawn, in_comment, paragraph, quoted
@@ -186,7 +187,7 @@ def list_comment(t: Target, refused: str, here: str) -> str:
         f"{up}_{it.name} if `{name}` has more items than its capacity" for name, it in zip(names, rooms(f))
     )
     return (
-        f"Parses the fields at the start of `length` bytes into `*out`, and the items of lists into the storage that the"
+        f"Parses {which_bytes(f, '`length` bytes')} into `*out`, and the items of lists into the storage that the"
         f" caller has set in {items}. Sets `*taken` to the number of bytes that the fields take unless `taken` is null,"
         f" and returns {up}_OK. Items after the last one are as before. After an error `*out` is as before, but the items"
         f" in the storage are unspecified, and `*taken` is the number of items of the list without room for them, or 0. The"

@@ -31,7 +31,7 @@ def own_names(t: Target) -> Table:
     more += [f"{f.m}_{snake(it.name)}_from" for it in enums(f.description) if is_narrow(it)]
     more += [f"{f.m}_{snake(it.name)}_{word}" for it in listed_enums(f.description) for word in ("item", "there")]
     if lists(f.description):
-        more += [f"{f.m}_of", f"{f.m}_short", f"{f.type}Read"]
+        more += [f"{f.m}_packable", f"{f.m}_of", f"{f.m}_short", f"{f.type}Read"]
     found: Table = {
         f"Rattle.{t.crate}.specs.{f.spec}": " ".join(
             [*(f"{f.m}_{it}" for it in words), *more, optional.names(f), choices.names(f)]
@@ -76,8 +76,9 @@ LEMMAS: Table = {
     "Rattle.std.proofs.lemmas.Bool": "cases_lt",
     "Rattle.std.proofs.lemmas.Bool.Decides": "nat_tests eqb_tells",
     "Rattle.bitstream_io.proofs.WordLemmas": "length-bits bits-append",
-    "Rattle.bitstream_io.proofs.CallerLemmas": "inl inr packs-whole is_error slice_ends packed-bits packed-room",
+    "Rattle.bitstream_io.proofs.CallerLemmas": "inl inr packs-is packs-whole is_error slice_ends packed-bits packed-room",
     "Rattle.bitstream_io.proofs.SequenceLemmas": "counted",
+    "Rattle.bitstream_format.proofs.RestLemmas": "rest-back",
     "Rattle.bitstream_io.proofs.VbrLemmas": "zig-lt",
     "Rattle.bitstream_io.specs.Word": "zig",
     "Rattle.bitstream_format.specs.Varint": "varint_length varint_width",
@@ -105,6 +106,7 @@ def varied(t: Target) -> Table:
     return {
         f"Rattle.{t.crate}.proofs.SharedLemmas": "packs-done",
         f"Rattle.{t.crate}.proofs.VariedLemmas": "aligned_bytes counted_past groups_most optional_most padded read_decided",
+        f"Rattle.{t.crate}.proofs.RestLemmas": "whole_packed",
         f"Rattle.{t.crate}.proofs.ListLemmas": "bytes_into failed_ok kept_none kept_more kept_begin",
         f"Rattle.{t.crate}.proofs.PartLemmas": "failed_own item_fit item_free made_all made_fit made_none made_written none_written part_kept parts_failed"
         " parts_more parts_most parts_none some_written",

@@ -12,6 +12,7 @@ from describing.c.target import Target
 from describing.layout import Format, Line
 from describing.proofs import calls
 from describing.proofs.chains import Answers, Call
+from describing.proofs.limits import answers as limit_answers
 from describing.proofs.loops import write_answers, write_invariants
 from describing.proofs.parts import write_answers as part_writes
 from describing.specs.terms import asked_enums, by_enum
@@ -88,7 +89,7 @@ class Writes(calls.Writes):
             return (f"(made_written {one.from_c} {part_lists.given_writes(kind)} _)",)
         if isinstance(kind, m.Count) and (one := part_lists.shape(self.f, cross.target(self.f.description, kind))):
             return (f"c.{self.steps.next(f'count_{one.word}')}.ensures",)
-        return () if isinstance(kind, m.List | m.Sized | m.Count) else super().known(line)
+        return () if isinstance(kind, m.List | m.Sized | m.Count | m.Rest) else super().known(line)
 
 
 def write_fields(f: Format) -> str:
@@ -356,6 +357,7 @@ def files(t: Target) -> dict[str, str]:
         if isinstance(it, m.List) and isinstance(it.item, m.Integer):
             found |= loops(t, it)
     for line in f.lines:
+        found |= limit_files(t, line)
         if cross.is_listed(line.kind) and is_stated(line.kind):
             found[f"{home}/read_stated_{line.name}/Answers.antt"] = stated_answers(t, line)
     for use in cross.optional(f.description):
@@ -381,6 +383,17 @@ def loops(t: Target, kind: m.List) -> dict[str, str]:
             text = "\n".join(lines).replace(f.goals, f"Rattle.{t.crate}.proofs.{f.m}")
             out[f"proofs/{f.m}/{function}/{file}.antt"] = f"-- {t.made}\n{head}{text}\n"
     return out
+
+
+def limit_files(t: Target, line: Line) -> dict[str, str]:
+    """Returns the proof of the function that writes a number with a greatest value."""
+    found, f = dict[str, str](), t.f
+    names = "use Rattle.std.proofs.lemmas.Bool.{le-leb}\n"
+    names += "use Rattle.bitstream_format.proofs.InGroupsLemmas.{above-leb}\n"
+    for function, lines in limit_answers(f, line, line.kind).items() if m.is_capped(line.kind) else ():
+        text = "\n".join(lines).replace(f.goals, f"Rattle.{t.crate}.proofs.{f.m}")
+        found[f"proofs/{f.m}/{function}/Answers.antt"] = f"-- {t.made}\n{names}{text}\n"
+    return found
 
 
 def to_writer(t: Target) -> str:

@@ -4,11 +4,12 @@ from __future__ import annotations
 from typing import Callable, TypeGuard
 
 from describing import model as m
-from describing.c import cross, fills, part_lists, varying
+from describing.c import cross, fills, part_lists, rests, varying
 from describing.c.cross import Crossed, Listed, base, is_partial, is_stated, lists, spec_item
 from describing.c.status import DOES_NOT_FIT, END_OF_INPUT, NO_ROOM, rooms
 from describing.layout import Format, Line
 from describing.rust import calls as rust
+from describing.rust.limits import limit_code
 from describing.rust.lists import write_code
 from describing.rust.printed import called
 
@@ -85,6 +86,8 @@ def fields_code(f: Format, from_c: Callable[[Crossed], str], let_code: Callable[
 
 def tests(f: Format, kind: Listed) -> list[str]:
     """Returns the tests that a list fits its bits."""
+    if isinstance(kind, m.Rest):
+        return [f"{items_name(kind)}(value.{kind.name})"]
     line, count = cross.counted(f.description, kind), f"value.{kind.name}.len()"
     most = cross.most_counted(line) if isinstance(line, m.Count) else (1 << line.width) - 1
     if one := part_lists.shape(f, kind):
@@ -167,6 +170,8 @@ def read_statement(f: Format, line: Line) -> str:
 
 def count_name(f: Format, kind: Listed) -> str:
     """Returns the name of the number of items of a list in the function that reads it."""
+    if isinstance(kind, m.Rest):
+        return rests.given(f)
     line = cross.counted(f.description, kind)
     counted = isinstance(kind, m.Fill) or isinstance(line, m.Size) and line.units
     return f"{kind.name}_count" if counted else m.label(line)
@@ -207,9 +212,9 @@ def read_code(f: Format, to_c: Terms) -> list[str]:
             made += [f"        {name}: {term.replace('value.', '')}," for name, term in to_c(it).items()]
     return [
         "/// Reads the fields, and keeps the items of lists for which there is room.",
-        f"fn read<R: BitRead>(reader: &mut R, {', '.join(items_parameters(f, '&mut '))}) -> Result<{f.type}C, {f.e}>",
+        f"fn read<R: BitRead>(reader: &mut R, {', '.join(items_parameters(f, '&mut '))}{rests.parameter(f)}) -> Result<{f.type}C, {f.e}>",
         *[f"    requires {{ R.source.order ≡ {f.o} }}"] * f.ordered,
-        f"    ensures {{ {f.type}Read R.source reader.old {old} result reader.new {new} }}",
+        f"    ensures {{ {f.type}Read R.source {f'{rests.given(f)} '.lstrip()}reader.old {old} result reader.new {new} }}",
         "{",
         *[f"    {read_statement(f, it)}" for it in f.lines],
         f"    Ok({f.type}C {{",
@@ -263,9 +268,9 @@ def answer_code(f: Format) -> list[str]:
 
 def parse_code(f: Format) -> list[str]:
     """Returns the function that parses bytes."""
-    b = f"bits {f.o} (take ({f.m}_bytes value) bytes.now)"
+    b, given_ = rests.whole_bits(f), rests.given(f)
     held = " ".join(f"(length {it}.old)" for it in items_names(f))
-    reads = f"({f.m}_decoder {f.o}).reads 0 (bits {f.o} bytes.now)"
+    reads = f"({rests.decoder(f, f.o, rests.bytes_given(f, 'length bytes.now'))}).reads 0 (bits {f.o} bytes.now)"
     stored = list[str]()
     for it in lists(f.description):
         stored += [
@@ -273,7 +278,7 @@ def parse_code(f: Format) -> list[str]:
             f"        → {it.name}_items.new ≡ stored {part_lists.items_of(f, it, 'value')} {it.name}_items.old }}",
         ]
     return [
-        "/// Parses the fields at the start of `bytes`, and the items of lists into storage of the caller.",
+        f"/// Parses {rests.which_bytes(f, '`bytes`')}, and the items of lists into storage of the caller.",
         "#[unsafe(no_mangle)]",
         f'pub extern "C" fn proved_{f.m}_parse(bytes: &[u8], {", ".join(items_parameters(f, "&mut "))}) -> {f.type}Parsed',
         f"    ensures answer {{ result ≡ {f.m}_answer {held} ({reads}) }}",
@@ -283,7 +288,8 @@ def parse_code(f: Format) -> list[str]:
         "{",
         f"    let mut reader = BitReader::<_, {f.order}>::over(bytes);",
         *[f"    let {it.name}_room = {it.name}_items.len();" for it in lists(f.description)],
-        f"    let answer = read(&mut reader, {', '.join(items_names(f))});",
+        *rests.begins(f),
+        f"    let answer = read(&mut reader, {', '.join([*items_names(f), *[given_] * bool(given_)])});",
         "    let taken = bytes.len().saturating_sub(reader.rest().len());",
         f"    parsed(answer, taken, {', '.join(f'{it.name}_room' for it in lists(f.description))})",
         "}",
@@ -302,6 +308,7 @@ def writing_code(f: Format) -> list[str]:
     ]
     return [
         *[line for it in lists(f.description) if needs_loop(it) for line in write_code(it)],
+        *[said for line in f.lines if m.is_capped(line.kind) for said in limit_code(line, line.kind)],
         *part_lists.writing_code(f),
         *fills.writing_code(f),
         f"impl {t}<'_> {{",
@@ -332,7 +339,7 @@ def writing_code(f: Format) -> list[str]:
 def pack_code(f: Format) -> list[str]:
     """Returns the function that packs the struct of C."""
     c = f"({f.m}_from_c value.now {' '.join(f'{it}.now' for it in items_names(f))})"
-    says = f"PacksInto (IsSomeAnd {c} Fits) {f.o} ({f.m}_room {c}) ({f.m}_held {c}) buffer.old result buffer.new"
+    says = f"PacksInto (IsSomeAnd {c} {varying.packable(f)}) {f.o} ({f.m}_room {c}) ({f.m}_held {c}) buffer.old result buffer.new"
     return [
         "/// Writes the fields to the first bytes of a buffer.",
         "#[unsafe(no_mangle)]",
@@ -372,6 +379,7 @@ def specs(f: Format) -> list[str]:
         "}",
         "",
         *varying.bytes_specs(f),
+        *varying.packable_specs(f),
         "-- the result of a parse that failed, with a number of items that there is no room for",
         f"abbrev pub {f.m}_short : ℤ → ℕ → {t}Parsed",
         f"{f.m}_short status items = record {{ status = status; taken = items; value = {f.m}_zero }}",
@@ -407,12 +415,13 @@ def read_specs(f: Format) -> list[str]:
     was, now = (
         " ".join(f"({it.name}_{when} : List {spec_item(it)})" for it in lists(f.description)) for when in ("was", "now")
     )
+    number = f"({rests.given(f)} : ℕ) " * bool(rests.given(f))
     out = [
         "-- A read whose lists are stored: `found` is what the decoder says, and the slices hold the items of its lists.",
-        f"pub record {f.type}Read {{R : Type 0}} (K : BitSource R) (old : R) {was}",
+        f"pub record {f.type}Read {{R : Type 0}} (K : BitSource R) {number}(old : R) {was}",
         f"    (result : Result {f.type}C {f.e}) (new : R) {now} : Type 0 where",
         f"  pub found : Result {f.type} {f.e}",
-        f"  pub reads : ReadsOwn K {f.becomes_name} ({f.m}_decoder K.order) old found new",
+        f"  pub reads : ReadsOwn K {f.becomes_name} ({rests.decoder(f, 'K.order', rests.given(f))}) old found new",
         f"  pub told : result ≡ result_map {f.m}_to_c found",
     ]
     for it in lists(f.description):
@@ -433,7 +442,8 @@ def lemmas(f: Format) -> str:
     )
     names = " ".join(f"{it.name}_room" for it in lists(f.description))
     result = f"Result {t} {f.e}"
-    reads = f"ReadsOwn K {f.becomes_name} ({mod}_decoder K.order) old"
+    number, reads = rests.given(f), f"ReadsOwn K {f.becomes_name} ({rests.decoder(f, 'K.order', rests.given(f))}) old"
+    given_, read = f"{{{number} : ℕ}} {given_}" if number else given_, f"{t}Read K {number}".strip()
     kept = "".join(
         f"\n    → {it.name}_now ≡ stored {part_lists.items_of(f, it, 'value')} {it.name}_was"
         for it in lists(f.description)
@@ -482,21 +492,27 @@ value_is is = cc
 -- a read whose error a `?` returned
 pub stopped : {{R : Type 0}} {{K : BitSource R}} {{old new : R}} {given_} {{P : {f.e} → Type 0}}
     (r : Result {t}C {f.e}) → IsErrAnd r P → ((s : {result}) → IsErrAnd s P → {reads} s new)
-    → {t}Read K old {was} r new {now}
+    → {read} old {was} r new {now}
 stopped (Ok c) bad reads = absurd bad
 stopped (Err e) is reads = record {{ found = Err e; reads = reads (Err e) is; told = refl;{none} }}
 
 {refused_lemma(f, reads, given_, was, now, none)}-- a read of all fields
 pub read_done : {{R : Type 0}} {{K : BitSource R}} {{old new : R}} {given_} {{value : {t}}}
     {{r : Result {t}C {f.e}}} → {reads} (Ok value) new → r ≡ Ok ({mod}_to_c value){kept}
-    → {t}Read K old {was} r new {now}
+    → {read} old {was} r new {now}
 read_done {{{implicits}}} {{value = value}} reads says {facts} = record {{
   found = Ok value;
   reads = reads;
   told = says;{some}
 }}
 
--- packed bytes are parsed again
+{rests.packed_lemma(f, names) if number else packed_lemma(f, names)}{varying.most_lemma(f)}"""
+
+
+def packed_lemma(f: Format, names: str) -> str:
+    """Returns the lemma that packed bytes are parsed again."""
+    mod, t = f.m, f.type
+    return f"""-- packed bytes are parsed again
 pub packed : (value : {t}) (bytes : List ℕ) ({names} : ℕ) → Fits value
     → bits {f.o} (take ({mod}_bytes value) bytes) ≡ {mod}_bits value
     → {mod}_answer {names} (({mod}_decoder {f.o}).reads 0 (bits {f.o} bytes))
@@ -507,17 +523,17 @@ packed value bytes {names} fits is =
     ap (λ b. {mod}_answer {names} (({mod}_decoder {f.o}).reads 0 b)) parts
     ∙ ap ({mod}_answer {names}) (({mod}_goes {f.o} value fits).back 0 0 _)
     ∙ ap (λ k. {mod}_answer {names} (Done k (Ok (Ok value)))) (all.size 0)
-{varying.most_lemma(f)}"""
+"""
 
 
 def refused_lemma(f: Format, reads: str, given_: str, was: str, now: str, none: str) -> str:
     """Returns the lemma about a read that a test ended, for a format with greatest values."""
     if not any(map(m.is_limited, f.description.kinds)):
         return ""
-    t = f.type
+    t, read = f.type, f"{f.type}Read K {rests.given(f)}".strip()
     return f"""-- a read that a test ended
 pub refused_by : {{R : Type 0}} {{K : BitSource R}} {{old new : R}} {given_} {{e : {f.e}}} {{r : Result {t}C {f.e}}}
-    → {reads} (Err e) new → r ≡ Err e → {t}Read K old {was} r new {now}
+    → {reads} (Err e) new → r ≡ Err e → {read} old {was} r new {now}
 refused_by {{e = e}} reads is = record {{ found = Err e; reads = reads; told = is;{none} }}
 
 """
@@ -534,13 +550,18 @@ def parse_answers(f: Format) -> str:
         f"    ∙ decided _ {plain} _ _ {blanks} {is_decided}\n"
         "    c.read-answer.ensures.reads.answer"
     )
+    if rests.given(f):
+        read = f"(rw c.rest_of-{rests.given(f)}.ensures at c.read-answer.ensures)"
+        found, plain, is_decided = (it.replace("c.read-answer.ensures", read) for it in (found, plain, is_decided))
+    else:
+        read = "c.read-answer.ensures"
     out = f"pub returns-clause-answer : goal.returns-clause-answer\nreturns-clause-answer c =\n{varying.COUNT}    {found}\n"
     for it in lists(f.description):
         out += f"""
 pub returns-clause-{it.name}_items : goal.returns-clause-{it.name}_items
 returns-clause-{it.name}_items c = λ n value is.
-{varying.COUNT}    c.read-answer.ensures.{it.name}_items value
-    (found_is _ {plain} _ _ n value {is_decided} c.read-answer.ensures.reads.answer is)
+{varying.COUNT}    {read}.{it.name}_items value
+    (found_is _ {plain} _ _ n value {is_decided} {read}.reads.answer is)
 """
     return f"""{out}
 pub returns-clause-round_trip : goal.returns-clause-round_trip

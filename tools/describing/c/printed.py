@@ -6,7 +6,7 @@ import os
 import re
 import tempfile
 
-from describing.c import fills, header, list_shared, python, rust, shared, varied
+from describing.c import fills, header, list_shared, python, rests, rust, shared, varied
 from describing.c.code import code
 from describing.c.cross import check, is_mapped, lists, parts, stated
 from describing.c.proofs import answer_files
@@ -37,6 +37,8 @@ def files_of(t: Target, plain: Target) -> dict[str, str]:
         found |= list_shared.files(t.crate, bool(stated(f.description)), any(map(is_mapped, f.description.kinds)))
     if fills.fills(f):
         found |= fills.files(t.crate)
+    if rests.given(f):
+        found |= rests.files()
     shown = {shown_for_c(place, ".rt"): shown_for_c(text, place) for place, text in found.items()}
     return shown | binding_files(plain)
 
@@ -112,6 +114,7 @@ def listed(t: Target) -> dict[str, list[str]]:
             *["pub mod ListLemmas"] * some,
             *["pub mod PartLemmas"] * any(map(is_mapped, t.f.description.kinds)),
             *["pub mod FillLemmas"] * bool(fills.fills(t.f)),
+            *["pub mod RestLemmas"] * bool(rests.given(t.f)),
             *["pub mod StatedLemmas"] * bool(stated(t.f.description)),
         ],
     }

@@ -20,8 +20,10 @@ from describing.c.cross import (
     lists,
     members,
     parts,
+    rest,
     said_of_enum,
 )
+from describing.c.rests import which_bytes
 from describing.c.status import NO_ROOM, Status, numbers, own, refused, rooms, unless_refused
 from describing.c.target import Target
 from describing.c.words import drawn, in_docstring, paragraph, python_name, quoted
@@ -235,7 +237,7 @@ def hint(kind: Crossed) -> str:
             return f"list[_{use.module}.{use.name}]"
         case m.List(item=m.EnumType() as enum):
             return f"list[{enum.name}{' | int' if enum.other else ''}]"
-        case m.List() | m.Sized():
+        case m.List() | m.Sized() | m.Rest():
             return "bytes" if isinstance(kind.item, m.Octet) else "list[int]"
     assert_never(kind)
 
@@ -338,7 +340,7 @@ def from_c(kind: Crossed) -> str:
             return f"[_{use.module}.{use.name}._from_c(it) for it in {v}.items[: {v}.length]]"
         case m.List(item=m.EnumType() as enum):
             return f"[{f'_{m.snake(enum.name)}' if enum.other else enum.name}(it) for it in {v}.items[: {v}.length]]"
-        case m.List() | m.Sized():
+        case m.List() | m.Sized() | m.Rest():
             return f"{'bytes' if isinstance(kind.item, m.Octet) else 'list'}({v}.items[: {v}.length])"
     assert_never(kind)
 
@@ -518,7 +520,7 @@ def parse_lists_code(t: Target) -> list[str]:
         "    @classmethod",
         f"    def parse(cls, data: bytes | bytearray | memoryview) -> tuple[{f.type}, int]:",
         *paragraph(
-            '"""Parses the fields at the start of `data`, and returns them with the number of bytes that they take.',
+            f'"""Parses {which_bytes(f, "`data`")}, and returns them with the number of bytes that they take.',
             " " * 8,
             " " * 8,
         ),
@@ -526,6 +528,7 @@ def parse_lists_code(t: Target) -> list[str]:
         *paragraph(f"Raises {refusals(t)}.", " " * 8, " " * 8),
         '        """',
         "        first, out, taken = bytes(data), _C(), ctypes.c_size_t()",
+        *rest_room(t),
         f"        status = library.{f.m}_parse(first, len(first), ctypes.byref(out), ctypes.byref(taken))",
         "        while status:",
     ]
@@ -546,6 +549,15 @@ def parse_lists_code(t: Target) -> list[str]:
         "        return cls._from_c(out), taken.value",
         "",
     ]
+
+
+def rest_room(t: Target) -> list[str]:
+    """Returns the statement that makes room for the bytes up to the end, which are no more than all bytes."""
+    kind = rest(t.f.description)
+    if not kind:
+        return []
+    items = f"_{kind.name.capitalize()}Items((ctypes.c_uint8 * len(first))(), len(first), 0)"
+    return [f"        out.{python_name(kind.name)} = {items}"]
 
 
 def pack_code(t: Target) -> list[str]:

@@ -22,8 +22,10 @@ from describing.c.cross import (
     lists,
     members,
     parts,
+    rest,
     said_of_enum,
 )
+from describing.c.rests import which_bytes
 from describing.c.status import DOES_NOT_FIT, Status, numbers, own, refused, rooms, unless_refused
 from describing.c.target import Target
 from describing.c.words import doc, drawn, quoted
@@ -247,7 +249,7 @@ def from_c(kind: Crossed) -> str:
             return f"{kind.name}_items.iter().map({use.name}C::fields).collect::<Option<Vec<_>>>()?"
         case m.List(item=m.EnumType() as enum):
             return f"{kind.name}_items.iter().map(|it| {enum.name}::of(*it)).collect::<Option<Vec<_>>>()?"
-        case m.List() | m.Sized():
+        case m.List() | m.Sized() | m.Rest():
             return f"{kind.name}_items"
         case m.Choose():
             return choice_from_c(kind)
@@ -392,7 +394,7 @@ def parse_lists_code(t: Target) -> list[str]:
     given = "".join(f", {it.name}_items.as_mut_ptr(), {it.name}_items.len()" for it in kinds)
     out = [
         *doc(
-            "Parses the fields at the start of `bytes`, and returns them with the number of bytes that they take.",
+            f"Parses {which_bytes(f, '`bytes`')}, and returns them with the number of bytes that they take.",
             "    ",
         ),
         "    ///",
@@ -400,7 +402,10 @@ def parse_lists_code(t: Target) -> list[str]:
         "    ///",
         *doc(f"{refusals(t)}.", "    "),
         f"    pub fn parse(bytes: &[u8]) -> Result<({f.type}, usize), {e}> {{",
-        *[f"        let mut {it.name}_items = Vec::new();" for it in kinds],
+        *[
+            f"        let mut {it.name}_items = {'vec![0; bytes.len()]' if it is rest(f.description) else 'Vec::new()'};"
+            for it in kinds
+        ],
         "        loop {",
         "            // SAFETY: the pointers and the lengths are those of slices, of which the later ones are borrowed mutably.",
         f"            let parsed = unsafe {{ proved_{f.m}_parse(bytes.as_ptr(), bytes.len(){given}) }};",

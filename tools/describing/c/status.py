@@ -58,7 +58,7 @@ def numbers(f: Format) -> list[Status]:
 
 def rooms(f: Format) -> list[Status]:
     """Returns the statuses of lists without room for their items."""
-    names = [it.name for it in f.description.fields if isinstance(it, m.List | m.Sized | m.Fill)]
+    names = [it.name for it in f.description.fields if isinstance(it, m.List | m.Sized | m.Fill | m.Rest)]
     last = len(FIRST) + len(numbers(f))
     return [
         Status(last + k, f"NO_ROOM_{it.upper()}", f"The storage has no room for the items of `{it}`.")

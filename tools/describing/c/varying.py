@@ -3,7 +3,7 @@ from __future__ import annotations
 
 from describing import model as m
 from describing.c.choices import most_lemma as choice_lemma
-from describing.c.cross import choices, lists, most, most_of
+from describing.c.cross import choices, lists, most, most_of, open_lists, open_most
 from describing.c.status import DOES_NOT_FIT, END_OF_INPUT, NO_ROOM, has_numbers, held, own
 from describing.layout import Format, Line
 
@@ -122,7 +122,7 @@ def size_code(f: Format) -> list[str]:
     return [
         "/// Returns the number of bits of fields that fit.",
         f"fn size(fields: &{given(f)}) -> u64",
-        f"    requires {{ Fits {value} }}",
+        f"    requires {{ {packable(f)} {value} }}",
         f"    ensures {{ result ≡ {f.m}_size {f.o} {value} }}",
         "{",
         f"    let mut counter = {counter(f)}::new();",
@@ -135,19 +135,50 @@ def size_code(f: Format) -> list[str]:
     ]
 
 
+def few_code(name: str, most_: int) -> list[str]:
+    """Returns the test that a list without a greatest length has no more bytes than are packed."""
+    return [f"    if fields.{name}.len() > {most_} {{", f"        return refused({DOES_NOT_FIT});", "    }"]
+
+
+def packable(f: Format) -> str:
+    """Returns what holds of the fields that a pack takes: they fit, and lists without a greatest length are not too long."""
+    return f"{f.m}_packable" if open_lists(f.description) else "Fits"
+
+
+def packable_specs(f: Format) -> list[str]:
+    """Returns the definition of the fields that a pack takes."""
+    few = " × ".join(f"(length value.{it.name} ≤ {most_})" for it, most_ in open_lists(f.description))
+    if not few:
+        return []
+    return [
+        "-- fields that a pack takes: they fit, and lists without a greatest length of their own are not longer",
+        f"abbrev pub {packable(f)} : {f.type} → Type 0",
+        f"{packable(f)} value = Fits value × {few}",
+        "",
+    ]
+
+
+def few_terms(f: Format, all_: str) -> list[str]:
+    """Returns the facts about the lengths of these lists, of the fact that a pack takes the fields."""
+    count = len(open_lists(f.description))
+    places = [".1" * k + ".0" for k in range(1, count)] + [".1" * count]
+    return [f"{all_}{it}" for it in places] if count else []
+
+
 def put_code(f: Format) -> list[str]:
     """Returns the function that packs fields."""
-    value, room = value_of(f, "fields.now"), -(-most(f.description) // 8)
+    value, room = value_of(f, "fields.now"), -(-open_most(f.description) // 8)
     size, held_ = f"({f.m}_bytes {value})", f"({f.m}_bits {value})"
     call = f"pack_into::<{f.order}, {given(f)}>(fields, &mut whole)"
     return [
         "/// Writes the fields to the first bytes of a buffer.",
         f"fn put(fields: &{given(f)}, buffer: &mut [u8]) -> Packed",
-        f"    ensures {{ PacksInto (Fits {value}) {f.o} {size} {held_} buffer.old result buffer.new }}",
+        f"    ensures {{ PacksInto ({packable(f)} {value}) {f.o} {size} {held_} buffer.old result buffer.new }}",
         "{",
         "    if !is_fit(fields) {",
         f"        return refused({DOES_NOT_FIT});",
         "    }",
+        *[line for it, most_ in open_lists(f.description) for line in few_code(it.name, most_)],
         "    let written = size(fields).div_ceil(8);",
         "    if written > buffer.len() as u64 {",
         f"        return refused({NO_ROOM});",
@@ -310,15 +341,15 @@ returns-clause-round_trip c = λ value fits is.
 def size_answers(f: Format) -> str:
     """Returns the proof of the function that counts the bits of fields."""
     name, o, value = f.m, f.o, value_of(f, "c.args.fields.now")
-    writes = f"({name}_writes {o} {value})"
+    writes, fits = f"({name}_writes {o} {value})", f"c.requires{'.0' * bool(open_lists(f.description))}"
     return f"""pub returns : goal.returns
 returns c =
-    let all = {name}_packs {o} {value} c.requires in
+    let all = {name}_packs {o} {value} {fits} in
     c.into_written.ensures ∙ counted _ {writes} _ _ refl c.new-counter.ensures c.in-Ok.ensures ∙ all.size 0
 
 pub unreachable-requires : goal.unreachable-requires
 unreachable-requires c =
-    let all = {name}_packs {o} {value} c.requires in
+    let all = {name}_packs {o} {value} {fits} in
     let size = all.size 0 in
     let most = {name}_most {value} c.requires in
     let more = counted_past _ {2**64 - 1} refl (λ x may. may) {writes} _ _ _ c.new-counter.ensures
@@ -339,11 +370,19 @@ def answers(f: Format) -> dict[str, str]:
 def put_answers(f: Format) -> str:
     """Returns the proof of the function that packs fields."""
     name, o, value = f.m, f.o, value_of(f, "c.args.fields.now")
-    packs, kinds = f"({name}_packs {o} {value} fits)", lists(f.description)
+    opens = open_lists(f.description)
+    packs, kinds = f"({name}_packs {o} {value} fits{'.0' * bool(opens)})", lists(f.description)
     enough = f"packed-room c.in-Err.ensures {packs}" if kinds else "c.in-Err.ensures.room fits"
     packed = f"packed-bits c.in-Ok.ensures (told {value})" if kinds else "c.in-Ok.ensures.packed"
     fits = f"""    let fits : Fits {value} = search rules in
 """
+    if opens:
+        few = [f"length {value}.{it.name} ≤ {most_}" for it, most_ in opens]
+        fits = "".join(
+            f"    let {name_} : {says} = search rules in\n"
+            for name_, says in [("fit", f"Fits {value}"), *[(f"few_{k}", says) for k, says in enumerate(few)]]
+        )
+        fits += f"    let fits : {packable(f)} {value} = (fit, {', '.join(f'few_{k}' for k in range(len(few)))}) in\n"
     counts = f"""{fits}    let size = c.size.ensures in
     let whole = c.div_ceil-written.ensures in
     let packed = ap (bits {o}) c.as_slice.ensures ∙ {packed} in
@@ -413,9 +452,11 @@ def most_lemma(f: Format) -> str:
     )
     if any(isinstance(it.kind, m.Varint) for it in f.lines):
         widths += "\nwidth_most : (k : ℕ) → varint_width k ≤ 62\nwidth_most k = grind (arith, nat_tests)\n"
+    few = "".join(f", {it}" for it in few_terms(f, "all"))
+    lets = f"\n    let fits = all.0 in{lets}" if few else lets
     return f"""{widths}
 -- the fields have no more bits
-pub {f.m}_most : (value : {f.type}) → Fits value → {f.m}_size {f.o} value ≤ {most(f.description)}
-{f.m}_most value fits ={lets}
-    omega (arith, fits{facts})
+pub {f.m}_most : (value : {f.type}) → {packable(f)} value → {f.m}_size {f.o} value ≤ {open_most(f.description)}
+{f.m}_most value {'all' if few else 'fits'} ={lets}
+    omega (arith, fits{facts}{few})
 """
