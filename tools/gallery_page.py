@@ -42,10 +42,10 @@ FIELDS = {
     16086, "eapol_packet": 5504, "ethernet_header": 4316, "gif_file": 30164, "gre_packet": 6983, "h264_high_pps": 16000, "h264_sps":
     41659, "icmp_datagram": 3971, "icmp_message": 6000, "igmp_message": 4000, "igmp_query": 9010, "igmp_report":
     13840, "ipv4_packet": 8000, "ipv6_header": 8000, "ipv6_headers": 11705, "j1939_frame": 6000, "lldp_unit": 12490,
-    "mac_header": 10751, "modbus_exception": 4000, "modbus_request": 6617, "modbus_response": 7247, "mp3_header":
+    "mac_frame": 12011, "mac_header": 10751, "macsec_frame": 9948, "modbus_exception": 4000, "modbus_request": 6617, "modbus_response": 7247, "mp3_header":
     12000, "mpls_stack": 11872, "mqtt_header": 2234, "mqtt_packet": 4605, "netflow_export": 288288, "ntp_message":
     6000, "ntp_packet": 13000, "pcap_file": 9748, "png_file": 12608, "quic_long_header": 4627, "quic_packet": 4432,
-    "radius_packet": 9936, "rip_message": 28742, "rtcp_compound": 38161, "rtp_datagram": 18723, "rtp_packet": 17152,
+    "quic_retry": 4910, "radius_packet": 9936, "rip_message": 28742, "rtcp_compound": 38161, "rtp_datagram": 18723, "rtp_packet": 17152,
     "tcp_header": 16000, "tcp_segment": 6255, "tftp_data": 3000, "tftp_request": 3000, "tls_record": 3509,
     "ts_header": 7000, "ts_pat": 47458, "udp_datagram": 5000, "vrrp_advertisement": 8517, "vxlan_packet": 5000,
 }  # fmt: skip
@@ -85,9 +85,8 @@ WANTED = (
     Protocol("TLS records and ClientHello", "tls_record hello tls/client_hello", True),
     Protocol(
         "QUIC long headers",
-        "quic_long_header quic_stream messages/quic_packet",
+        "quic_long_header quic_stream messages/quic_packet messages/quic_retry",
         True,
-        "a Retry: a last field of 16 bytes after bytes without a size",
     ),
     Protocol("MQTT", "mqtt_header mqtt_packet", True),
     Protocol(
@@ -104,7 +103,9 @@ WANTED = (
         "the bits on the wire: CRC-15 over bits that are no whole bytes",
     ),
     Protocol("J1939", "j1939_frame", True),
-    Protocol("802.15.4", "mac_header", False, "the payload: bytes up to a checksum at the end; frames of version 2"),
+    Protocol(
+        "802.15.4, versions 0 and 1", "mac_header messages/mac_frame", True, "security headers and commands by type"
+    ),
     Protocol(
         "CCSDS with secondary header",
         "messages/ccsds_packet messages/ccsds_time",
@@ -152,6 +153,7 @@ OTHERS = (
     Protocol("RIP, version 2", "messages/rip_message", True),
     Protocol("pcap files", "messages/pcap_file", True),
     Protocol("VXLAN", "messages/vxlan_packet", True),
+    Protocol("MACsec", "messages/macsec_frame", True),
     Protocol("GRE", "messages/gre_packet", True, "that the checksum is right: it is in an optional part"),
 )
 
