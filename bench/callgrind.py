@@ -15,6 +15,8 @@ FAILED = str(2**64 - 1)
 # How the function of a workload is named on each side.
 SYMBOLS = {"orig": "orig_{}", "port": "bench_{}", "slice": "bench_{}_slice", "over": "bench_{}_over"}
 PORTS = ("port", "slice", "over")
+# Functions that make a tree, and its table or its code words, before the first item.
+MAKING = ("read_code", "write_code")
 
 
 @dataclass(frozen=True)
@@ -31,12 +33,25 @@ class Workload:
 
 
 @dataclass(frozen=True)
+class Run:
+    """A run of one side: callgrind's events, the number of items, and the result, which includes the written bytes."""
+
+    events: tuple[int, ...]
+    items: int
+    result: str
+
+
+@dataclass(frozen=True)
 class Count:
-    """What an item takes on one side: instructions and mispredicted branches. The result includes the written bytes."""
+    """What an item takes on one side: instructions and mispredicted branches.
+
+    `making` has the instructions before the first item, which are not in `instructions`, if they are counted.
+    """
 
     instructions: float
     mispredicted: float
     result: str
+    making: int = 0
 
 
 Counts = Mapping[str, Count | None]
@@ -50,20 +65,26 @@ def listed(text: str) -> list[Workload]:
     return [Workload(name, function, int(items), tuple(sides.split())) for name, function, items, sides in lines]
 
 
-def count_of(log: str, output: str) -> Count | None:
-    """Reads a count from callgrind's log and the program's output; none if the function is missing."""
+def run_of(log: str, output: str) -> Run:
+    """Reads a run from callgrind's log and the program's output."""
     collected = re.search(r"Collected : ([\d ]+)", log)
     printed = re.search(r"items (\d+) answer (\d+)", output)
     if not collected or not printed:
         raise ValueError("callgrind counted nothing")
-    if printed[2] == FAILED:
+    return Run(tuple(int(event) for event in collected[1].split()), int(printed[1]), printed[2])
+
+
+def count_of(all_items: Run, no_items: Run | None = None) -> Count | None:
+    """Returns what an item takes, without what a run of no items takes; none if the function is missing."""
+    if all_items.result == FAILED:
         return None
+    making = no_items.events if no_items else (0,) * len(all_items.events)
     # Instructions; with --branch-sim conditional branches and their mispredictions, then the same of indirect branches.
-    events = [int(event) / int(printed[1]) for event in collected[1].split()]
-    return Count(events[0], sum(events[2::2]), printed[2])
+    events = [(event - made) / all_items.items for event, made in zip(all_items.events, making)]
+    return Count(events[0], sum(events[2::2]), all_items.result, making[0])
 
 
-def count(program: Path, workload: Workload, side: str, items: int, branches: bool) -> Count | None:
+def run(program: Path, workload: Workload, side: str, items: int, branches: bool) -> Run:
     """Runs one side of a workload in a process of its own, and counts only its function."""
     command = ["valgrind", "--tool=callgrind", "--callgrind-out-file=/dev/null"]
     command += ["--branch-sim=yes"] if branches else []
@@ -71,9 +92,15 @@ def count(program: Path, workload: Workload, side: str, items: int, branches: bo
     command += ["--single", side, workload.name, "--items", str(min(items, workload.items))]
     done = subprocess.run(command, capture_output=True, text=True, check=False)
     try:
-        return count_of(done.stderr, done.stdout)
+        return run_of(done.stderr, done.stdout)
     except ValueError:
         sys.exit(f"callgrind failed on {side} {workload.name}:\n{done.stderr[-600:]}")
+
+
+def count(program: Path, workload: Workload, side: str, items: int, branches: bool) -> Count | None:
+    """Counts what an item of one side of a workload takes."""
+    no_items = run(program, workload, side, 0, branches) if workload.function in MAKING else None
+    return count_of(run(program, workload, side, items, branches), no_items)
 
 
 def differing(counts: Counts) -> list[str]:
@@ -108,8 +135,10 @@ def row(workload: Workload, counts: Counts, branches: bool) -> str:
     if branches:
         guesses = [f"{it.mispredicted:.2f}" if (it := counts.get(side)) else "" for side in ("orig", *PORTS)]
         line += f" {guesses[0]:>20}" + "".join(f" {it:>7}" for it in guesses[1:])
+    port = counts.get("port")
+    line = line.rstrip() + (f"  before the first item: {port.making}" if port and port.making else "")
     wrong = differing(counts)
-    return line.rstrip() + (f"  THE RESULTS OR BYTES DIFFER ({', '.join(wrong)})" if wrong else "")
+    return line + (f"  THE RESULTS OR BYTES DIFFER ({', '.join(wrong)})" if wrong else "")
 
 
 def means(workloads: list[Workload], found: Ratios) -> list[str]:

@@ -59,6 +59,7 @@ sides! {
     write_flac_header "orig_write_flac_header" "bench_write_flac_header" (count: u64, seed: u64, out: *mut u8, out_len: usize);
     read_prefix "orig_read_prefix" "bench_read_prefix" (order: u32, data: *const u8, len: usize, count: u64);
     read_code "orig_read_code" "bench_read_code" (order: u32, code: u32, data: *const u8, len: usize, count: u64);
+    write_code "orig_write_code" "bench_write_code" (order: u32, code: u32, data: *const u8, len: usize, count: u64, out: *mut u8, out_len: usize);
     write_prefix "orig_write_prefix" "bench_write_prefix" (order: u32, count: u64, seed: u64, out: *mut u8, out_len: usize);
     read_fields "orig_read_fields" "bench_read_fields" (order: u32, data: *const u8, len: usize, count: u64);
     read_array "orig_read_array" "bench_read_array" (order: u32, data: *const u8, len: usize, count: u64);
@@ -139,6 +140,16 @@ mod slice {
         ) -> u64;
         #[link_name = "bench_write_flac_header_slice"]
         pub safe fn write_flac_header(count: u64, seed: u64, out: *mut u8, out_len: usize) -> u64;
+        #[link_name = "bench_write_code_slice"]
+        pub safe fn write_code(
+            order: u32,
+            code: u32,
+            data: *const u8,
+            len: usize,
+            count: u64,
+            out: *mut u8,
+            out_len: usize,
+        ) -> u64;
         #[link_name = "bench_write_prefix_slice"]
         pub safe fn write_prefix(order: u32, count: u64, seed: u64, out: *mut u8, out_len: usize) -> u64;
         #[link_name = "bench_read_fields_slice"]
@@ -177,6 +188,7 @@ const SLICE: Side = Side {
     write_unary: slice::write_unary,
     write_vbr: slice::write_vbr,
     write_flac_header: slice::write_flac_header,
+    write_code: slice::write_code,
     write_prefix: slice::write_prefix,
     read_fields: slice::read_fields,
     read_array: slice::read_array,
@@ -203,6 +215,8 @@ struct Work {
 
 const SIZE: usize = 1 << 18;
 const MOST: u64 = 200_000;
+/// The number of symbols of a code to write: they fill a fifth of the output at most.
+const SYMBOLS: usize = 40_000;
 const SEED: u64 = 20_260_101;
 const REFUSED: u64 = u64::MAX;
 
@@ -234,6 +248,12 @@ fn made(write: impl Fn(&mut [u8]) -> u64 + 'static) -> Data {
         out.truncate(n as usize);
         out
     })
+}
+
+/// Returns symbols of a code, a byte each: a code word of n bits is as frequent as n bits in random ones.
+fn symbols(code: u32) -> Data {
+    let symbol = move |bits: &[u8]| (ORIG.read_code)(0, code, bits.as_ptr(), bits.len(), 1) as u8;
+    Box::new(move || random_bytes(4 * SYMBOLS).chunks(4).map(symbol).collect())
 }
 
 /// A workload that reads `data`.
@@ -354,6 +374,18 @@ fn codes(order: u32, o: &str) -> Vec<Work> {
         list.push(read(format!("read-table-{name}-{o}"), "read_code", random(), capacity(17), move |s, d, n| {
             (s.read_code)(order, code, d.as_ptr(), d.len(), n)
         }));
+    }
+    for (code, name) in (0u32..).zip(&codes[..4]) {
+        list.push(Work {
+            name: format!("write-words-{name}-{o}"),
+            function: "write_code",
+            data: symbols(code),
+            out_len: SIZE,
+            items: SYMBOLS as u64,
+            run: Box::new(move |s, d, b, n| {
+                (s.write_code)(order, code, d.as_ptr(), d.len(), n, b.as_mut_ptr(), b.len())
+            }),
+        });
     }
     list
 }

@@ -60,8 +60,16 @@ CALLS = (
     Row("unary numbers below 6, read and written", r"read-unary\d-6", r"write-unary\d-6"),
     Row("unary numbers below 60, read and written", r"read-unary\d-60", r"write-unary\d-60"),
     Row("symbols of a prefix code, read and written", "read-prefix", "write-prefix"),
-    Row("symbols of flat codes, by tables, read", "read-table-flat-.*"),
-    Row("symbols of skewed codes, by tables, read", "read-table-skewed-.*"),
+    Row(
+        "symbols of flat codes, read by tables, and written by code words",
+        "read-table-flat-.*",
+        "write-words-flat-.*",
+    ),
+    Row(
+        "symbols of skewed codes, read by tables, and written by code words",
+        "read-table-skewed-.*",
+        "write-words-skewed-.*",
+    ),
     Row("counting", "", "count"),
     Row("recording numbers of 13 bits, and playing them", "", "record-13"),
 )

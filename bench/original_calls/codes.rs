@@ -1,9 +1,22 @@
-//! Six prefix codes of 8, 24 and 288 symbols, which the macro of the Rust crate compiles: first the flat code, then
-//! the code of symbols that are as frequent as 1, 1/4, 1/9 and so on.
-use bitstream_io::compile_read_tree_nodes;
-use bitstream_io::huffman::FromBits;
+//! Six prefix codes of 8, 24 and 288 symbols, which the macros of the Rust crate compile: first the flat code, then
+//! the code of symbols that are as frequent as 1, 1/4, 1/9 and so on. Codes of 8 and 24 symbols are also written.
+use bitstream_io::huffman::{FromBits, ToBits};
+use bitstream_io::{compile_read_tree_nodes, compile_write_tree_nodes};
 
 macro_rules! code {
+    (written $name:ident $tree:tt) => {
+        code!($name $tree);
+        impl ToBits for $name {
+            type Symbol = u16;
+            fn to_bits<F, E>(value: u16, mut write: F) -> Result<(), E>
+            where
+                F: FnMut(bool) -> Result<(), E>,
+            {
+                compile_write_tree_nodes!(value ; write ; $tree ; );
+                Ok(())
+            }
+        }
+    };
     ($name:ident $tree:tt) => {
         pub(crate) struct $name;
         impl FromBits for $name {
@@ -18,12 +31,39 @@ macro_rules! code {
     };
 }
 
-code!(Flat8 [[[0, 1], [2, 3]], [[4, 5], [6, 7]]]);
-code!(Skewed8 [0, [1, [2, [[3, 4], [5, [6, 7]]]]]]);
-code!(Flat24 [[[[0, 1], [2, 3]], [[4, 5], [6, 7]]], [[[[8, 9], [10, 11]], [[12, 13], [14, 15]]], [[[16, 17], [18,
+/// Does what the macro of the Rust crate for writing does, without the branches that are never taken: with them the
+/// deepest of these trees takes more than 12 GB to compile.
+macro_rules! words {
+    ($name:ident $($symbol:literal: $($bit:literal)+;)+) => {
+        impl ToBits for $name {
+            type Symbol = u16;
+            fn to_bits<F, E>(value: u16, mut write: F) -> Result<(), E>
+            where
+                F: FnMut(bool) -> Result<(), E>,
+            {
+                $(if value == $symbol {
+                    $(write($bit == 1)?;)+
+                    return Ok(());
+                })+
+                Ok(())
+            }
+        }
+    };
+}
+
+code!(written Flat8 [[[0, 1], [2, 3]], [[4, 5], [6, 7]]]);
+code!(written Skewed8 [0, [1, [2, [[3, 4], [5, [6, 7]]]]]]);
+code!(written Flat24 [[[[0, 1], [2, 3]], [[4, 5], [6, 7]]], [[[[8, 9], [10, 11]], [[12, 13], [14, 15]]], [[[16, 17], [18,
     19]], [[20, 21], [22, 23]]]]]);
 code!(Skewed24 [0, [1, [[2, 3], [[4, [5, 6]], [[[7, 8], [9, 10]], [[[11, 12], [13, 14]], [[[15, 16], [17, 18]], [[19,
     20], [21, [22, 23]]]]]]]]]]);
+words!(Skewed24
+    0: 0; 1: 1 0; 2: 1 1 0 0; 3: 1 1 0 1; 4: 1 1 1 0 0; 5: 1 1 1 0 1 0; 6: 1 1 1 0 1 1; 7: 1 1 1 1 0 0 0;
+    8: 1 1 1 1 0 0 1; 9: 1 1 1 1 0 1 0; 10: 1 1 1 1 0 1 1; 11: 1 1 1 1 1 0 0 0; 12: 1 1 1 1 1 0 0 1;
+    13: 1 1 1 1 1 0 1 0; 14: 1 1 1 1 1 0 1 1; 15: 1 1 1 1 1 1 0 0 0; 16: 1 1 1 1 1 1 0 0 1; 17: 1 1 1 1 1 1 0 1 0;
+    18: 1 1 1 1 1 1 0 1 1; 19: 1 1 1 1 1 1 1 0 0; 20: 1 1 1 1 1 1 1 0 1; 21: 1 1 1 1 1 1 1 1 0;
+    22: 1 1 1 1 1 1 1 1 1 0; 23: 1 1 1 1 1 1 1 1 1 1;
+);
 code!(Flat288 [[[[[[[0, 1], [2, 3]], [[4, 5], [6, 7]]], [[[8, 9], [10, 11]], [[12, 13], [14, 15]]]], [[[[16, 17], [18,
     19]], [[20, 21], [22, 23]]], [[[[24, 25], [26, 27]], [[28, 29], [30, 31]]], [[[32, 33], [34, 35]], [[36, 37], [38,
     39]]]]]], [[[[[[40, 41], [42, 43]], [[44, 45], [46, 47]]], [[[48, 49], [50, 51]], [[52, 53], [54, 55]]]], [[[[56,

@@ -1,6 +1,6 @@
 //! The benchmark's functions of single calls over the Rust crate; README.md lists them.
 //! With the feature `twin` they have the names of the port's functions.
-use bitstream_io::huffman::FromBits;
+use bitstream_io::huffman::{FromBits, ToBits};
 use bitstream_io::{
     BE, BitRead, BitReader, BitRecorder, BitWrite, BitWriter, BitsWritten, ByteRead, ByteReader, ByteWrite, ByteWriter,
     Endianness, LE, define_huffman_tree,
@@ -122,6 +122,10 @@ exports! {
     "orig_read_code" "bench_read_code"
     fn read_code(order: u32, code: u32, data: *const u8, len: usize, count: u64) {
         in_order!(order, E => code_in::<E>(code, slice(data, len), count))
+    }
+    "orig_write_code" "bench_write_code"
+    fn write_code(order: u32, code: u32, data: *const u8, len: usize, count: u64, out: *mut u8, out_len: usize) {
+        in_order!(order, E => code_out::<E>(code, &slice(data, len)[..count as usize], slice_mut(out, out_len)))
     }
     "orig_write_prefix" "bench_write_prefix"
     fn write_prefix(order: u32, count: u64, seed: u64, out: *mut u8, out_len: usize) {
@@ -471,6 +475,24 @@ fn code_in<E: Endianness>(code: u32, data: &[u8], count: u64) -> io::Result<u64>
         3 => symbols_in::<codes::Skewed24, E>(data, count),
         4 => symbols_in::<codes::Flat288, E>(data, count),
         _ => symbols_in::<codes::Skewed288, E>(data, count),
+    }
+}
+
+fn symbols_out<C: ToBits<Symbol = u16>, E: Endianness>(symbols: &[u8], out: &mut [u8]) -> io::Result<u64> {
+    let out_len = out.len();
+    let mut w = BitWriter::<_, E>::new(out);
+    for symbol in symbols {
+        w.write_huffman::<C>(u16::from(*symbol))?;
+    }
+    written(w, out_len)
+}
+
+fn code_out<E: Endianness>(code: u32, symbols: &[u8], out: &mut [u8]) -> io::Result<u64> {
+    match code {
+        0 => symbols_out::<codes::Flat8, E>(symbols, out),
+        1 => symbols_out::<codes::Skewed8, E>(symbols, out),
+        2 => symbols_out::<codes::Flat24, E>(symbols, out),
+        _ => symbols_out::<codes::Skewed24, E>(symbols, out),
     }
 }
 

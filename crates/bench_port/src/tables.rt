@@ -78,7 +78,7 @@ fn add(alloc: Global, parts: &mut Vec<Part>, symbol: u16, depth: u8) -> Result<(
 }
 
 /// Returns the tree of a code.
-fn tree(alloc: Global, code: u32) -> Result<HuffmanTree<u16, Global>, AllocError> {
+pub(crate) fn tree(alloc: Global, code: u32) -> Result<HuffmanTree<u16, Global>, AllocError> {
     let mut parts: Vec<Part> = Vec::new(alloc);
     let mut symbol = 0u16;
     for (depth, count) in lengths_of(code) {
