@@ -37,7 +37,7 @@ class Protocol:
 
 # The fields of 1,000 random records that tshark 4.0, or ffmpeg 5.1 of AV1, shows alike: `tools/test_protocols 1000`.
 FIELDS = {
-    "arp_packet": 5000, "av1_sequence": 32367, "can_frame": 4000, "can_packet": 4911, "ccsds_packet": 6000,
+    "arp_packet": 5000, "av1_sequence": 34033, "can_frame": 4000, "can_packet": 4911, "ccsds_packet": 6000,
     "client_hello": 14137, "coap_message": 7264, "dhcp_message": 18972, "dns_message": 24681, "dns_typed_message":
     16086, "eapol_packet": 5504, "ethernet_header": 4316, "gif_file": 30164, "gre_packet": 6983, "h264_high_pps": 16000, "h264_sps":
     41659, "icmp_datagram": 3971, "icmp_message": 6000, "igmp_message": 4000, "igmp_query": 9010, "igmp_report":
@@ -130,7 +130,7 @@ WANTED = (
         "AV1 sequence headers",
         "video/av1_sequence",
         False,
-        "decoder models: numbers of as many bits as an earlier number states; profiles 1 and 2",
+        "decoder models: numbers of as many bits as an earlier number states",
     ),
     Protocol(
         "MPEG-TS with PAT and PMT",

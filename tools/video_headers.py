@@ -254,9 +254,9 @@ def sps_values(record: Json) -> Values:
 
 
 def av1_sequence(r: Random) -> Made:
-    """A sequence header of AV1 of profile 0, without a decoder model."""
+    """A sequence header of AV1, without a decoder model."""
     b = Bits(r)
-    b.u(3, 0)
+    profile = b.u(3, r.randrange(3))
     still = b.flag()
     reduced = b.u(1, int(still and r.getrandbits(1)))
     if reduced:
@@ -275,15 +275,7 @@ def av1_sequence(r: Random) -> Made:
     if not reduced:
         draw_tools(b)
     b.any(3)
-    b.any(1)
-    grey = b.flag()
-    if b.flag():
-        for _ in range(3):
-            b.u(8, r.choice((1, 2, 9)))
-    b.any(1)
-    if not grey:
-        b.u(2, r.randrange(3))
-        b.any(1)
+    draw_colours(b, profile)
     b.any(1)
     data = stopped(b)
     return Made(data, before=b"\x12\0\x0a" + bytes([len(data)]))
@@ -319,6 +311,30 @@ def draw_tools(b: Bits) -> None:
         b.any(3)
 
 
+def draw_colours(b: Bits, profile: int) -> None:
+    """The colours, and how their chroma is sampled."""
+    deep = b.u(1, b.draw.choice((0, 1, 1, 1)))
+    twelve = profile == 2 and deep and b.u(1, b.draw.choice((0, 1, 1, 1)))
+    grey = profile != 1 and b.u(1, b.draw.choice((0, 0, 0, 1)))
+    colours = [2, 2, 2]
+    if b.flag():
+        colours = b.draw.choice(([1, 13, 0], [1, 13, 1], [9, 13, 0], [b.draw.choice((1, 2, 9)) for _ in range(3)]))
+        for it in colours:
+            b.u(8, it)
+    if grey:
+        b.any(1)
+        return
+    if colours != [1, 13, 0]:
+        b.any(1)
+        across, down = profile != 1, profile == 0
+        if twelve:
+            across = b.flag()
+            down = across and b.flag()
+        if across and down:
+            b.u(2, b.draw.randrange(3))
+    b.any(1)
+
+
 AV1 = of_peer(
     "still_picture=still reduced_still_picture_header=reduced num_units_in_display_tick=points.timing.ticks"
     " time_scale=points.timing.scale equal_picture_interval=points.timing.equal"
@@ -328,10 +344,9 @@ AV1 = of_peer(
     " enable_masked_compound=tools.masked enable_warped_motion=tools.warped enable_dual_filter=tools.dual_filter"
     " enable_order_hint=tools.hinted enable_jnt_comp=tools.order.weighted enable_ref_frame_mvs=tools.order.motion"
     " order_hint_bits_minus_1=tools.hint_bits.bits enable_superres=superres enable_cdef=directional"
-    " enable_restoration=restoration high_bitdepth=high_depth mono_chrome=grey color_primaries=colours.primaries"
-    " transfer_characteristics=colours.transfer matrix_coefficients=colours.matrix color_range=full"
-    " chroma_sample_position=chroma.position separate_uv_delta_q=chroma.apart film_grain_params_present=grain"
+    " enable_restoration=restoration film_grain_params_present=grain"
 )
+COLOURS = of_peer("color_primaries=primaries transfer_characteristics=transfer matrix_coefficients=matrix")
 
 
 def point_values(record: Json) -> Values:
@@ -352,9 +367,53 @@ def point_values(record: Json) -> Values:
     return values
 
 
+def colour_values(record: Json) -> Values:
+    """The colours of AV1, and how their chroma is sampled."""
+    profile, held = case_of(record["profile"])
+    values: Values = {"seq_profile": [("Main", "High", "Professional").index(profile)]}
+    values["high_bitdepth"] = [int(held["deep"])] if "deep" in held else []
+    values["twelve_bit"], values["mono_chrome"] = [], []
+    if profile == "Professional":
+        depth, held = case_of(held["depth"])
+        values["high_bitdepth"] = [int(depth == "Deep")]
+        if depth == "Deep":
+            depth, held = case_of(held["depth"])
+            values["twelve_bit"] = [int(depth == "Twelve")]
+    grey = False
+    if "samples" in held:
+        samples, held = case_of(held["samples"])
+        grey = samples == "Grey"
+        values["mono_chrome"] = [int(grey)]
+    held = held.get("colours", held) if profile == "High" else held
+    return values | (grey_values(held) if grey else meaning_values(held))
+
+
+def grey_values(held: Json) -> Values:
+    """The colours of samples without chroma."""
+    values = taken(held["colours"], COLOURS)
+    values |= dict.fromkeys(("subsampling_x", "subsampling_y", "chroma_sample_position", "separate_uv_delta_q"), [])
+    return values | {"color_range": [int(held["full"])]}
+
+
+def meaning_values(held: Json) -> Values:
+    """The colours of samples with chroma, and how it is sampled."""
+    case, meaning = case_of(held["meaning"])
+    values = taken(meaning if case == "Stated" else None, COLOURS)
+    values["separate_uv_delta_q"] = [int(held["apart"])]
+    if case == "Stated":
+        meaning = next((meaning[it] for it in ("placed", "full", "sampled") if it in meaning), None) or {}
+    values["color_range"] = [int(meaning[it]) for it in ("full", "set") if it in meaning]
+    down = meaning.get("down") or {}
+    values["subsampling_x"] = [meaning["across"]] if "across" in meaning else []
+    values["subsampling_y"] = [down["down"]] if down else []
+    place = (down.get("position") or {}) if down else meaning
+    values["chroma_sample_position"] = [place["position"]] if "position" in place else []
+    return values
+
+
 def av1_values(record: Json) -> Values:
     """A sequence header of AV1."""
-    values = taken(record, AV1) | point_values(record)
+    values = taken(record, AV1) | point_values(record) | colour_values(record)
     for name, field in (("width", "width"), ("height", "height")):
         bits = [*record[field], int(record[f"{field}_end"])]
         values[f"max_frame_{name}_minus_1"] = [int("".join(map(str, bits)), 2)]
