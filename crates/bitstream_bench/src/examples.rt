@@ -101,6 +101,26 @@ fn example_of_read_varint(rt: HostRuntime) {
 }
 
 #[test]
+fn example_of_blockwise(rt: HostRuntime) {
+    use bitstream_io::{BE, BitWrite, BitWriter, Blockwise};
+
+    let file = Vec::new(rt.alloc());
+    let mut writer = BitWriter::<_, BE>::new(Blockwise::new(rt.alloc(), file).expect(
+        &rt, "no error",
+    ));
+    writer
+        .write_unsigned_var(12, 0xb1e_u16)
+        .expect(&rt, "no error");
+    writer.byte_align().expect(&rt, "no error");
+    writer.flush().expect(&rt, "no error");
+    are(
+        &rt,
+        writer.into_writer().get_ref().as_slice(),
+        [0xb1, 0xe0].as_slice(),
+    );
+}
+
+#[test]
 fn example_of_buffered(rt: HostRuntime) {
     use bitstream_io::{BE, BitRead, BitReader, Buffered};
     use std::io::BufReader;
@@ -224,6 +244,29 @@ fn example_of_read_symbols(rt: HostRuntime) {
             Err(Error::EndOfInput)
         ),
     );
+}
+
+#[test]
+fn example_of_indexed_words(rt: HostRuntime) {
+    use bitstream_io::{BE, BitWrite, BitWriteExt, BitWriter, IndexedWords};
+    use bitstream_io::huffman::HuffmanTree;
+
+    let alloc = rt.alloc();
+    let end = HuffmanTree::node(
+        HuffmanTree::leaf(alloc, 1u8).expect(&rt, "no error"),
+        HuffmanTree::leaf(alloc, 2).expect(&rt, "no error"),
+    )
+    .expect(&rt, "no error");
+    let tree = HuffmanTree::node(HuffmanTree::leaf(alloc, 0).expect(&rt, "no error"), end).expect(
+        &rt, "no error",
+    );
+    let words = IndexedWords::of(alloc, &tree, 2).expect(&rt, "no error");
+    let mut writer = BitWriter::<_, BE>::new(Vec::new(alloc));
+    writer.write_huffman(&words, 1).expect(&rt, "no error");
+    writer.write_huffman(&words, 0).expect(&rt, "no error");
+    writer.write_huffman(&words, 2).expect(&rt, "no error");
+    writer.byte_align().expect(&rt, "no error");
+    are(&rt, writer.into_writer().as_slice(), [0x98].as_slice());
 }
 
 #[test]
@@ -666,6 +709,31 @@ fn example_of_symbol_words(rt: HostRuntime) {
     writer.write_huffman(&words, 'c').expect(&rt, "no error");
     writer.byte_align().expect(&rt, "no error");
     are(&rt, writer.into_writer().as_slice(), [0x98].as_slice());
+}
+
+#[test]
+fn example_of_huffman_tree_code_word(rt: HostRuntime) {
+    use bitstream_io::{BE, BitWrite, BitWriter};
+    use bitstream_io::huffman::{CodeWord, HuffmanTree};
+
+    let alloc = rt.alloc();
+    let end = HuffmanTree::node(
+        HuffmanTree::leaf(alloc, 'b').expect(&rt, "no error"),
+        HuffmanTree::leaf(alloc, 'c').expect(&rt, "no error"),
+    )
+    .expect(&rt, "no error");
+    let tree = HuffmanTree::node(HuffmanTree::leaf(alloc, 'a').expect(&rt, "no error"), end).expect(
+        &rt, "no error",
+    );
+    let mut writer = BitWriter::<_, BE>::new(Vec::new(alloc));
+    writer
+        .write_code_word(tree.code_word('b').unwrap_or(CodeWord::new()))
+        .expect(&rt, "no error");
+    writer
+        .write_code_word(tree.code_word('c').unwrap_or(CodeWord::new()))
+        .expect(&rt, "no error");
+    writer.byte_align().expect(&rt, "no error");
+    are(&rt, writer.into_writer().as_slice(), [0xb0].as_slice());
 }
 
 #[test]

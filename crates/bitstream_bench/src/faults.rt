@@ -1,8 +1,8 @@
 //! Readers and writers after a failed request.
 use crate::asserts::{are, each_holds, ended, failed, gives, holds, same};
 use bitstream_io::{
-    BE, BitRead, BitReadExt, BitReader, BitWrite, BitWriteExt, BitWriter, Bits, Buffered, ByteRead,
-    ByteReader, Error, Slice, SliceReader,
+    BE, BitRead, BitReadExt, BitReader, BitWrite, BitWriteExt, BitWriter, Bits, Blockwise,
+    Buffered, ByteRead, ByteReader, Error, Slice, SliceReader,
 };
 use std::alloc::Global;
 use std::io::{BufReader, ErrorKind};
@@ -65,6 +65,43 @@ fn reads_blocks(alloc: Global, retried: bool) -> bool {
 fn buffered_streams_are_read_by_blocks(rt: HostRuntime) {
     holds(&rt, reads_blocks(rt.alloc(), true));
     holds(&rt, reads_blocks(rt.alloc(), false));
+}
+
+/// Writes four bytes by blocks of two, to a stream that refuses one request, the second one. Returns the bytes that
+/// the stream has at the end, if the write that needs this request succeeds, or fails with the refusal's kind.
+fn blocks_written(alloc: Global, kind: ErrorKind) -> Option<Vec<u8, Global>> {
+    let stream = Refuse {
+        inner: Vec::new(alloc),
+        left: Some(1),
+        once: true,
+        kind,
+    };
+    let blocks = Blockwise::with_capacity(alloc, 2, stream).ok()?;
+    let mut writer = BitWriter::<_, BE>::new(blocks);
+    writer.write::<Bits<12>, u16>(0xb1e).ok()?;
+    writer.write::<Bits<12>, u16>(0xd3b).ok()?;
+    let last = writer.write::<Bits<8>, u8>(0xc1);
+    if last.is_err() && !refused(last, kind) {
+        return None;
+    }
+    match writer.into_writer().into_inner() {
+        Ok(stream) => Some(stream.inner),
+        Err(_) => None,
+    }
+}
+
+/// A stream that is written by blocks is asked again after an interruption. After another error, what is held
+/// is still sent.
+#[test]
+fn streams_are_written_by_blocks(rt: HostRuntime) {
+    let interrupted = blocks_written(rt.alloc(), ErrorKind::Interrupted).unwrap_or(Vec::new(
+        rt.alloc(),
+    ));
+    are(&rt, &interrupted, &[0xb1, 0xed, 0x3b, 0xc1]);
+    let reset = blocks_written(rt.alloc(), ErrorKind::ConnectionReset).unwrap_or(Vec::new(
+        rt.alloc(),
+    ));
+    are(&rt, &reset, &[0xb1, 0xed, 0x3b]);
 }
 
 /// A failed writer no longer lends its stream, but still returns it.

@@ -5,6 +5,8 @@ pub mod CallerLemmas
 pub mod EachLemmas
 pub mod GolombLemmas
 pub mod PackLemmas
+mod BlockwiseLemmas
+mod IndexedLemmas
 mod PlaceLemmas
 mod ReadBackLemmas
 mod ReadScriptLemmas

@@ -1,6 +1,8 @@
+pub mod Blockwise
 pub mod Buffered
 pub mod Callers
 pub mod Golomb
+pub mod IndexedWords
 pub mod Loop
 pub mod NonZeroTypes
 pub mod Optional

@@ -7,7 +7,7 @@
 //! - [`compat`]: the current calls under their older names
 //! - [`golomb`]: exponential Golomb numbers
 //! - [`script`]: calls as values, and lists of calls that are made in order
-//! - [`symbols`]: many symbols of a prefix code, read by a table
+//! - [`symbols`]: many symbols of a prefix code, read by a table or written by an array
 //! - [`error`]: the error of a call
 //! - [`number`]: integer types as numbers, and numbers of bits as types
 //! - [`count`]: counts of bits, and values that are known to fit a count
@@ -34,6 +34,7 @@
 //! ```
 #![tactic(auto)]
 
+mod blockwise;
 mod buffered;
 pub mod compat;
 pub mod golomb;
@@ -96,6 +97,7 @@ pub mod read {
 
 /// Writing bits.
 pub mod write {
+    pub use crate::blockwise::Blockwise;
     pub use bitstream_order::streams::growing::Growing;
     pub use bitstream_order::streams::lent::Lent;
     pub use bitstream_order::streams::slice_mut::SliceMut;
@@ -182,8 +184,8 @@ pub use read::{
     BitRead, BitReadExt, BitReader, Buffered, FromBitStream, FromBitStreamUsing, FromBitStreamWith,
     Lent, SeekSource, Slice, SliceReader, Source,
 };
-pub use symbols::{ReadSymbols, SymbolTable};
+pub use symbols::{IndexedSymbol, IndexedWords, ReadSymbols, SymbolTable};
 pub use write::{
-    BitCounter, BitRecorder, BitWrite, BitWriteExt, BitWriter, BitsWritten, Growing, Recorder,
-    SliceMut, Target, ToBitStream, ToBitStreamUsing, ToBitStreamWith, pack_into,
+    BitCounter, BitRecorder, BitWrite, BitWriteExt, BitWriter, BitsWritten, Blockwise, Growing,
+    Recorder, SliceMut, Target, ToBitStream, ToBitStreamUsing, ToBitStreamWith, pack_into,
 };

@@ -1,14 +1,19 @@
-//! Symbols of prefix codes by a table, which finds a code word of at most ten bits at once.
+//! Symbols of prefix codes: read by a table, which finds a code word of at most ten bits at once, and written by an
+//! array of code words.
 ghost use Rattle.std.specs.Prelude.{◌≡◌, length};
 ghost use Rattle.bitstream_value.specs.HuffmanTree.{tree_of};
 ghost use Rattle.bitstream_io.specs.Windows.{FindsAll};
 
 mod entry;
+mod numbers;
 mod read;
 mod spot;
+mod words;
 
 use crate::symbols::entry::entry_at;
+pub use crate::symbols::numbers::IndexedSymbol;
 pub use crate::symbols::read::ReadSymbols;
+pub use crate::symbols::words::IndexedWords;
 use bitstream_order::order::Endianness;
 use bitstream_value::huffman::HuffmanTree;
 use std::alloc::{AllocError, Allocator};

@@ -69,7 +69,7 @@ impl CodeWord {
         self.bits == 0
     }
 
-    /// Returns the bit at an index. The first bit has the index 0.
+    /// Returns the bit at an index below the number of bits. The first bit has the index 0.
     pub fn bit(&self, at: u32) -> bool
         requires { at < length (code_bits self.now) }
         ensures { slice_get (code_bits self.now) at ≡ Some result }
@@ -77,7 +77,7 @@ impl CodeWord {
         (self.high >> (self.bits - 1 - at)) % 2 == 1
     }
 
-    /// Appends a bit.
+    /// Appends a bit. The code word has fewer than 63 bits before.
     pub fn push(&mut self, bit: bool)
         requires { length (code_bits self.old) < 63 }
         ensures { code_bits self.new ≡ code_bits self.old ++ bit ∷ [] }

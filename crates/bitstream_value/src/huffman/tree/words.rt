@@ -83,7 +83,7 @@ impl<S: Copy + Eq, A: Allocator> HuffmanTree<S, A> {
         let mut made = Vec::new(alloc);
         for node in self.nodes.as_slice() {
             if let Node::Leaf(symbol) = *node {
-                if let Some(word) = self.short_word(symbol) {
+                if let Some(word) = self.code_word(symbol) {
                     made.push(SymbolWord { symbol, word })?;
                 }
             }
@@ -92,8 +92,26 @@ impl<S: Copy + Eq, A: Allocator> HuffmanTree<S, A> {
         Ok(SymbolWords { tree: self, made })
     }
 
-    /// Returns the code word of a symbol, if it has at most 63 bits.
-    fn short_word(&self, symbol: S) -> Option<CodeWord>
+    /// Returns the code word of a symbol, if it has at most 63 bits. A symbol that the tree lacks has a code word of no
+    /// bits. A program that numbers its symbols keeps their code words in an array, and writes each by
+    /// `write_code_word`.
+    ///
+    /// # Examples
+    ///
+    /// ```
+    /// use bitstream_io::{BE, BitWrite, BitWriter};
+    /// use bitstream_io::huffman::{CodeWord, HuffmanTree};
+    ///
+    /// let alloc = rt.alloc();
+    /// let end = HuffmanTree::node(HuffmanTree::leaf(alloc, 'b')?, HuffmanTree::leaf(alloc, 'c')?)?;
+    /// let tree = HuffmanTree::node(HuffmanTree::leaf(alloc, 'a')?, end)?;
+    /// let mut writer = BitWriter::<_, BE>::new(Vec::new(alloc));
+    /// writer.write_code_word(tree.code_word('b').unwrap_or(CodeWord::new()))?;
+    /// writer.write_code_word(tree.code_word('c').unwrap_or(CodeWord::new()))?;
+    /// writer.byte_align()?;
+    /// assert_eq!(rt; writer.into_writer().as_slice(), [0xb0].as_slice());
+    /// ```
+    pub fn code_word(&self, symbol: S) -> Option<CodeWord>
         ensures { MatchOption result (63 < length (symbol_word S.eq (tree_of self.now) symbol))
             (λ word. code_bits word ≡ symbol_word S.eq (tree_of self.now) symbol) }
     {

@@ -10,7 +10,7 @@ use Rattle.bitstream_value.specs.declared.huffman.tree.words.SymbolWord.{SymbolW
 use Rattle.bitstream_value.proofs.NodesLemmas.{tree_of-stands}
 use Rattle.bitstream_value.proofs.WordsLemmas.{HasShort, IsMade, finds-short, found-right, short-branch, short-long, short-pushed, short-sorted}
 use Rattle.bitstream_value.proofs.huffman.tree.HuffmanTree.words.Goals as goal
-use Rattle.bitstream_value.proofs.huffman.tree.HuffmanTree.words.Goals.{in-Leaf+in-Some+in_ok-push, in-Leaf+in_default-short_word, in_default}
+use Rattle.bitstream_value.proofs.huffman.tree.HuffmanTree.words.Goals.{in-Leaf+in-Some+in_ok-push, in-Leaf+in_default-code_word, in_default}
 
 pub loop-node-preserved : goal.loop-node-preserved
 loop-node-preserved g c =
@@ -35,12 +35,12 @@ loop-node-preserved g c =
             short = short-pushed same tree nodes law k made y below read short c.match-node.made.items it w.in-Leaf.symbol
                 w.in-Leaf.is refl more;
           }
-      | in-Leaf+in_default-short_word w ↦
+      | in-Leaf+in_default-code_word w ↦
           let same_made = ap (λ made. made.items) (sym w.made-is) in
           record {
             right = subst (All (IsMade same tree)) same_made right;
             short = subst (HasShort same tree nodes (k + 1)) same_made (short-long same tree nodes law k made y below read
-                short w.in-Leaf.symbol w.in-Leaf.is w.in_default-short_word.ensures);
+                short w.in-Leaf.symbol w.in-Leaf.is w.in_default-code_word.ensures);
           }
       | in_default w ↦
           let same_made = ap (λ made. made.items) (sym w.made-is) in

@@ -2,7 +2,7 @@ use Rattle.std.proofs.Common.{◌∙◌, ◌++◌, ap, arith, length, List, Bool
 use Rattle.bitstream_value.specs.HuffmanTree.{tree_of}
 use Rattle.bitstream_value.specs.Tree.{symbol_word}
 use Rattle.bitstream_value.proofs.WordsLemmas.{all-behind, too-long}
-use Rattle.bitstream_value.proofs.huffman.tree.HuffmanTree.short_word.Goals as goal
+use Rattle.bitstream_value.proofs.huffman.tree.HuffmanTree.code_word.Goals as goal
 
 pub returns-in-Ok : goal.returns-in-Ok
 returns-in-Ok g c =
