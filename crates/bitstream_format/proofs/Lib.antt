@@ -2,6 +2,7 @@ mod DhcpLemmas
 mod Rows
 mod ChecksRows
 mod SummedRows
+pub mod InBytesLemmas
 pub mod WithinLemmas
 pub mod FilledLemmas
 pub mod StatedLemmas

@@ -11,9 +11,10 @@ use Rattle.std.specs.declared.num.NonZeroU64.{NonZeroU64}
 use Rattle.std.specs.declared.num.NonZeroU128.{NonZeroU128}
 use Rattle.std.proofs.lemmas.Bool.{ltb-true}
 use Rattle.bitstream_count.specs.Unary.{unary as unary_bits}
-use Rattle.bitstream_io.specs.Callers.{FitsSignedBits, bit_decoder, unsigned_decoder, signed_decoder, bytes_decoder, unary_decoder, skip_decoder, option_decoder, if_any, number_or_zero, bit, buffer, zeros, unary_word}
+use Rattle.bitstream_io.specs.Callers.{Order, FitsSignedBits, bit_decoder, unsigned_decoder, signed_decoder, bytes_decoder, unary_decoder, skip_decoder, option_decoder, if_any, number_or_zero, bit, buffer, zeros, unary_word}
 use Rattle.bitstream_io.specs.Callers as call
 use Rattle.bitstream_value.specs.NonZero.{non_zero_decoder}
+use Rattle.bitstream_number.specs.Word.{residue}
 use Rattle.bitstream_io.proofs.CallerLemmas.{bit-written, unsigned-written, signed-written, bytes-written, zeros-written, unary-written, non_zero-written, non_zero_u8-again, non_zero_u16-again, non_zero_u32-again, non_zero_u64-again, option_u8-again, option_u16-again, option_u32-again, option_u64-again, non_zero_u128-again, option_u128-again, unsigned-accepted, signed-accepted, non_zero-accepted}
 pub use Rattle.bitstream_format.specs.Groups.{groups, signed_groups, ue, se}
 use Rattle.bitstream_format.specs.Until.{IsUnended, until_decoder, until_size, until_writes}
@@ -21,6 +22,7 @@ use Rattle.bitstream_format.specs.UntilLaws.{until-back, until-packs}
 use Rattle.bitstream_format.specs.Blocks.{IsBlock, blocks_decoder, blocks_size, blocks_writes}
 use Rattle.bitstream_format.specs.BlocksLaws.{blocks-back, blocks-packs}
 use Rattle.bitstream_format.specs.Format.{Plain, none_if, none_if-true}
+use Rattle.bitstream_format.specs.InBytes.{in_bytes_decoder, in_bytes_word, signed_in_bytes_decoder, signed_in_bytes_word, in_bytes-goes, in_bytes-packs, signed_in_bytes-goes}
 use Rattle.bitstream_format.specs.AtomLaws.{one-packs, bool-goes, unsigned-goes, signed-goes, bytes-goes, skip-goes, unary-goes, non_zero-goes, option-goes}
 
 -- a flag of one bit
@@ -60,6 +62,32 @@ signed size n some le = record {
   packs = λ o x fits. one-packs (signed-written o size n x some le fits);
   besides = λ x. none_if (nat_lt 0 n);
   accepted = λ o x at some all. signed-accepted o size n x at (none_if-true (nat_lt 0 n) some) all.0;
+}
+
+-- an unsigned number of n bytes in the byte order p
+abbrev pub in_bytes : Order → ℕ → Plain ℕ
+in_bytes p n = record {
+  read = λ o. in_bytes_decoder o p n;
+  write = λ o v. in_bytes_word o p n v ∷ [];
+  size = λ v. 8 * n;
+  facts = λ v. (v < 2 ^ (8 * n)) ∷ [];
+  round_trip = λ o v fits. in_bytes-goes o p n v fits;
+  packs = λ o v fits. in_bytes-packs o p n v;
+  besides = λ v. (v < 2 ^ (8 * n)) ∷ [];
+  accepted = λ o v at fits all. fits;
+}
+
+-- a signed number of n bytes in the byte order p
+abbrev pub signed_in_bytes : Order → (n : ℕ) → nat_lt 0 (8 * n) ≡ true → Plain ℤ
+signed_in_bytes p n some = record {
+  read = λ o. signed_in_bytes_decoder o p n;
+  write = λ o x. signed_in_bytes_word o p n x ∷ [];
+  size = λ x. 8 * n;
+  facts = λ x. FitsSignedBits (8 * n) x ∷ [];
+  round_trip = λ o x fits. signed_in_bytes-goes o p n x some fits;
+  packs = λ o x fits. in_bytes-packs o p n (residue (8 * n) x);
+  besides = λ x. FitsSignedBits (8 * n) x ∷ [];
+  accepted = λ o x at fits all. fits;
 }
 
 -- n bytes

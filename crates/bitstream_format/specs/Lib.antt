@@ -1,4 +1,5 @@
 pub mod AtomLaws
+pub mod InBytes
 pub mod Format
 pub mod Atoms
 pub mod UpToLast
@@ -10,7 +11,6 @@ pub mod Choices
 pub mod Sizes
 pub mod Within
 pub mod Powers
-pub mod Bounded
 pub mod InGroups
 pub mod Filled
 pub mod Stated
@@ -19,6 +19,7 @@ pub mod VarintLaws
 pub mod SizeLaws
 pub mod Chosen
 pub mod Measured
+pub mod Bounded
 pub mod InGroupsLaws
 pub mod Until
 pub mod UntilLaws

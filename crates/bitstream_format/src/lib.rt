@@ -20,6 +20,7 @@
 //! - `Until`, `Blocks`, `Checks`: bytes up to a terminator, with [`until`], blocks of bytes, with [`blocks`], and
 //!   checksums, with [`checks`]; [`rest`] counts the bytes after others
 //! - `Bounded`, `InGroups`: numbers with a greatest value, and sizes in groups of bits, with [`in_groups`]
+//! - `InBytes`: numbers of whole bytes in a byte order of their own, with [`in_bytes`]
 //! - `Powers`: lists of a power of two items, with [`powers`]
 //! - `Summed`: checksums of lines of any kind, with [`summed`], by the types of [`checksums`]
 //! - `Places`: formats of a fixed width, in which each field has a fixed place among the bits
@@ -31,6 +32,7 @@ pub mod blocks;
 pub mod checks;
 pub mod checksums;
 pub mod examples;
+pub mod in_bytes;
 pub mod in_groups;
 pub mod powers;
 pub mod rest;

@@ -1,4 +1,5 @@
 pub mod AckLemmas
+pub mod AclPacketLemmas
 pub mod DnsLabelLemmas
 pub mod DnsMessageLemmas
 pub mod DnsNameLemmas
@@ -22,6 +23,7 @@ pub mod PngFileLemmas
 pub mod RenegotiationLemmas
 pub mod SignalLemmas
 pub mod TlsRecordLemmas
+mod AclPacketRows
 mod DnsLabelRows
 mod DnsMessageRows
 mod DnsNameRows

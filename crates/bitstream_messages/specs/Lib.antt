@@ -1,4 +1,6 @@
 pub mod Ack
+pub mod AclPacket
+pub mod AclPacketFields
 pub mod DnsLabel
 pub mod DnsLabelFields
 pub mod DnsMessage

@@ -11,10 +11,12 @@
 //! - [`png_chunk`], [`png_file`]: a checksum, and parts up to the end
 //! - [`dns_message`]: lists of parts with lists. A [`dns_name`] is labels up to the last one, which is an empty
 //!   one or a pointer; [`dns_label`], [`dns_question`], [`dns_record`]
+//! - [`acl_packet`]: a number that is computed from the lines after it
 //! - [`ack`], [`dns_pointer`], [`dns_text`], [`mark`], [`notes`], [`renegotiation`]: parts
 #![tactic(auto)]
 
 pub mod ack;
+pub mod acl_packet;
 pub mod dns_label;
 pub mod dns_message;
 pub mod dns_name;

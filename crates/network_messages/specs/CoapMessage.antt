@@ -5,15 +5,14 @@ use Rattle.network_messages.specs.declared.coap_message.CoapMessageError.TheVari
 use Rattle.network_messages.specs.declared.coap_message.Message.{Message}
 use Rattle.network_messages.specs.declared.coap_message.Message.TheVariants.{Confirmable, NonConfirmable, Acknowledgement, Reset}
 use Rattle.std.proofs.Common.{refl, true, arith}
-use Rattle.std.proofs.lemmas.Bool.{le-leb}
-use Rattle.bitstream_format.specs.Format.{◌>>=◌, Plain as PlainFormat, Own as OwnFormat, Parts as FormatParts, format, named, field, const, ◌&◌, own_done, Part as FormatPart, others_of_facts}
+use Rattle.bitstream_format.specs.Format.{◌>>=◌, Plain as PlainFormat, Own as OwnFormat, Parts as FormatParts, format, named, field, const, ◌&◌, own_done}
 use Rattle.bitstream_format.specs.Lists.{byte_list}
 use Rattle.bitstream_format.specs.Cases.{cases}
 use Rattle.bitstream_format.specs.Measured.{vec}
-use Rattle.bitstream_format.specs.Bounded.{own_bounded}
-use Rattle.std.specs.Prelude.{◌≡◌, ◌^◌, ◌<◌, ◌≤◌, ◌+◌, ◌-◌, ◌++◌, ◌∷◌, [], ◌==◌, if◌then◌else◌, ℕ, Bool, List, Result, Ok, length, nat_lt, nat_le}
+use Rattle.bitstream_format.specs.Bounded.{own_limited}
+use Rattle.std.specs.Prelude.{◌≡◌, ◌^◌, ◌<◌, ◌≤◌, ◌+◌, ◌-◌, ◌++◌, ◌∷◌, [], ◌==◌, if◌then◌else◌, ℕ, Bool, List, Result, Ok, length, nat_lt}
 use Rattle.std.specs.List.{All}
-use Rattle.bitstream_io.specs.Callers.{Decoder, Encoder, pure, Error, Order, High, and_then, unsigned_decoder, unsigned, align, write_sequence}
+use Rattle.bitstream_io.specs.Callers.{Decoder, Encoder, pure, Error, Order, High, and_then, unsigned_decoder, align, write_sequence}
 use Rattle.bitstream_format.specs.Atoms as atom
 
 -- Made by `./format` from formats/coap_message.fields: edit that file and make this one anew.
@@ -21,23 +20,6 @@ use Rattle.bitstream_format.specs.Atoms as atom
 -- an error of the reader is one of the type's
 abbrev pub becomes_coap_message : Error → CoapMessageError → Type 0
 becomes_coap_message error own = own ≡ Reader error
-
--- the writes of a number of at most `most`; a greater one is rejected, as one bit does not hold 2
-abbrev pub within_most : ℕ → ℕ → Order → List Encoder → List Encoder
-within_most most n o encoders = if nat_le n most then encoders else unsigned o 8 1 2 ∷ []
-
--- a number of at most `most`; `err` if a greater one is read
-abbrev pub own_limited : {S B E : Type 0} → ℕ → E → FormatPart S (Result B E) ℕ → FormatPart S (Result B E) ℕ
-own_limited most err p = record (own_bounded most err p) {
-  write = λ o s. within_most most (p.get s) o (p.write o s);
-  round_trip = λ o s f es w fits made rest.
-      rw (le-leb (p.get s) most (others_of_facts (p.facts s) ((p.get s ≤ most) ∷ []) fits))
-      ((own_bounded most err p).round_trip o s f es w fits made rest);
-  packs = λ o s fits made.
-      rw (le-leb (p.get s) most (others_of_facts (p.facts s) ((p.get s ≤ most) ∷ []) fits))
-      ((own_bounded most err p).packs o s fits made);
-  accepted = λ o s at fits all. fits;
-}
 
 -- the case of a number
 abbrev pub message_of : ℕ → Message

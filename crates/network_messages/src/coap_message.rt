@@ -1,13 +1,14 @@
 //! A message of CoAP with its options as bytes (RFC 7252, section 3).
 //!
 //! Made by `./format` from formats/coap_message.fields: edit that file and make this one anew.
-ghost use Rattle.network_messages.specs.CoapMessage.{coap_message_decoder, coap_message_writes, coap_message_size, coap_message_bits, Fits, becomes_coap_message, within_most, message_of, message_number, message_read};
+ghost use Rattle.network_messages.specs.CoapMessage.{coap_message_decoder, coap_message_writes, coap_message_size, coap_message_bits, Fits, becomes_coap_message, message_of, message_number, message_read};
 ghost use Rattle.network_messages.specs.declared.coap_message.CoapMessage.{CoapMessage};
 ghost use Rattle.network_messages.specs.declared.coap_message.CoapMessageError.{CoapMessageError};
 ghost use Rattle.network_messages.specs.declared.coap_message.CoapMessageError.TheVariants.{Reader};
 ghost use Rattle.std.specs.Prelude.{◌≡◌, ◌<◌, ◌≤◌, ◌+◌, ◌-◌, ◌*◌, ◌++◌, ◌∷◌, [], ◌⊎◌, ℕ, Bool, List, Ok, Err, length, IfOk, IsOk};
 ghost use Rattle.std.specs.declared.io.ErrorKind.TheVariants.{WriteZero};
 ghost use Rattle.bitstream_io.specs.Callers.{Done, Error, Order, High, bits, unsigned, write_sequence, Reads, OwnAnswer, WritesAll, AllAccepted, sequence_length, sure_answer, GrowsOwn, MayAllocate, OutOfMemory, Stream, same_error};
+ghost use Rattle.bitstream_format.specs.Bounded.{within_most};
 ghost use Rattle.bitstream_io.specs.SliceMut.{HoldsFirst, written_bytes};
 
 use bitstream_format::rest::{rest_after, rest_of};
