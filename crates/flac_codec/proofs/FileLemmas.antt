@@ -3,12 +3,12 @@ use Rattle.std.proofs.Common.{arith, inl, inr, ◌⊎◌, ◌≡◌, ◌∙◌, 
 use Rattle.std.specs.Prelude.{map, MatchResult}
 use Rattle.std.specs.Int.NonZero.{non_zero_u8_get}
 use Rattle.std.specs.List.{All}
-use Rattle.std.proofs.lemmas.Bool.{cases_lt, eq-eqb, eqb-true, le-ltb, ne_eqb}
+use Rattle.std.proofs.lemmas.Bool.{eq-eqb, eqb-true, le-ltb, ne_eqb}
 use Rattle.std.proofs.Math.Seq.{take-append_seam}
 use Rattle.std.proofs.lemmas.List.{drop_at, length-map, length-take-le, take_all, take_more}
 use Rattle.std.proofs.lemmas.List.Concat.{flat_map-append}
 use Rattle.std.proofs.lemmas.List.Elements.{All-cons, All-drop, All-get_or, All-head, All-map, All-nil, All-tail, All-take, All-weaker}
-use Rattle.bitstream_io.specs.Callers.{bits, sure_answer, result_map, write_sequence, EndOfInput, FitsSignedBits, High, OutOfMemory}
+use Rattle.bitstream_io.specs.Callers.{bits, sure_answer, result_map, write_sequence, FitsSignedBits, High, OutOfMemory}
 use Rattle.bitstream_io.proofs.CallerLemmas.{packs-whole}
 use Rattle.bitstream_io.proofs.WordLemmas.{length-bits}
 use Rattle.flac_codec.specs.Channels.{channel_count}

@@ -3,10 +3,13 @@ use Rattle.std.specs.Prelude.{ℕ, ◌+◌, ◌-◌, ◌^◌, ◌==◌, if◌the
 use Rattle.bitstream_io.specs.Callers.{EndOfInput}
 use Rattle.flac_codec.specs.File.{checked_frame_at, sample_count}
 use Rattle.flac_codec.specs.Frame.{after}
+use Rattle.flac_codec.specs.Input.{bytes_left}
+use Rattle.flac_codec.specs.declared.decoder.Decoder.{Decoder}
 use Rattle.flac_codec.specs.declared.error.FlacError.{FlacError}
 use Rattle.flac_codec.specs.declared.error.FlacError.TheVariants.{OtherSampleCount, Reader}
 use Rattle.flac_codec.specs.declared.frame.Frame.{Frame}
 use Rattle.flac_codec.specs.declared.header.FrameHeader.{FrameHeader}
+use Rattle.flac_codec.specs.declared.input.Input.{Input}
 use Rattle.flac_codec.specs.declared.stream_info.StreamInfo.{StreamInfo}
 
 -- the header of a frame, its channels, and the number of its bytes
@@ -43,3 +46,21 @@ samples_after (Ok (Some frame)) samples =
     min (samples + sample_count (map (λ channel. channel.items) frame.channels.items)) (2 ^ 64 - 1)
 samples_after (Ok None) samples = samples
 samples_after (Err error) samples = samples
+
+-- ---- a decoder: what its calls state of it
+
+-- the STREAMINFO of the file
+abbrev pub decoder_info : {R : Type 0} → Decoder R → StreamInfo
+decoder_info decoder = decoder.info
+
+-- the input of a decoder
+abbrev pub decoder_input : {R : Type 0} → Decoder R → Input R
+decoder_input decoder = decoder.input
+
+-- the bytes left of the file, if they are known
+abbrev pub decoder_left : {R : Type 0} → (R → Option (List ℕ)) → Decoder R → Option (List ℕ)
+decoder_left remaining decoder = bytes_left remaining (decoder_input decoder)
+
+-- the number of samples of a channel that were decoded, at most 2^64 - 1
+abbrev pub decoder_samples : {R : Type 0} → Decoder R → ℕ
+decoder_samples decoder = decoder.samples

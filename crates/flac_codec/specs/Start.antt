@@ -2,9 +2,11 @@
 use Rattle.std.specs.Prelude.{Bool, true, List, ℕ, if◌then◌else◌, length, drop, Option, None, Some, Result, Ok, Err}
 use Rattle.flac_codec.specs.File.{has_marker, info_at, metadata_at, metadata_end}
 use Rattle.flac_codec.specs.Frame.{after}
+use Rattle.flac_codec.specs.Input.{bytes_left, fetched}
 use Rattle.flac_codec.specs.declared.error.FlacError.{FlacError}
 use Rattle.flac_codec.specs.declared.error.FlacError.TheVariants.{NoFlac}
 use Rattle.flac_codec.specs.declared.metadata.Metadata.{Metadata}
+use Rattle.flac_codec.specs.declared.start.MetadataReader.{MetadataReader}
 use Rattle.flac_codec.specs.declared.stream_info.StreamInfo.{StreamInfo}
 
 -- the marker at the start of bytes
@@ -38,3 +40,21 @@ start_at bytes =
 abbrev pub with_left : Result (StreamInfo × List ℕ) FlacError → Result (StreamInfo × Option (List ℕ)) FlacError
 with_left (Ok (info, bytes)) = Ok (info, Some bytes)
 with_left (Err error) = Err error
+
+-- ---- a reader of metadata: what its calls state of it
+
+-- the STREAMINFO of the file
+abbrev pub metadata_info : {R : Type 0} → MetadataReader R → StreamInfo
+metadata_info metadata = metadata.info
+
+-- no block is left
+abbrev pub metadata_done : {R : Type 0} → MetadataReader R → Bool
+metadata_done metadata = metadata.done
+
+-- the bytes left of the file, if they are known
+abbrev pub metadata_left : {R : Type 0} → (R → Option (List ℕ)) → MetadataReader R → Option (List ℕ)
+metadata_left remaining metadata = bytes_left remaining metadata.input
+
+-- the bytes that were fetched after the last block that was taken
+abbrev pub metadata_fetched : {R : Type 0} → MetadataReader R → List ℕ
+metadata_fetched metadata = fetched metadata.input

@@ -1,5 +1,5 @@
 -- What a part of an encoder owes that writes several values, or a part of a file.
-use Rattle.std.specs.Prelude.{◌≡◌, ◌⊎◌, ◌≤◌, ℕ, ℤ, Bool, true, false, List, [], ◌∷◌, ◌++◌, length, MatchResult, Result, Ok, Err}
+use Rattle.std.specs.Prelude.{◌≡◌, ◌⊎◌, ◌≤◌, ℕ, ℤ, Bool, List, [], ◌∷◌, ◌++◌, length, MatchResult, Result, Ok, Err}
 use Rattle.bitstream_io.specs.Callers.{Decoder, Encoder, Error, OutOfMemory, Sink, WritesAll, AllAccepted}
 use Rattle.flac_codec.specs.Encodable.{IsFormat}
 use Rattle.flac_codec.specs.File.{block_at, info_at}

@@ -36,6 +36,8 @@ pub struct Decoder<R> {
 }
 
 impl<R: Read> Decoder<R> {
+    ghost use Rattle.flac_codec.specs.Decoding.{decoder_info, decoder_input, decoder_left, decoder_samples};
+
     /// Reads the start of a file, and returns a decoder of its frames. Blocks of metadata after STREAMINFO are skipped.
     ///
     /// # Errors
@@ -50,8 +52,8 @@ impl<R: Read> Decoder<R> {
         // are left.
         ensures meant { IfSome (R.remaining reader) (λ bytes. IsUnlessFailure
             (with_left (start_at bytes))
-            (result_map (λ decoder. (decoder.info, bytes_left R.remaining decoder.input)) result)) }
-        ensures samples { IfOk result (λ decoder. decoder.samples ≡ 0) }
+            (result_map (λ decoder. (decoder_info decoder, decoder_left R.remaining decoder)) result)) }
+        ensures samples { IfOk result (λ decoder. decoder_samples decoder ≡ 0) }
     {
         MetadataReader::new(alloc, reader)?.into_decoder()
     }
@@ -60,9 +62,9 @@ impl<R: Read> Decoder<R> {
     pub fn over(input: Input<R>, info: StreamInfo) -> Decoder<R>
     where
         R: Drop,
-        ensures input { result.input ≡ input }
-        ensures info { result.info ≡ info }
-        ensures samples { result.samples ≡ 0 }
+        ensures input { decoder_input result ≡ input }
+        ensures info { decoder_info result ≡ info }
+        ensures samples { decoder_samples result ≡ 0 }
     {
         Decoder {
             input,
@@ -74,7 +76,7 @@ impl<R: Read> Decoder<R> {
 
     /// Returns the STREAMINFO of the file.
     pub fn stream_info(&self) -> &StreamInfo
-        ensures { result.now ≡ self.now.info }
+        ensures { result.now ≡ decoder_info self.now }
     {
         &self.info
     }
@@ -93,14 +95,14 @@ impl<R: Read> Decoder<R> {
     /// fails, and `Reader(OutOfMemory)` if an allocation fails. After an error the decoder is before the same frame.
     pub fn next_frame(&mut self, alloc: Global) -> Result<Option<Frame>, FlacError>
         // If the bytes left are known, they decide the result, unless an allocation or the reader fails.
-        ensures meant { IfSome (bytes_left R.remaining self.old.input) (λ bytes.
-            IsUnlessFailure (next_at self.old.info self.old.samples bytes)
+        ensures meant { IfSome (decoder_left R.remaining self.old) (λ bytes.
+            IsUnlessFailure (next_at (decoder_info self.old) (decoder_samples self.old) bytes)
             (result_map (option_map frame_value) result)) }
         // If the bytes left are known, they are left without the frame that was returned.
-        ensures left { IfSome (bytes_left R.remaining self.old.input) (λ bytes.
-            bytes_left R.remaining self.new.input ≡ Some (drop (size_of result) bytes)) }
-        ensures info { self.new.info ≡ self.old.info }
-        ensures samples { self.new.samples ≡ samples_after result self.old.samples }
+        ensures left { IfSome (decoder_left R.remaining self.old) (λ bytes.
+            decoder_left R.remaining self.new ≡ Some (drop (size_of result) bytes)) }
+        ensures info { decoder_info self.new ≡ decoder_info self.old }
+        ensures samples { decoder_samples self.new ≡ samples_after result (decoder_samples self.old) }
     {
         if !self.input.fill(1)? {
             check_total(&self.info, self.samples)?;

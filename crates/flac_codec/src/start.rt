@@ -27,6 +27,9 @@ pub struct MetadataReader<R> {
 }
 
 impl<R: Read> MetadataReader<R> {
+    ghost use Rattle.flac_codec.specs.Decoding.{decoder_info, decoder_left, decoder_samples};
+    ghost use Rattle.flac_codec.specs.Start.{metadata_done, metadata_fetched, metadata_info, metadata_left};
+
     /// Reads the marker and STREAMINFO, with which a file begins.
     ///
     /// # Errors
@@ -39,10 +42,10 @@ impl<R: Read> MetadataReader<R> {
         R: Drop,
         // If the bytes are known, they decide the result, unless an allocation or the reader fails.
         ensures meant { IfSome (R.remaining reader) (λ bytes. IsUnlessFailure (info_at bytes)
-            (result_map (λ metadata. (metadata.info, metadata.done)) result)) }
+            (result_map (λ metadata. (metadata_info metadata, metadata_done metadata)) result)) }
         // STREAMINFO is taken.
         ensures left { IfSome (R.remaining reader) (λ bytes. IfOk result (λ metadata.
-            bytes_left R.remaining metadata.input ≡ Some (drop 42 bytes))) }
+            metadata_left R.remaining metadata ≡ Some (drop 42 bytes))) }
     {
         let mut input = Input::new(alloc, reader);
         let start = take_start(&mut input)?;
@@ -55,7 +58,7 @@ impl<R: Read> MetadataReader<R> {
 
     /// Returns the STREAMINFO of the file.
     pub fn stream_info(&self) -> &StreamInfo
-        ensures { result.now ≡ self.now.info }
+        ensures { result.now ≡ metadata_info self.now }
     {
         &self.info
     }
@@ -68,13 +71,13 @@ impl<R: Read> MetadataReader<R> {
     /// `Reader(OutOfMemory)` if an allocation fails.
     pub fn next_block(&mut self) -> Result<Option<Metadata>, FlacError>
         // If the bytes left are known, they decide the result, unless an allocation or the reader fails.
-        ensures meant { IfSome (bytes_left R.remaining self.old.input) (λ bytes.
-            IsUnlessFailure (block_left self.old.done bytes) result) }
+        ensures meant { IfSome (metadata_left R.remaining self.old) (λ bytes.
+            IsUnlessFailure (block_left (metadata_done self.old) bytes) result) }
         // The block is taken.
-        ensures left { IfSome (bytes_left R.remaining self.old.input) (λ bytes. IfOk result (λ block.
-            bytes_left R.remaining self.new.input ≡ Some (drop (block_size block) bytes))) }
-        ensures info { self.new.info ≡ self.old.info }
-        ensures done { IfOk result (λ block. self.new.done ≡ is_last block) }
+        ensures left { IfSome (metadata_left R.remaining self.old) (λ bytes. IfOk result (λ block.
+            metadata_left R.remaining self.new ≡ Some (drop (block_size block) bytes))) }
+        ensures info { metadata_info self.new ≡ metadata_info self.old }
+        ensures done { IfOk result (λ block. metadata_done self.new ≡ is_last block) }
     {
         if self.done {
             return Ok(None);
@@ -92,18 +95,18 @@ impl<R: Read> MetadataReader<R> {
     /// The errors of [`next_block`](MetadataReader::next_block).
     pub fn fetch_block(&mut self) -> Result<Option<Metadata>, FlacError>
         // If the bytes left are known, they decide the result, as in `next_block`, unless an allocation or the reader fails.
-        ensures meant { IfSome (bytes_left R.remaining self.old.input) (λ bytes.
-            IsUnlessFailure (block_left self.old.done bytes) result) }
+        ensures meant { IfSome (metadata_left R.remaining self.old) (λ bytes.
+            IsUnlessFailure (block_left (metadata_done self.old) bytes) result) }
         // After the last block nothing fails.
-        ensures none { self.old.done ≡ true → result ≡ Ok None }
+        ensures none { metadata_done self.old ≡ true → result ≡ Ok None }
         // If the bytes left are known, they stay the same, also after an error.
-        ensures left { Keeps (bytes_left R.remaining self.old.input) (bytes_left R.remaining self.new.input) }
-        ensures info { self.new.info ≡ self.old.info }
-        ensures done { self.new.done ≡ self.old.done }
-        ensures within { IfOk result (λ block. block_size block ≤ length (fetched self.new.input)) }
+        ensures left { Keeps (metadata_left R.remaining self.old) (metadata_left R.remaining self.new) }
+        ensures info { metadata_info self.new ≡ metadata_info self.old }
+        ensures done { metadata_done self.new ≡ metadata_done self.old }
+        ensures within { IfOk result (λ block. block_size block ≤ length (metadata_fetched self.new)) }
         // The bytes that are there are no more than before, or than twice the block's and a piece.
         ensures most { IfOk result (λ block.
-            length (fetched self.new.input) ≤ max (length (fetched self.old.input)) (2 * block_size block + 16384)) }
+            length (metadata_fetched self.new) ≤ max (length (metadata_fetched self.old)) (2 * block_size block + 16384)) }
     {
         if self.done {
             return Ok(None);
@@ -114,7 +117,7 @@ impl<R: Read> MetadataReader<R> {
 
     /// Returns the bytes that were fetched after the last block that was taken.
     pub fn bytes(&self) -> &[u8]
-        ensures { result.now ≡ fetched self.now.input }
+        ensures { result.now ≡ metadata_fetched self.now }
     {
         self.input.bytes()
     }
@@ -128,10 +131,10 @@ impl<R: Read> MetadataReader<R> {
     where
         R: Drop,
         // If the bytes left are known, they decide the result, unless an allocation or the reader fails.
-        ensures meant { IfSome (bytes_left R.remaining self.input) (λ bytes. IsUnlessFailure
-            (with_left (after (frames_left self.done bytes) (λ frames. Ok (self.info, frames))))
-            (result_map (λ decoder. (decoder.info, bytes_left R.remaining decoder.input)) result)) }
-        ensures samples { IfOk result (λ decoder. decoder.samples ≡ 0) }
+        ensures meant { IfSome (metadata_left R.remaining self) (λ bytes. IsUnlessFailure
+            (with_left (after (frames_left (metadata_done self) bytes) (λ frames. Ok (metadata_info self, frames))))
+            (result_map (λ decoder. (decoder_info decoder, decoder_left R.remaining decoder)) result)) }
+        ensures samples { IfOk result (λ decoder. decoder_samples decoder ≡ 0) }
     {
         let MetadataReader {
             mut input,

@@ -1,4 +1,4 @@
-use Rattle.std.proofs.Common.{◌≡◌, ◌∙◌, ℕ, ap, subst}
+use Rattle.std.proofs.Common.{◌∙◌, ℕ, ap, subst}
 use Rattle.std.specs.Prelude.{map}
 use Rattle.flac_codec.specs.Channels.{channel_count}
 use Rattle.flac_codec.specs.Frame.{frame_at, IsFoundIn}
