@@ -2,7 +2,9 @@ pub mod AdtsFrame
 pub mod AdtsHeader
 pub mod Emulation
 pub mod Leb128
+pub mod OggHeader
 pub mod RiffChunk
 pub mod ScalingLists
 pub mod Summed
+pub mod TsHeader
 pub mod WavFormat

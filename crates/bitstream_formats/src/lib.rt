@@ -18,8 +18,10 @@
 //! - [`h265`]: H.265: the units of a byte stream, and its parameter sets
 //! - [`nal`]: NAL units and emulation prevention bytes, for H.264 and H.265
 //! - [`ogg`]: Ogg: pages and packets, and the first byte of a packet of Opus
+//! - [`ogg_header`]: the header of a page of Ogg, printed by `./format`
 //! - [`riff_chunk`] and [`wav_format`]: parts of WAV files, printed by `./format`
 //! - [`ts`]: MPEG transport streams: packets, the tables of programs, and the headers of PES packets
+//! - [`ts_header`]: the header of a packet of a transport stream, printed by `./format`
 //! - [`wav`]: WAV: the format of the samples, and the bytes before them
 #![tactic(auto)]
 
@@ -35,7 +37,9 @@ pub mod h264;
 pub mod h265;
 pub mod nal;
 pub mod ogg;
+pub mod ogg_header;
 pub mod riff_chunk;
 pub mod ts;
+pub mod ts_header;
 pub mod wav;
 pub mod wav_format;

@@ -4,20 +4,15 @@
 use crate::at::At;
 use crate::crc::crc_byte;
 use crate::element::{Element, Syntax};
+use crate::ogg_header::{OggHeader, OggHeaderError};
 use bitstream_io::{BE, BitRead, BitReadExt, Bits, Error, LE, SliceReader};
 
 /// The reasons that a page is not read.
 #[derive(Debug, Drop, thiserror::Error)]
 pub enum OggError {
-    /// The bits were not read.
-    #[error("{0}")]
-    Reader(Error),
-    /// The page does not begin with `OggS`.
-    #[error("no page begins here")]
-    NoCapture,
-    /// The version of the page is not 0.
-    #[error("the version of the page is not 0")]
-    UnknownVersion,
+    /// The header was not read, or the bytes end before the page does.
+    #[error(transparent)]
+    Header(#[from] OggHeaderError),
     /// The checksum of the page differs from its bytes.
     #[error("the checksum of the page is wrong")]
     Checksum,
@@ -25,7 +20,7 @@ pub enum OggError {
 
 impl From<Error> for OggError {
     fn from(error: Error) -> OggError {
-        OggError::Reader(error)
+        OggError::Header(OggHeaderError::Reader(error))
     }
 }
 
@@ -84,30 +79,52 @@ fn read_page(
     elements: &mut Vec<Element>,
 ) -> Result<(), OggError> {
     let bytes = reader.rest();
+    let start = reader.bits_read();
+    let header = OggHeader::read(reader)?;
     let mut syntax = Syntax {
         reader,
         elements,
         index: None,
         start: 0,
     };
-    if syntax.number("capture_pattern", 32)? != 0x5367_674f {
-        return Err(OggError::NoCapture);
-    }
-    if syntax.number("version", 8)? != 0 {
-        return Err(OggError::UnknownVersion);
-    }
-    let goes_on = syntax.number("header_type", 8)? % 2 == 1;
-    syntax.wide("granule_position", 64)?;
-    syntax.number("bitstream_serial_number", 32)?;
-    syntax.number("page_sequence_number", 32)?;
-    let checksum = syntax.number("CRC_checksum", 32)?;
-    let segments = syntax.number("page_segments", 8)? as usize;
-    let laces = syntax.reader.take_bytes(segments)?;
-    read_packets(&mut syntax, laces, goes_on)?;
+    note_header(&mut syntax, start, &header)?;
+    let laces = syntax.reader.take_bytes(header.segments as usize)?;
+    read_packets(&mut syntax, laces, header.continued)?;
     let length = bytes.len().saturating_sub(syntax.reader.rest().len());
     let page = bytes.get(..length).unwrap_or(bytes);
-    if page_checksum(page) != checksum {
+    if page_checksum(page) != header.checksum {
         return Err(OggError::Checksum);
+    }
+    Ok(())
+}
+
+/// Notes the elements of a header that begins at some bit. The byte of flags is one element.
+fn note_header(
+    syntax: &mut Syntax<'_, '_, '_, LE>,
+    start: u64,
+    header: &OggHeader,
+) -> Result<(), Error> {
+    let flags = header.continued as u32
+        + 2 * header.first as u32
+        + 4 * header.last as u32
+        + 8 * header.unused as u32;
+    let elements = [
+        Some(("capture_pattern", 0x5367_674f)),
+        Some(("version", 0)),
+        Some(("header_type", flags as i64)),
+        None,
+        None,
+        None,
+        Some(("granule_position", header.granule.cast_signed())),
+        Some(("bitstream_serial_number", header.serial as i64)),
+        Some(("page_sequence_number", header.sequence as i64)),
+        Some(("CRC_checksum", header.checksum as i64)),
+        Some(("page_segments", header.segments as i64)),
+    ];
+    for (at, element) in OggHeader::PLACES.into_iter().zip(elements) {
+        if let Some((name, value)) = element {
+            syntax.note(start.saturating_add(at), name, value)?;
+        }
     }
     Ok(())
 }

@@ -3,6 +3,7 @@
 
 use crate::at::At;
 use crate::element::{Element, Syntax};
+use crate::ts_header::{TsHeader, TsHeaderError};
 use bitstream_io::{BE, Error, SliceReader};
 use std::alloc::Global;
 
@@ -21,9 +22,9 @@ pub enum TsError {
     /// The bits were not read: the contents of the packet or of a section do not fit in it.
     #[error("{0}")]
     Reader(Error),
-    /// The packet does not begin with 0x47.
-    #[error("no sync byte of a transport packet")]
-    NoSync,
+    /// The header of the packet was not read.
+    #[error(transparent)]
+    Header(#[from] TsHeaderError),
     /// A section of a table of programs has more bytes after its length than are allowed.
     #[error("the section has {0} bytes, and at most 1021 are allowed")]
     SectionTooLong(u32),
@@ -98,38 +99,47 @@ impl<'a> Packets<'a> {
 
 type Packet<'r, 'a, 'b> = Syntax<'r, 'a, 'b, BE>;
 
-/// The fields of a packet's header that reading its payload needs.
-#[derive(Clone, Copy)]
-struct Header {
-    id: u32,
-    // True if a PES packet or a section begins in the packet.
-    starts: bool,
-    counter: u32,
-    // True if the packet has a payload, which is not scrambled.
-    is_clear: bool,
+/// Returns true if a packet has a payload, which is not scrambled.
+fn is_clear(header: &TsHeader) -> bool {
+    header.payload && header.scrambling == 0
 }
 
 /// Reads the header of a packet, and its adaptation field.
-fn read_header(syntax: &mut Packet<'_, '_, '_>) -> Result<Header, TsError> {
-    if syntax.number("sync_byte", 8)? != 0x47 {
-        return Err(TsError::NoSync);
-    }
-    syntax.flag("transport_error_indicator")?;
-    let starts = syntax.flag("payload_unit_start_indicator")?;
-    syntax.flag("transport_priority")?;
-    let id = syntax.number("PID", 13)?;
-    let scrambled = syntax.number("transport_scrambling_control", 2)?;
-    let control = syntax.number("adaptation_field_control", 2)?;
-    let counter = syntax.number("continuity_counter", 4)?;
-    if control >= 2 {
+fn read_header(syntax: &mut Packet<'_, '_, '_>) -> Result<TsHeader, TsError> {
+    let start = syntax.place();
+    let header = TsHeader::read(&mut *syntax.reader)?;
+    note_header(syntax, start, &header)?;
+    if header.adapted {
         read_adaptation(syntax)?;
     }
-    Ok(Header {
-        id,
-        starts,
-        counter,
-        is_clear: control % 2 == 1 && scrambled == 0,
-    })
+    Ok(header)
+}
+
+/// Notes the elements of a header that begins at some bit. The two bits of the adaptation field and of the
+/// payload are one element.
+fn note_header(
+    syntax: &mut Packet<'_, '_, '_>,
+    start: u64,
+    header: &TsHeader,
+) -> Result<(), Error> {
+    let control = 2 * header.adapted as i64 + header.payload as i64;
+    let elements = [
+        Some(("sync_byte", 0x47)),
+        Some(("transport_error_indicator", header.damaged as i64)),
+        Some(("payload_unit_start_indicator", header.starts as i64)),
+        Some(("transport_priority", header.priority as i64)),
+        Some(("PID", header.pid as i64)),
+        Some(("transport_scrambling_control", header.scrambling as i64)),
+        Some(("adaptation_field_control", control)),
+        None,
+        Some(("continuity_counter", header.continuity as i64)),
+    ];
+    for (at, element) in TsHeader::PLACES.into_iter().zip(elements) {
+        if let Some((name, value)) = element {
+            syntax.note(start.saturating_add(at), name, value)?;
+        }
+    }
+    Ok(())
 }
 
 /// Reads an adaptation field.

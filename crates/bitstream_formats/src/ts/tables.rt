@@ -2,9 +2,10 @@
 
 use super::programs::read_section;
 use super::section::{Follows, Section};
-use super::{Header, PACKET, TsError, read_header, read_pes};
+use super::{PACKET, TsError, is_clear, read_header, read_pes};
 use crate::at::At;
 use crate::element::{Element, Syntax};
+use crate::ts_header::TsHeader;
 use bitstream_io::{BE, Error, SliceReader};
 use std::alloc::{AllocError, Global};
 
@@ -144,18 +145,18 @@ impl Tables {
     fn read_sections(
         &mut self,
         alloc: Global,
-        header: Header,
+        header: TsHeader,
         payload: Payload<'_>,
         elements: &mut Vec<Element>,
     ) -> Result<(), At<TsError>> {
         let place = payload.place;
-        let Ok(number) = self.number_of(alloc, header.id) else {
+        let Ok(number) = self.number_of(alloc, header.pid as u32) else {
             return Err(no_memory(place));
         };
         let Some(section) = self.sections.get_mut(number) else {
             return Ok(());
         };
-        let follows = section.follow(header.counter);
+        let follows = section.follow(header.continuity as u32);
         if follows == Follows::Copy {
             return Ok(());
         }
@@ -228,15 +229,15 @@ fn too_short(bit: u64) -> At<TsError> {
 fn read_contents(
     syntax: &mut Syntax<'_, '_, '_, BE>,
     tables: &Tables,
-) -> Result<Option<Header>, TsError> {
+) -> Result<Option<TsHeader>, TsError> {
     let header = read_header(syntax)?;
-    if !header.is_clear {
+    if !is_clear(&header) {
         return Ok(None);
     }
-    if tables.has(header.id) {
+    if tables.has(header.pid as u32) {
         return Ok(Some(header));
     }
-    if header.starts && (0x20..0x1fff).contains(&header.id) {
+    if header.starts && (0x20..0x1fff).contains(&(header.pid as u32)) {
         read_pes(syntax)?;
     }
     Ok(None)
