@@ -23,6 +23,7 @@ pub mod ReportBlockLemmas
 pub mod RtcpReceiverReportLemmas
 pub mod RtcpSenderReportLemmas
 pub mod SocksLoginLemmas
+pub mod StunHeaderLemmas
 pub mod TcpHeaderLemmas
 pub mod TsHeaderLemmas
 pub mod UdpHeaderLemmas
@@ -50,6 +51,7 @@ mod ReportBlockRows
 mod RtcpReceiverReportRows
 mod RtcpSenderReportRows
 mod SocksLoginRows
+mod StunHeaderRows
 mod TcpHeaderRows
 mod TsHeaderRows
 mod UdpHeaderRows

@@ -27,6 +27,7 @@ pub mod RtcpReceiverReportFields
 pub mod RtcpSenderReport
 pub mod SocksLogin
 pub mod SocksLoginFields
+pub mod StunHeader
 pub mod TcpHeader
 pub mod TsHeader
 pub mod UdpHeader

@@ -52,6 +52,7 @@ pub mod report_block;
 pub mod rtcp_receiver_report;
 pub mod rtcp_sender_report;
 pub mod socks_login;
+pub mod stun_header;
 pub mod tcp_header;
 pub mod ts_header;
 pub mod udp_header;

@@ -65,6 +65,33 @@ enum coap_header_status coap_header_pack(const struct coap_header *in, uint8_t *
     return (enum coap_header_status)packed.status;
 }
 
+const char *misfit_of_coap_header(const struct coap_header_head *value, const uint8_t *token_items, size_t token_length)
+{
+    (void)token_items;
+    if (value->kind > 3)
+        return "kind";
+    if (value->class_ > 7)
+        return "class";
+    if (value->detail > 31)
+        return "detail";
+    if (token_length > 15)
+        return "token";
+    return NULL;
+}
+
+const char *coap_header_misfit(const struct coap_header *in)
+{
+    struct coap_header_head head;
+    if (!in || (!in->token.items && in->token.length))
+        return NULL;
+    head.kind = in->kind;
+    head.class_ = in->class_;
+    head.detail = in->detail;
+    head.id = in->id;
+    head.token = in->token.length;
+    return misfit_of_coap_header(&head, in->token.items, in->token.length);
+}
+
 const char *coap_header_status_text(enum coap_header_status status)
 {
     switch (status) {

@@ -96,6 +96,10 @@ enum coap_header_status coap_header_parse(const uint8_t *bytes, size_t length, s
 enum coap_header_status coap_header_pack(
     const struct coap_header *in, uint8_t *buffer, size_t length, size_t *written);
 
+/* Returns the name of the first field whose value the format does not allow, for which a pack returns
+ * COAP_HEADER_DOES_NOT_FIT, or null if there is none or a pointer is null. It is not proved. */
+const char *coap_header_misfit(const struct coap_header *in);
+
 #ifdef __cplusplus
 }
 #endif

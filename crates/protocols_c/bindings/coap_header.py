@@ -134,6 +134,9 @@ class CoapHeader:
         while status == 2:
             buffer = ctypes.create_string_buffer(2 * len(buffer))
             status = library.coap_header_pack(ctypes.byref(fields), buffer, len(buffer), ctypes.byref(written))
+        if status == 3:
+            name = library.coap_header_misfit(ctypes.byref(fields)).decode()
+            raise DoesNotFit(f"{name}: the format does not allow this value")
         if status:
             raise _ERRORS[status]()
         return buffer.raw[: written.value]
@@ -174,3 +177,5 @@ library.coap_header_pack.argtypes = [
     ctypes.POINTER(ctypes.c_size_t),
 ]
 library.coap_header_pack.restype = ctypes.c_int
+library.coap_header_misfit.argtypes = [ctypes.POINTER(_C)]
+library.coap_header_misfit.restype = ctypes.c_char_p

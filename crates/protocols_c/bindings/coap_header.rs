@@ -73,8 +73,8 @@ pub enum CoapError {
     EndOfInput,
     /// The buffer is too short.
     NoRoom,
-    /// A field has a value that the format does not allow.
-    DoesNotFit,
+    /// The field of this name has a value that the format does not allow.
+    DoesNotFit(&'static str),
     /// The version is not 1.
     OtherVersion,
 }
@@ -84,8 +84,10 @@ impl core::fmt::Display for CoapError {
         f.write_str(match self {
             CoapError::EndOfInput => "the bytes end before the fields do",
             CoapError::NoRoom => "the buffer is too short",
-            CoapError::DoesNotFit => "a field has a value that the format does not allow",
             CoapError::OtherVersion => "the version is not 1",
+            CoapError::DoesNotFit(field) => {
+                return write!(f, "`{field}` has a value that the format does not allow")
+            }
         })
     }
 }
@@ -95,10 +97,9 @@ impl core::error::Error for CoapError {}
 fn done(status: i32) -> Result<(), CoapError> {
     match status {
         0 => Ok(()),
-        1 => Err(CoapError::EndOfInput),
         2 => Err(CoapError::NoRoom),
         6 => Err(CoapError::OtherVersion),
-        _ => Err(CoapError::DoesNotFit),
+        _ => Err(CoapError::EndOfInput),
     }
 }
 
@@ -132,9 +133,9 @@ impl CoapHeaderC {
         }
     }
 
-    pub(crate) fn fields(&self, token_items: Vec<u8>) -> Option<CoapHeader> {
-        Some(CoapHeader {
-            kind: Message::of(self.kind)?,
+    pub(crate) fn fields(&self, token_items: Vec<u8>) -> Result<CoapHeader, &'static str> {
+        Ok(CoapHeader {
+            kind: Message::of(self.kind).ok_or("kind")?,
             class: self.class,
             detail: self.detail,
             id: self.id,
@@ -159,6 +160,20 @@ struct Packed {
 extern "C" {
     fn proved_coap_header_parse(bytes: *const u8, length: usize, token_items: *mut u8, token_count: usize) -> Parsed;
     fn proved_coap_header_pack(value: &CoapHeaderC, token_items: *const u8, token_count: usize, buffer: *mut u8, length: usize) -> Packed;
+    fn misfit_of_coap_header(value: &CoapHeaderC, token_items: *const u8, token_count: usize) -> *const core::ffi::c_char;
+}
+
+/// Returns the name of a field of C, or an empty text if there is none.
+///
+/// # Safety
+///
+/// `name` is null or a text that stays as it is.
+unsafe fn named(name: *const core::ffi::c_char) -> &'static str {
+    if name.is_null() {
+        return "";
+    }
+    // SAFETY: as above.
+    unsafe { core::ffi::CStr::from_ptr(name) }.to_str().unwrap_or_default()
 }
 
 // The layout that the proved functions have.
@@ -184,7 +199,7 @@ impl CoapHeader {
                     done(status)?;
                     token_items.truncate(parsed.value.token);
                     let fields = parsed.value.fields(token_items).map(|it| (it, parsed.taken));
-                    return fields.ok_or(CoapError::DoesNotFit);
+                    return fields.map_err(CoapError::DoesNotFit);
                 }
             }
         }
@@ -202,6 +217,10 @@ impl CoapHeader {
         let value = CoapHeaderC::new(self);
         // SAFETY: the pointer and the length are a slice's, which is borrowed mutably.
         let packed = unsafe { proved_coap_header_pack(&value, self.token.as_ptr(), self.token.len(), buffer.as_mut_ptr(), buffer.len()) };
+        if packed.status == 3 {
+            // SAFETY: as above; the name is null or a constant of the library.
+            return Err(CoapError::DoesNotFit(unsafe { named(misfit_of_coap_header(&value, self.token.as_ptr(), self.token.len())) }));
+        }
         done(packed.status)?;
         Ok(packed.written)
     }

@@ -44,6 +44,21 @@ enum ethernet_header_status ethernet_header_pack(const struct ethernet_header *i
     return (enum ethernet_header_status)packed.status;
 }
 
+const char *ethernet_header_misfit(const struct ethernet_header *value)
+{
+    if (!value)
+        return NULL;
+    if (value->has_tag != (value->kind == 33024))
+        return "tag";
+    if (value->has_tag) {
+        if (value->tag.priority > 7)
+            return "tag.priority";
+        if (value->tag.vlan > 4095)
+            return "tag.vlan";
+    }
+    return NULL;
+}
+
 const char *ethernet_header_status_text(enum ethernet_header_status status)
 {
     switch (status) {

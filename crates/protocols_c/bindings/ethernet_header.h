@@ -82,6 +82,10 @@ enum ethernet_header_status ethernet_header_parse(const uint8_t *bytes, size_t l
 enum ethernet_header_status ethernet_header_pack(
     const struct ethernet_header *in, uint8_t *buffer, size_t length, size_t *written);
 
+/* Returns the name of the first field whose value the format does not allow, for which a pack returns
+ * ETHERNET_HEADER_DOES_NOT_FIT, or null if there is none or a pointer is null. It is not proved. */
+const char *ethernet_header_misfit(const struct ethernet_header *in);
+
 #ifdef __cplusplus
 }
 #endif

@@ -117,6 +117,9 @@ class EthernetHeader:
         while status == 2:
             buffer = ctypes.create_string_buffer(2 * len(buffer))
             status = library.ethernet_header_pack(ctypes.byref(fields), buffer, len(buffer), ctypes.byref(written))
+        if status == 3:
+            name = library.ethernet_header_misfit(ctypes.byref(fields)).decode()
+            raise DoesNotFit(f"{name}: the format does not allow this value")
         if status:
             raise _ERRORS[status]()
         return buffer.raw[: written.value]
@@ -156,3 +159,5 @@ library.ethernet_header_pack.argtypes = [
     ctypes.POINTER(ctypes.c_size_t),
 ]
 library.ethernet_header_pack.restype = ctypes.c_int
+library.ethernet_header_misfit.argtypes = [ctypes.POINTER(_C)]
+library.ethernet_header_misfit.restype = ctypes.c_char_p

@@ -81,8 +81,8 @@ pub enum EthernetHeaderError {
     EndOfInput,
     /// The buffer is too short.
     NoRoom,
-    /// A field has a value that the format does not allow.
-    DoesNotFit,
+    /// The field of this name has a value that the format does not allow.
+    DoesNotFit(&'static str),
 }
 
 impl core::fmt::Display for EthernetHeaderError {
@@ -90,7 +90,9 @@ impl core::fmt::Display for EthernetHeaderError {
         f.write_str(match self {
             EthernetHeaderError::EndOfInput => "the bytes end before the fields do",
             EthernetHeaderError::NoRoom => "the buffer is too short",
-            EthernetHeaderError::DoesNotFit => "a field has a value that the format does not allow",
+            EthernetHeaderError::DoesNotFit(field) => {
+                return write!(f, "`{field}` has a value that the format does not allow")
+            }
         })
     }
 }
@@ -100,9 +102,8 @@ impl core::error::Error for EthernetHeaderError {}
 fn done(status: i32) -> Result<(), EthernetHeaderError> {
     match status {
         0 => Ok(()),
-        1 => Err(EthernetHeaderError::EndOfInput),
         2 => Err(EthernetHeaderError::NoRoom),
-        _ => Err(EthernetHeaderError::DoesNotFit),
+        _ => Err(EthernetHeaderError::EndOfInput),
     }
 }
 
@@ -136,11 +137,11 @@ impl EthernetHeaderC {
         }
     }
 
-    pub(crate) fn fields(&self) -> Option<EthernetHeader> {
-        Some(EthernetHeader {
+    pub(crate) fn fields(&self) -> Result<EthernetHeader, &'static str> {
+        Ok(EthernetHeader {
             target: self.target,
             source: self.source,
-            kind: EtherType::of(self.kind)?,
+            kind: EtherType::of(self.kind).ok_or("kind")?,
             tag: if self.has_tag == 0 { None } else { Some(self.tag.fields()?) },
         })
     }
@@ -162,6 +163,20 @@ struct Packed {
 extern "C" {
     fn proved_ethernet_header_parse(bytes: *const u8, length: usize) -> Parsed;
     fn proved_ethernet_header_pack(value: &EthernetHeaderC, buffer: *mut u8, length: usize) -> Packed;
+    fn ethernet_header_misfit(value: &EthernetHeaderC) -> *const core::ffi::c_char;
+}
+
+/// Returns the name of a field of C, or an empty text if there is none.
+///
+/// # Safety
+///
+/// `name` is null or a text that stays as it is.
+unsafe fn named(name: *const core::ffi::c_char) -> &'static str {
+    if name.is_null() {
+        return "";
+    }
+    // SAFETY: as above.
+    unsafe { core::ffi::CStr::from_ptr(name) }.to_str().unwrap_or_default()
 }
 
 // The layout that the proved functions have.
@@ -180,7 +195,7 @@ impl EthernetHeader {
         let parsed = unsafe { proved_ethernet_header_parse(bytes.as_ptr(), bytes.len()) };
         done(parsed.status)?;
         let fields = parsed.value.fields().map(|it| (it, parsed.taken));
-        fields.ok_or(EthernetHeaderError::DoesNotFit)
+        fields.map_err(EthernetHeaderError::DoesNotFit)
     }
 
     /// Writes the fields to the first bytes of a buffer, and zeros up to a whole byte, and returns
@@ -195,6 +210,10 @@ impl EthernetHeader {
         let value = EthernetHeaderC::new(self);
         // SAFETY: the pointer and the length are a slice's, which is borrowed mutably.
         let packed = unsafe { proved_ethernet_header_pack(&value, buffer.as_mut_ptr(), buffer.len()) };
+        if packed.status == 3 {
+            // SAFETY: as above; the name is null or a constant of the library.
+            return Err(EthernetHeaderError::DoesNotFit(unsafe { named(ethernet_header_misfit(&value)) }));
+        }
         done(packed.status)?;
         Ok(packed.written)
     }

@@ -39,6 +39,12 @@ enum icmp_gateway_status icmp_gateway_pack(const struct icmp_gateway *in, uint8_
     return (enum icmp_gateway_status)packed.status;
 }
 
+const char *icmp_gateway_misfit(const struct icmp_gateway *value)
+{
+    (void)value;
+    return NULL;
+}
+
 const char *icmp_gateway_status_text(enum icmp_gateway_status status)
 {
     switch (status) {

@@ -58,6 +58,10 @@ enum icmp_gateway_status icmp_gateway_parse(const uint8_t *bytes, size_t length,
 enum icmp_gateway_status icmp_gateway_pack(
     const struct icmp_gateway *in, uint8_t *buffer, size_t length, size_t *written);
 
+/* Returns the name of the first field whose value the format does not allow, for which a pack returns
+ * ICMP_GATEWAY_DOES_NOT_FIT, or null if there is none or a pointer is null. It is not proved. */
+const char *icmp_gateway_misfit(const struct icmp_gateway *in);
+
 #ifdef __cplusplus
 }
 #endif

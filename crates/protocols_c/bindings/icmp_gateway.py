@@ -83,6 +83,9 @@ class IcmpGateway:
             raise DoesNotFit(str(it)) from None
         buffer, written = ctypes.create_string_buffer(self.SIZE), ctypes.c_size_t()
         status = library.icmp_gateway_pack(ctypes.byref(fields), buffer, len(buffer), ctypes.byref(written))
+        if status == 3:
+            name = library.icmp_gateway_misfit(ctypes.byref(fields)).decode()
+            raise DoesNotFit(f"{name}: the format does not allow this value")
         if status:
             raise _ERRORS[status]()
         return buffer.raw[: written.value]
@@ -110,3 +113,5 @@ library.icmp_gateway_pack.argtypes = [
     ctypes.POINTER(ctypes.c_size_t),
 ]
 library.icmp_gateway_pack.restype = ctypes.c_int
+library.icmp_gateway_misfit.argtypes = [ctypes.POINTER(_C)]
+library.icmp_gateway_misfit.restype = ctypes.c_char_p

@@ -24,8 +24,8 @@ pub enum IcmpGatewayError {
     EndOfInput,
     /// The buffer is too short.
     NoRoom,
-    /// A field has a value that the format does not allow.
-    DoesNotFit,
+    /// The field of this name has a value that the format does not allow.
+    DoesNotFit(&'static str),
 }
 
 impl core::fmt::Display for IcmpGatewayError {
@@ -33,7 +33,9 @@ impl core::fmt::Display for IcmpGatewayError {
         f.write_str(match self {
             IcmpGatewayError::EndOfInput => "the bytes end before the fields do",
             IcmpGatewayError::NoRoom => "the buffer is too short",
-            IcmpGatewayError::DoesNotFit => "a field has a value that the format does not allow",
+            IcmpGatewayError::DoesNotFit(field) => {
+                return write!(f, "`{field}` has a value that the format does not allow")
+            }
         })
     }
 }
@@ -43,9 +45,8 @@ impl core::error::Error for IcmpGatewayError {}
 fn done(status: i32) -> Result<(), IcmpGatewayError> {
     match status {
         0 => Ok(()),
-        1 => Err(IcmpGatewayError::EndOfInput),
         2 => Err(IcmpGatewayError::NoRoom),
-        _ => Err(IcmpGatewayError::DoesNotFit),
+        _ => Err(IcmpGatewayError::EndOfInput),
     }
 }
 
@@ -67,8 +68,8 @@ impl IcmpGatewayC {
         }
     }
 
-    pub(crate) fn fields(&self) -> Option<IcmpGateway> {
-        Some(IcmpGateway {
+    pub(crate) fn fields(&self) -> Result<IcmpGateway, &'static str> {
+        Ok(IcmpGateway {
             address: self.address,
         })
     }
@@ -89,6 +90,20 @@ struct Packed {
 extern "C" {
     fn proved_icmp_gateway_parse(bytes: *const u8, length: usize) -> Parsed;
     fn proved_icmp_gateway_pack(value: &IcmpGatewayC, buffer: *mut u8, length: usize) -> Packed;
+    fn icmp_gateway_misfit(value: &IcmpGatewayC) -> *const core::ffi::c_char;
+}
+
+/// Returns the name of a field of C, or an empty text if there is none.
+///
+/// # Safety
+///
+/// `name` is null or a text that stays as it is.
+unsafe fn named(name: *const core::ffi::c_char) -> &'static str {
+    if name.is_null() {
+        return "";
+    }
+    // SAFETY: as above.
+    unsafe { core::ffi::CStr::from_ptr(name) }.to_str().unwrap_or_default()
 }
 
 // The layout that the proved functions have.
@@ -108,7 +123,7 @@ impl IcmpGateway {
         // SAFETY: the pointer and the length are a slice's.
         let parsed = unsafe { proved_icmp_gateway_parse(bytes.as_ptr(), bytes.len()) };
         done(parsed.status)?;
-        parsed.value.fields().ok_or(IcmpGatewayError::DoesNotFit)
+        parsed.value.fields().map_err(IcmpGatewayError::DoesNotFit)
     }
 
     /// Writes the fields to the first 4 bytes of a buffer, and returns 4. The other bytes stay as
@@ -122,6 +137,10 @@ impl IcmpGateway {
         let value = IcmpGatewayC::new(self);
         // SAFETY: the pointer and the length are a slice's, which is borrowed mutably.
         let packed = unsafe { proved_icmp_gateway_pack(&value, buffer.as_mut_ptr(), buffer.len()) };
+        if packed.status == 3 {
+            // SAFETY: as above; the name is null or a constant of the library.
+            return Err(IcmpGatewayError::DoesNotFit(unsafe { named(icmp_gateway_misfit(&value)) }));
+        }
         done(packed.status)?;
         Ok(packed.written)
     }

@@ -94,6 +94,43 @@ enum icmp_header_status icmp_header_pack(const struct icmp_header *in, uint8_t *
     return (enum icmp_header_status)packed.status;
 }
 
+const char *misfit_of_icmp_header(const struct icmp_header_head *value)
+{
+    if (value->body_case > 3)
+        return "body";
+    if (value->body_case == 3) {
+        if (value->body_other == 0 || value->body_other == 5 || value->body_other == 8)
+            return "body";
+    }
+    return NULL;
+}
+
+const char *icmp_header_misfit(const struct icmp_header *in)
+{
+    struct icmp_header_head head;
+    if (!in)
+        return NULL;
+    memset(&head, 0, sizeof head);
+    head.code = in->code;
+    head.checksum = in->checksum;
+    head.body_case = (uint32_t)in->body.which;
+    switch (in->body.which) {
+    case ICMP_HEADER_BODY_ECHO_REPLY:
+        head.body_echo_reply = in->body.as.echo_reply;
+        break;
+    case ICMP_HEADER_BODY_REDIRECT:
+        head.body_redirect = in->body.as.redirect;
+        break;
+    case ICMP_HEADER_BODY_ECHO:
+        head.body_echo = in->body.as.echo;
+        break;
+    case ICMP_HEADER_BODY_OTHER:
+        head.body_other = in->body.as.other;
+        break;
+    }
+    return misfit_of_icmp_header(&head);
+}
+
 const char *icmp_header_status_text(enum icmp_header_status status)
 {
     switch (status) {

@@ -93,6 +93,10 @@ enum icmp_header_status icmp_header_parse(const uint8_t *bytes, size_t length, s
 enum icmp_header_status icmp_header_pack(
     const struct icmp_header *in, uint8_t *buffer, size_t length, size_t *written);
 
+/* Returns the name of the first field whose value the format does not allow, for which a pack returns
+ * ICMP_HEADER_DOES_NOT_FIT, or null if there is none or a pointer is null. It is not proved. */
+const char *icmp_header_misfit(const struct icmp_header *in);
+
 #ifdef __cplusplus
 }
 #endif

@@ -49,8 +49,8 @@ pub enum IcmpHeaderError {
     EndOfInput,
     /// The buffer is too short.
     NoRoom,
-    /// A field has a value that the format does not allow.
-    DoesNotFit,
+    /// The field of this name has a value that the format does not allow.
+    DoesNotFit(&'static str),
 }
 
 impl core::fmt::Display for IcmpHeaderError {
@@ -58,7 +58,9 @@ impl core::fmt::Display for IcmpHeaderError {
         f.write_str(match self {
             IcmpHeaderError::EndOfInput => "the bytes end before the fields do",
             IcmpHeaderError::NoRoom => "the buffer is too short",
-            IcmpHeaderError::DoesNotFit => "a field has a value that the format does not allow",
+            IcmpHeaderError::DoesNotFit(field) => {
+                return write!(f, "`{field}` has a value that the format does not allow")
+            }
         })
     }
 }
@@ -68,9 +70,8 @@ impl core::error::Error for IcmpHeaderError {}
 fn done(status: i32) -> Result<(), IcmpHeaderError> {
     match status {
         0 => Ok(()),
-        1 => Err(IcmpHeaderError::EndOfInput),
         2 => Err(IcmpHeaderError::NoRoom),
-        _ => Err(IcmpHeaderError::DoesNotFit),
+        _ => Err(IcmpHeaderError::EndOfInput),
     }
 }
 
@@ -115,8 +116,8 @@ impl IcmpHeaderC {
         }
     }
 
-    pub(crate) fn fields(&self) -> Option<IcmpHeader> {
-        Some(IcmpHeader {
+    pub(crate) fn fields(&self) -> Result<IcmpHeader, &'static str> {
+        Ok(IcmpHeader {
             code: self.code,
             checksum: self.checksum,
             body: match self.body_case {
@@ -124,7 +125,7 @@ impl IcmpHeaderC {
                 1 => Body::Redirect(self.body_redirect.fields()?),
                 2 => Body::Echo(self.body_echo.fields()?),
                 3 => Body::Other(self.body_other),
-                _ => return None,
+                _ => return Err("body"),
             },
         })
     }
@@ -146,6 +147,20 @@ struct Packed {
 extern "C" {
     fn proved_icmp_header_parse(bytes: *const u8, length: usize) -> Parsed;
     fn proved_icmp_header_pack(value: &IcmpHeaderC, buffer: *mut u8, length: usize) -> Packed;
+    fn misfit_of_icmp_header(value: &IcmpHeaderC) -> *const core::ffi::c_char;
+}
+
+/// Returns the name of a field of C, or an empty text if there is none.
+///
+/// # Safety
+///
+/// `name` is null or a text that stays as it is.
+unsafe fn named(name: *const core::ffi::c_char) -> &'static str {
+    if name.is_null() {
+        return "";
+    }
+    // SAFETY: as above.
+    unsafe { core::ffi::CStr::from_ptr(name) }.to_str().unwrap_or_default()
 }
 
 // The layout that the proved functions have.
@@ -164,7 +179,7 @@ impl IcmpHeader {
         let parsed = unsafe { proved_icmp_header_parse(bytes.as_ptr(), bytes.len()) };
         done(parsed.status)?;
         let fields = parsed.value.fields().map(|it| (it, parsed.taken));
-        fields.ok_or(IcmpHeaderError::DoesNotFit)
+        fields.map_err(IcmpHeaderError::DoesNotFit)
     }
 
     /// Writes the fields to the first bytes of a buffer, and zeros up to a whole byte, and returns
@@ -179,6 +194,10 @@ impl IcmpHeader {
         let value = IcmpHeaderC::new(self);
         // SAFETY: the pointer and the length are a slice's, which is borrowed mutably.
         let packed = unsafe { proved_icmp_header_pack(&value, buffer.as_mut_ptr(), buffer.len()) };
+        if packed.status == 3 {
+            // SAFETY: as above; the name is null or a constant of the library.
+            return Err(IcmpHeaderError::DoesNotFit(unsafe { named(misfit_of_icmp_header(&value)) }));
+        }
         done(packed.status)?;
         Ok(packed.written)
     }

@@ -39,6 +39,12 @@ enum icmp_ids_status icmp_ids_pack(const struct icmp_ids *in, uint8_t *buffer, s
     return (enum icmp_ids_status)packed.status;
 }
 
+const char *icmp_ids_misfit(const struct icmp_ids *value)
+{
+    (void)value;
+    return NULL;
+}
+
 const char *icmp_ids_status_text(enum icmp_ids_status status)
 {
     switch (status) {

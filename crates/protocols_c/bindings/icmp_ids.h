@@ -60,6 +60,10 @@ enum icmp_ids_status icmp_ids_parse(const uint8_t *bytes, size_t length, struct 
 enum icmp_ids_status icmp_ids_pack(
     const struct icmp_ids *in, uint8_t *buffer, size_t length, size_t *written);
 
+/* Returns the name of the first field whose value the format does not allow, for which a pack returns
+ * ICMP_IDS_DOES_NOT_FIT, or null if there is none or a pointer is null. It is not proved. */
+const char *icmp_ids_misfit(const struct icmp_ids *in);
+
 #ifdef __cplusplus
 }
 #endif

@@ -86,6 +86,9 @@ class IcmpIds:
             raise DoesNotFit(str(it)) from None
         buffer, written = ctypes.create_string_buffer(self.SIZE), ctypes.c_size_t()
         status = library.icmp_ids_pack(ctypes.byref(fields), buffer, len(buffer), ctypes.byref(written))
+        if status == 3:
+            name = library.icmp_ids_misfit(ctypes.byref(fields)).decode()
+            raise DoesNotFit(f"{name}: the format does not allow this value")
         if status:
             raise _ERRORS[status]()
         return buffer.raw[: written.value]
@@ -115,3 +118,5 @@ library.icmp_ids_pack.argtypes = [
     ctypes.POINTER(ctypes.c_size_t),
 ]
 library.icmp_ids_pack.restype = ctypes.c_int
+library.icmp_ids_misfit.argtypes = [ctypes.POINTER(_C)]
+library.icmp_ids_misfit.restype = ctypes.c_char_p

@@ -26,8 +26,8 @@ pub enum IcmpIdsError {
     EndOfInput,
     /// The buffer is too short.
     NoRoom,
-    /// A field has a value that the format does not allow.
-    DoesNotFit,
+    /// The field of this name has a value that the format does not allow.
+    DoesNotFit(&'static str),
 }
 
 impl core::fmt::Display for IcmpIdsError {
@@ -35,7 +35,9 @@ impl core::fmt::Display for IcmpIdsError {
         f.write_str(match self {
             IcmpIdsError::EndOfInput => "the bytes end before the fields do",
             IcmpIdsError::NoRoom => "the buffer is too short",
-            IcmpIdsError::DoesNotFit => "a field has a value that the format does not allow",
+            IcmpIdsError::DoesNotFit(field) => {
+                return write!(f, "`{field}` has a value that the format does not allow")
+            }
         })
     }
 }
@@ -45,9 +47,8 @@ impl core::error::Error for IcmpIdsError {}
 fn done(status: i32) -> Result<(), IcmpIdsError> {
     match status {
         0 => Ok(()),
-        1 => Err(IcmpIdsError::EndOfInput),
         2 => Err(IcmpIdsError::NoRoom),
-        _ => Err(IcmpIdsError::DoesNotFit),
+        _ => Err(IcmpIdsError::EndOfInput),
     }
 }
 
@@ -72,8 +73,8 @@ impl IcmpIdsC {
         }
     }
 
-    pub(crate) fn fields(&self) -> Option<IcmpIds> {
-        Some(IcmpIds {
+    pub(crate) fn fields(&self) -> Result<IcmpIds, &'static str> {
+        Ok(IcmpIds {
             identifier: self.identifier,
             sequence: self.sequence,
         })
@@ -95,6 +96,20 @@ struct Packed {
 extern "C" {
     fn proved_icmp_ids_parse(bytes: *const u8, length: usize) -> Parsed;
     fn proved_icmp_ids_pack(value: &IcmpIdsC, buffer: *mut u8, length: usize) -> Packed;
+    fn icmp_ids_misfit(value: &IcmpIdsC) -> *const core::ffi::c_char;
+}
+
+/// Returns the name of a field of C, or an empty text if there is none.
+///
+/// # Safety
+///
+/// `name` is null or a text that stays as it is.
+unsafe fn named(name: *const core::ffi::c_char) -> &'static str {
+    if name.is_null() {
+        return "";
+    }
+    // SAFETY: as above.
+    unsafe { core::ffi::CStr::from_ptr(name) }.to_str().unwrap_or_default()
 }
 
 // The layout that the proved functions have.
@@ -114,7 +129,7 @@ impl IcmpIds {
         // SAFETY: the pointer and the length are a slice's.
         let parsed = unsafe { proved_icmp_ids_parse(bytes.as_ptr(), bytes.len()) };
         done(parsed.status)?;
-        parsed.value.fields().ok_or(IcmpIdsError::DoesNotFit)
+        parsed.value.fields().map_err(IcmpIdsError::DoesNotFit)
     }
 
     /// Writes the fields to the first 4 bytes of a buffer, and returns 4. The other bytes stay as
@@ -128,6 +143,10 @@ impl IcmpIds {
         let value = IcmpIdsC::new(self);
         // SAFETY: the pointer and the length are a slice's, which is borrowed mutably.
         let packed = unsafe { proved_icmp_ids_pack(&value, buffer.as_mut_ptr(), buffer.len()) };
+        if packed.status == 3 {
+            // SAFETY: as above; the name is null or a constant of the library.
+            return Err(IcmpIdsError::DoesNotFit(unsafe { named(icmp_ids_misfit(&value)) }));
+        }
         done(packed.status)?;
         Ok(packed.written)
     }

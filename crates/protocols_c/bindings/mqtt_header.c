@@ -44,6 +44,17 @@ enum mqtt_header_status mqtt_header_pack(const struct mqtt_header *in, uint8_t *
     return (enum mqtt_header_status)packed.status;
 }
 
+const char *mqtt_header_misfit(const struct mqtt_header *value)
+{
+    if (!value)
+        return NULL;
+    if (!(value->kind >= 1 && value->kind <= 15))
+        return "kind";
+    if (value->quality > 3)
+        return "quality";
+    return NULL;
+}
+
 const char *mqtt_header_status_text(enum mqtt_header_status status)
 {
     switch (status) {

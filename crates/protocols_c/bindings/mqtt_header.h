@@ -92,6 +92,10 @@ enum mqtt_header_status mqtt_header_parse(const uint8_t *bytes, size_t length, s
 enum mqtt_header_status mqtt_header_pack(
     const struct mqtt_header *in, uint8_t *buffer, size_t length, size_t *written);
 
+/* Returns the name of the first field whose value the format does not allow, for which a pack returns
+ * MQTT_HEADER_DOES_NOT_FIT, or null if there is none or a pointer is null. It is not proved. */
+const char *mqtt_header_misfit(const struct mqtt_header *in);
+
 #ifdef __cplusplus
 }
 #endif

@@ -138,6 +138,9 @@ class MqttHeader:
         while status == 2:
             buffer = ctypes.create_string_buffer(2 * len(buffer))
             status = library.mqtt_header_pack(ctypes.byref(fields), buffer, len(buffer), ctypes.byref(written))
+        if status == 3:
+            name = library.mqtt_header_misfit(ctypes.byref(fields)).decode()
+            raise DoesNotFit(f"{name}: the format does not allow this value")
         if status:
             raise _ERRORS[status]()
         return buffer.raw[: written.value]
@@ -178,3 +181,5 @@ library.mqtt_header_pack.argtypes = [
     ctypes.POINTER(ctypes.c_size_t),
 ]
 library.mqtt_header_pack.restype = ctypes.c_int
+library.mqtt_header_misfit.argtypes = [ctypes.POINTER(_C)]
+library.mqtt_header_misfit.restype = ctypes.c_char_p

@@ -117,8 +117,8 @@ pub enum MqttError {
     EndOfInput,
     /// The buffer is too short.
     NoRoom,
-    /// A field has a value that the format does not allow.
-    DoesNotFit,
+    /// The field of this name has a value that the format does not allow.
+    DoesNotFit(&'static str),
     /// A number of variable width is too large, or ends in a group of 0 behind others.
     BadNumber,
     /// `kind` is not the number of a case of `Packet`.
@@ -130,9 +130,11 @@ impl core::fmt::Display for MqttError {
         f.write_str(match self {
             MqttError::EndOfInput => "the bytes end before the fields do",
             MqttError::NoRoom => "the buffer is too short",
-            MqttError::DoesNotFit => "a field has a value that the format does not allow",
             MqttError::BadNumber => "a number of variable width is too large, or ends in a group of 0 behind others",
             MqttError::NoPacket => "`kind` is not the number of a case of `Packet`",
+            MqttError::DoesNotFit(field) => {
+                return write!(f, "`{field}` has a value that the format does not allow")
+            }
         })
     }
 }
@@ -142,11 +144,10 @@ impl core::error::Error for MqttError {}
 fn done(status: i32) -> Result<(), MqttError> {
     match status {
         0 => Ok(()),
-        1 => Err(MqttError::EndOfInput),
         2 => Err(MqttError::NoRoom),
         5 => Err(MqttError::BadNumber),
         6 => Err(MqttError::NoPacket),
-        _ => Err(MqttError::DoesNotFit),
+        _ => Err(MqttError::EndOfInput),
     }
 }
 
@@ -180,9 +181,9 @@ impl MqttHeaderC {
         }
     }
 
-    pub(crate) fn fields(&self) -> Option<MqttHeader> {
-        Some(MqttHeader {
-            kind: Packet::of(self.kind)?,
+    pub(crate) fn fields(&self) -> Result<MqttHeader, &'static str> {
+        Ok(MqttHeader {
+            kind: Packet::of(self.kind).ok_or("kind")?,
             again: self.again != 0,
             quality: self.quality,
             retain: self.retain != 0,
@@ -207,6 +208,20 @@ struct Packed {
 extern "C" {
     fn proved_mqtt_header_parse(bytes: *const u8, length: usize) -> Parsed;
     fn proved_mqtt_header_pack(value: &MqttHeaderC, buffer: *mut u8, length: usize) -> Packed;
+    fn mqtt_header_misfit(value: &MqttHeaderC) -> *const core::ffi::c_char;
+}
+
+/// Returns the name of a field of C, or an empty text if there is none.
+///
+/// # Safety
+///
+/// `name` is null or a text that stays as it is.
+unsafe fn named(name: *const core::ffi::c_char) -> &'static str {
+    if name.is_null() {
+        return "";
+    }
+    // SAFETY: as above.
+    unsafe { core::ffi::CStr::from_ptr(name) }.to_str().unwrap_or_default()
 }
 
 // The layout that the proved functions have.
@@ -226,7 +241,7 @@ impl MqttHeader {
         let parsed = unsafe { proved_mqtt_header_parse(bytes.as_ptr(), bytes.len()) };
         done(parsed.status)?;
         let fields = parsed.value.fields().map(|it| (it, parsed.taken));
-        fields.ok_or(MqttError::DoesNotFit)
+        fields.map_err(MqttError::DoesNotFit)
     }
 
     /// Writes the fields to the first bytes of a buffer, and zeros up to a whole byte, and returns
@@ -241,6 +256,10 @@ impl MqttHeader {
         let value = MqttHeaderC::new(self);
         // SAFETY: the pointer and the length are a slice's, which is borrowed mutably.
         let packed = unsafe { proved_mqtt_header_pack(&value, buffer.as_mut_ptr(), buffer.len()) };
+        if packed.status == 3 {
+            // SAFETY: as above; the name is null or a constant of the library.
+            return Err(MqttError::DoesNotFit(unsafe { named(mqtt_header_misfit(&value)) }));
+        }
         done(packed.status)?;
         Ok(packed.written)
     }

@@ -39,6 +39,15 @@ enum report_block_status report_block_pack(const struct report_block *in, uint8_
     return (enum report_block_status)packed.status;
 }
 
+const char *report_block_misfit(const struct report_block *value)
+{
+    if (!value)
+        return NULL;
+    if (value->lost < -8388608 || value->lost > 8388607)
+        return "lost";
+    return NULL;
+}
+
 const char *report_block_status_text(enum report_block_status status)
 {
     switch (status) {

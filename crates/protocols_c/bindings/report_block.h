@@ -80,6 +80,10 @@ enum report_block_status report_block_parse(const uint8_t *bytes, size_t length,
 enum report_block_status report_block_pack(
     const struct report_block *in, uint8_t *buffer, size_t length, size_t *written);
 
+/* Returns the name of the first field whose value the format does not allow, for which a pack returns
+ * REPORT_BLOCK_DOES_NOT_FIT, or null if there is none or a pointer is null. It is not proved. */
+const char *report_block_misfit(const struct report_block *in);
+
 #ifdef __cplusplus
 }
 #endif

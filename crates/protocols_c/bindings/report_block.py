@@ -111,6 +111,9 @@ class ReportBlock:
             raise DoesNotFit(str(it)) from None
         buffer, written = ctypes.create_string_buffer(self.SIZE), ctypes.c_size_t()
         status = library.report_block_pack(ctypes.byref(fields), buffer, len(buffer), ctypes.byref(written))
+        if status == 3:
+            name = library.report_block_misfit(ctypes.byref(fields)).decode()
+            raise DoesNotFit(f"{name}: the format does not allow this value")
         if status:
             raise _ERRORS[status]()
         return buffer.raw[: written.value]
@@ -150,3 +153,5 @@ library.report_block_pack.argtypes = [
     ctypes.POINTER(ctypes.c_size_t),
 ]
 library.report_block_pack.restype = ctypes.c_int
+library.report_block_misfit.argtypes = [ctypes.POINTER(_C)]
+library.report_block_misfit.restype = ctypes.c_char_p

@@ -46,8 +46,8 @@ pub enum ReportBlockError {
     EndOfInput,
     /// The buffer is too short.
     NoRoom,
-    /// A field has a value that the format does not allow.
-    DoesNotFit,
+    /// The field of this name has a value that the format does not allow.
+    DoesNotFit(&'static str),
 }
 
 impl core::fmt::Display for ReportBlockError {
@@ -55,7 +55,9 @@ impl core::fmt::Display for ReportBlockError {
         f.write_str(match self {
             ReportBlockError::EndOfInput => "the bytes end before the fields do",
             ReportBlockError::NoRoom => "the buffer is too short",
-            ReportBlockError::DoesNotFit => "a field has a value that the format does not allow",
+            ReportBlockError::DoesNotFit(field) => {
+                return write!(f, "`{field}` has a value that the format does not allow")
+            }
         })
     }
 }
@@ -65,9 +67,8 @@ impl core::error::Error for ReportBlockError {}
 fn done(status: i32) -> Result<(), ReportBlockError> {
     match status {
         0 => Ok(()),
-        1 => Err(ReportBlockError::EndOfInput),
         2 => Err(ReportBlockError::NoRoom),
-        _ => Err(ReportBlockError::DoesNotFit),
+        _ => Err(ReportBlockError::EndOfInput),
     }
 }
 
@@ -107,8 +108,8 @@ impl ReportBlockC {
         }
     }
 
-    pub(crate) fn fields(&self) -> Option<ReportBlock> {
-        Some(ReportBlock {
+    pub(crate) fn fields(&self) -> Result<ReportBlock, &'static str> {
+        Ok(ReportBlock {
             ssrc: self.ssrc,
             fraction_lost: self.fraction_lost,
             lost: self.lost,
@@ -135,6 +136,20 @@ struct Packed {
 extern "C" {
     fn proved_report_block_parse(bytes: *const u8, length: usize) -> Parsed;
     fn proved_report_block_pack(value: &ReportBlockC, buffer: *mut u8, length: usize) -> Packed;
+    fn report_block_misfit(value: &ReportBlockC) -> *const core::ffi::c_char;
+}
+
+/// Returns the name of a field of C, or an empty text if there is none.
+///
+/// # Safety
+///
+/// `name` is null or a text that stays as it is.
+unsafe fn named(name: *const core::ffi::c_char) -> &'static str {
+    if name.is_null() {
+        return "";
+    }
+    // SAFETY: as above.
+    unsafe { core::ffi::CStr::from_ptr(name) }.to_str().unwrap_or_default()
 }
 
 // The layout that the proved functions have.
@@ -154,7 +169,7 @@ impl ReportBlock {
         // SAFETY: the pointer and the length are a slice's.
         let parsed = unsafe { proved_report_block_parse(bytes.as_ptr(), bytes.len()) };
         done(parsed.status)?;
-        parsed.value.fields().ok_or(ReportBlockError::DoesNotFit)
+        parsed.value.fields().map_err(ReportBlockError::DoesNotFit)
     }
 
     /// Writes the fields to the first 24 bytes of a buffer, and returns 24. The other bytes stay as
@@ -168,6 +183,10 @@ impl ReportBlock {
         let value = ReportBlockC::new(self);
         // SAFETY: the pointer and the length are a slice's, which is borrowed mutably.
         let packed = unsafe { proved_report_block_pack(&value, buffer.as_mut_ptr(), buffer.len()) };
+        if packed.status == 3 {
+            // SAFETY: as above; the name is null or a constant of the library.
+            return Err(ReportBlockError::DoesNotFit(unsafe { named(report_block_misfit(&value)) }));
+        }
         done(packed.status)?;
         Ok(packed.written)
     }

@@ -62,6 +62,30 @@ enum rtcp_receiver_report_status rtcp_receiver_report_pack(const struct rtcp_rec
     return (enum rtcp_receiver_report_status)packed.status;
 }
 
+const char *misfit_of_rtcp_receiver_report(const struct rtcp_receiver_report_head *value, const struct report_block *reports_items, size_t reports_length)
+{
+    (void)value;
+    if (reports_length > 31)
+        return "reports";
+    for (size_t i = 0; i < reports_length; i++) {
+        if (reports_items[i].lost < -8388608 || reports_items[i].lost > 8388607)
+            return "reports.lost";
+    }
+    return NULL;
+}
+
+const char *rtcp_receiver_report_misfit(const struct rtcp_receiver_report *in)
+{
+    struct rtcp_receiver_report_head head;
+    if (!in || (!in->reports.items && in->reports.length))
+        return NULL;
+    head.padding = in->padding;
+    head.length = in->length;
+    head.ssrc = in->ssrc;
+    head.reports = in->reports.length;
+    return misfit_of_rtcp_receiver_report(&head, in->reports.items, in->reports.length);
+}
+
 const char *rtcp_receiver_report_status_text(enum rtcp_receiver_report_status status)
 {
     switch (status) {

@@ -91,6 +91,10 @@ enum rtcp_receiver_report_status rtcp_receiver_report_parse(const uint8_t *bytes
 enum rtcp_receiver_report_status rtcp_receiver_report_pack(
     const struct rtcp_receiver_report *in, uint8_t *buffer, size_t length, size_t *written);
 
+/* Returns the name of the first field whose value the format does not allow, for which a pack returns
+ * RTCP_RECEIVER_REPORT_DOES_NOT_FIT, or null if there is none or a pointer is null. It is not proved. */
+const char *rtcp_receiver_report_misfit(const struct rtcp_receiver_report *in);
+
 #ifdef __cplusplus
 }
 #endif

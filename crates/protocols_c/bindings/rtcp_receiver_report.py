@@ -133,6 +133,9 @@ class RtcpReceiverReport:
         while status == 2:
             buffer = ctypes.create_string_buffer(2 * len(buffer))
             status = library.rtcp_receiver_report_pack(ctypes.byref(fields), buffer, len(buffer), ctypes.byref(written))
+        if status == 3:
+            name = library.rtcp_receiver_report_misfit(ctypes.byref(fields)).decode()
+            raise DoesNotFit(f"{name}: the format does not allow this value")
         if status:
             raise _ERRORS[status]()
         return buffer.raw[: written.value]
@@ -171,3 +174,5 @@ library.rtcp_receiver_report_pack.argtypes = [
     ctypes.POINTER(ctypes.c_size_t),
 ]
 library.rtcp_receiver_report_pack.restype = ctypes.c_int
+library.rtcp_receiver_report_misfit.argtypes = [ctypes.POINTER(_C)]
+library.rtcp_receiver_report_misfit.restype = ctypes.c_char_p

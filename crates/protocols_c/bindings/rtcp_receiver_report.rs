@@ -39,8 +39,8 @@ pub enum ReceiverReportError {
     EndOfInput,
     /// The buffer is too short.
     NoRoom,
-    /// A field has a value that the format does not allow.
-    DoesNotFit,
+    /// The field of this name has a value that the format does not allow.
+    DoesNotFit(&'static str),
     /// The version is not 2.
     OtherVersion,
     /// The packet is no receiver report.
@@ -52,9 +52,11 @@ impl core::fmt::Display for ReceiverReportError {
         f.write_str(match self {
             ReceiverReportError::EndOfInput => "the bytes end before the fields do",
             ReceiverReportError::NoRoom => "the buffer is too short",
-            ReceiverReportError::DoesNotFit => "a field has a value that the format does not allow",
             ReceiverReportError::OtherVersion => "the version is not 2",
             ReceiverReportError::OtherPacket => "the packet is no receiver report",
+            ReceiverReportError::DoesNotFit(field) => {
+                return write!(f, "`{field}` has a value that the format does not allow")
+            }
         })
     }
 }
@@ -64,11 +66,10 @@ impl core::error::Error for ReceiverReportError {}
 fn done(status: i32) -> Result<(), ReceiverReportError> {
     match status {
         0 => Ok(()),
-        1 => Err(ReceiverReportError::EndOfInput),
         2 => Err(ReceiverReportError::NoRoom),
         6 => Err(ReceiverReportError::OtherVersion),
         7 => Err(ReceiverReportError::OtherPacket),
-        _ => Err(ReceiverReportError::DoesNotFit),
+        _ => Err(ReceiverReportError::EndOfInput),
     }
 }
 
@@ -99,12 +100,12 @@ impl RtcpReceiverReportC {
         }
     }
 
-    pub(crate) fn fields(&self, reports_items: Vec<ReportBlockC>) -> Option<RtcpReceiverReport> {
-        Some(RtcpReceiverReport {
+    pub(crate) fn fields(&self, reports_items: Vec<ReportBlockC>) -> Result<RtcpReceiverReport, &'static str> {
+        Ok(RtcpReceiverReport {
             padding: self.padding != 0,
             length: self.length,
             ssrc: self.ssrc,
-            reports: reports_items.iter().map(ReportBlockC::fields).collect::<Option<Vec<_>>>()?,
+            reports: reports_items.iter().map(ReportBlockC::fields).collect::<Result<Vec<_>, _>>()?,
         })
     }
 }
@@ -125,6 +126,20 @@ struct Packed {
 extern "C" {
     fn proved_rtcp_receiver_report_parse(bytes: *const u8, length: usize, reports_items: *mut ReportBlockC, reports_count: usize) -> Parsed;
     fn proved_rtcp_receiver_report_pack(value: &RtcpReceiverReportC, reports_items: *const ReportBlockC, reports_count: usize, buffer: *mut u8, length: usize) -> Packed;
+    fn misfit_of_rtcp_receiver_report(value: &RtcpReceiverReportC, reports_items: *const ReportBlockC, reports_count: usize) -> *const core::ffi::c_char;
+}
+
+/// Returns the name of a field of C, or an empty text if there is none.
+///
+/// # Safety
+///
+/// `name` is null or a text that stays as it is.
+unsafe fn named(name: *const core::ffi::c_char) -> &'static str {
+    if name.is_null() {
+        return "";
+    }
+    // SAFETY: as above.
+    unsafe { core::ffi::CStr::from_ptr(name) }.to_str().unwrap_or_default()
 }
 
 // The layout that the proved functions have.
@@ -150,7 +165,7 @@ impl RtcpReceiverReport {
                     done(status)?;
                     reports_items.truncate(parsed.value.reports);
                     let fields = parsed.value.fields(reports_items).map(|it| (it, parsed.taken));
-                    return fields.ok_or(ReceiverReportError::DoesNotFit);
+                    return fields.map_err(ReceiverReportError::DoesNotFit);
                 }
             }
         }
@@ -169,6 +184,10 @@ impl RtcpReceiverReport {
         let reports_items: Vec<ReportBlockC> = self.reports.iter().map(ReportBlockC::new).collect();
         // SAFETY: the pointer and the length are a slice's, which is borrowed mutably.
         let packed = unsafe { proved_rtcp_receiver_report_pack(&value, reports_items.as_ptr(), reports_items.len(), buffer.as_mut_ptr(), buffer.len()) };
+        if packed.status == 3 {
+            // SAFETY: as above; the name is null or a constant of the library.
+            return Err(ReceiverReportError::DoesNotFit(unsafe { named(misfit_of_rtcp_receiver_report(&value, reports_items.as_ptr(), reports_items.len())) }));
+        }
         done(packed.status)?;
         Ok(packed.written)
     }

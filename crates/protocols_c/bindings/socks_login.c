@@ -56,6 +56,28 @@ enum socks_login_status socks_login_pack(const struct socks_login *in, uint8_t *
     return (enum socks_login_status)packed.status;
 }
 
+const char *misfit_of_socks_login(const struct socks_login_head *value, const uint8_t *name_items, size_t name_length, const uint8_t *password_items, size_t password_length)
+{
+    (void)value;
+    (void)name_items;
+    (void)password_items;
+    if (name_length > 255)
+        return "name";
+    if (password_length > 255)
+        return "password";
+    return NULL;
+}
+
+const char *socks_login_misfit(const struct socks_login *in)
+{
+    struct socks_login_head head;
+    if (!in || (!in->name.items && in->name.length) || (!in->password.items && in->password.length))
+        return NULL;
+    head.name = in->name.length;
+    head.password = in->password.length;
+    return misfit_of_socks_login(&head, in->name.items, in->name.length, in->password.items, in->password.length);
+}
+
 const char *socks_login_status_text(enum socks_login_status status)
 {
     switch (status) {

@@ -98,6 +98,10 @@ enum socks_login_status socks_login_parse(const uint8_t *bytes, size_t length, s
 enum socks_login_status socks_login_pack(
     const struct socks_login *in, uint8_t *buffer, size_t length, size_t *written);
 
+/* Returns the name of the first field whose value the format does not allow, for which a pack returns
+ * SOCKS_LOGIN_DOES_NOT_FIT, or null if there is none or a pointer is null. It is not proved. */
+const char *socks_login_misfit(const struct socks_login *in);
+
 #ifdef __cplusplus
 }
 #endif

@@ -134,6 +134,9 @@ class SocksLogin:
         while status == 2:
             buffer = ctypes.create_string_buffer(2 * len(buffer))
             status = library.socks_login_pack(ctypes.byref(fields), buffer, len(buffer), ctypes.byref(written))
+        if status == 3:
+            name = library.socks_login_misfit(ctypes.byref(fields)).decode()
+            raise DoesNotFit(f"{name}: the format does not allow this value")
         if status:
             raise _ERRORS[status]()
         return buffer.raw[: written.value]
@@ -168,3 +171,5 @@ library.socks_login_pack.argtypes = [
     ctypes.POINTER(ctypes.c_size_t),
 ]
 library.socks_login_pack.restype = ctypes.c_int
+library.socks_login_misfit.argtypes = [ctypes.POINTER(_C)]
+library.socks_login_misfit.restype = ctypes.c_char_p

@@ -36,8 +36,8 @@ pub enum SocksLoginError {
     EndOfInput,
     /// The buffer is too short.
     NoRoom,
-    /// A field has a value that the format does not allow.
-    DoesNotFit,
+    /// The field of this name has a value that the format does not allow.
+    DoesNotFit(&'static str),
     /// The version of this message is not 1.
     OtherVersion,
 }
@@ -47,8 +47,10 @@ impl core::fmt::Display for SocksLoginError {
         f.write_str(match self {
             SocksLoginError::EndOfInput => "the bytes end before the fields do",
             SocksLoginError::NoRoom => "the buffer is too short",
-            SocksLoginError::DoesNotFit => "a field has a value that the format does not allow",
             SocksLoginError::OtherVersion => "the version of this message is not 1",
+            SocksLoginError::DoesNotFit(field) => {
+                return write!(f, "`{field}` has a value that the format does not allow")
+            }
         })
     }
 }
@@ -58,10 +60,9 @@ impl core::error::Error for SocksLoginError {}
 fn done(status: i32) -> Result<(), SocksLoginError> {
     match status {
         0 => Ok(()),
-        1 => Err(SocksLoginError::EndOfInput),
         2 => Err(SocksLoginError::NoRoom),
         7 => Err(SocksLoginError::OtherVersion),
-        _ => Err(SocksLoginError::DoesNotFit),
+        _ => Err(SocksLoginError::EndOfInput),
     }
 }
 
@@ -86,8 +87,8 @@ impl SocksLoginC {
         }
     }
 
-    pub(crate) fn fields(&self, name_items: Vec<u8>, password_items: Vec<u8>) -> Option<SocksLogin> {
-        Some(SocksLogin {
+    pub(crate) fn fields(&self, name_items: Vec<u8>, password_items: Vec<u8>) -> Result<SocksLogin, &'static str> {
+        Ok(SocksLogin {
             name: name_items,
             password: password_items,
         })
@@ -110,6 +111,20 @@ struct Packed {
 extern "C" {
     fn proved_socks_login_parse(bytes: *const u8, length: usize, name_items: *mut u8, name_count: usize, password_items: *mut u8, password_count: usize) -> Parsed;
     fn proved_socks_login_pack(value: &SocksLoginC, name_items: *const u8, name_count: usize, password_items: *const u8, password_count: usize, buffer: *mut u8, length: usize) -> Packed;
+    fn misfit_of_socks_login(value: &SocksLoginC, name_items: *const u8, name_count: usize, password_items: *const u8, password_count: usize) -> *const core::ffi::c_char;
+}
+
+/// Returns the name of a field of C, or an empty text if there is none.
+///
+/// # Safety
+///
+/// `name` is null or a text that stays as it is.
+unsafe fn named(name: *const core::ffi::c_char) -> &'static str {
+    if name.is_null() {
+        return "";
+    }
+    // SAFETY: as above.
+    unsafe { core::ffi::CStr::from_ptr(name) }.to_str().unwrap_or_default()
 }
 
 // The layout that the proved functions have.
@@ -138,7 +153,7 @@ impl SocksLogin {
                     name_items.truncate(parsed.value.name);
                     password_items.truncate(parsed.value.password);
                     let fields = parsed.value.fields(name_items, password_items).map(|it| (it, parsed.taken));
-                    return fields.ok_or(SocksLoginError::DoesNotFit);
+                    return fields.map_err(SocksLoginError::DoesNotFit);
                 }
             }
         }
@@ -156,6 +171,10 @@ impl SocksLogin {
         let value = SocksLoginC::new(self);
         // SAFETY: the pointer and the length are a slice's, which is borrowed mutably.
         let packed = unsafe { proved_socks_login_pack(&value, self.name.as_ptr(), self.name.len(), self.password.as_ptr(), self.password.len(), buffer.as_mut_ptr(), buffer.len()) };
+        if packed.status == 3 {
+            // SAFETY: as above; the name is null or a constant of the library.
+            return Err(SocksLoginError::DoesNotFit(unsafe { named(misfit_of_socks_login(&value, self.name.as_ptr(), self.name.len(), self.password.as_ptr(), self.password.len())) }));
+        }
         done(packed.status)?;
         Ok(packed.written)
     }

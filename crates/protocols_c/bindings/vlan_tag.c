@@ -39,6 +39,17 @@ enum vlan_tag_status vlan_tag_pack(const struct vlan_tag *in, uint8_t *buffer, s
     return (enum vlan_tag_status)packed.status;
 }
 
+const char *vlan_tag_misfit(const struct vlan_tag *value)
+{
+    if (!value)
+        return NULL;
+    if (value->priority > 7)
+        return "priority";
+    if (value->vlan > 4095)
+        return "vlan";
+    return NULL;
+}
+
 const char *vlan_tag_status_text(enum vlan_tag_status status)
 {
     switch (status) {

@@ -64,6 +64,10 @@ enum vlan_tag_status vlan_tag_parse(const uint8_t *bytes, size_t length, struct 
 enum vlan_tag_status vlan_tag_pack(
     const struct vlan_tag *in, uint8_t *buffer, size_t length, size_t *written);
 
+/* Returns the name of the first field whose value the format does not allow, for which a pack returns
+ * VLAN_TAG_DOES_NOT_FIT, or null if there is none or a pointer is null. It is not proved. */
+const char *vlan_tag_misfit(const struct vlan_tag *in);
+
 #ifdef __cplusplus
 }
 #endif

@@ -92,6 +92,9 @@ class VlanTag:
             raise DoesNotFit(str(it)) from None
         buffer, written = ctypes.create_string_buffer(self.SIZE), ctypes.c_size_t()
         status = library.vlan_tag_pack(ctypes.byref(fields), buffer, len(buffer), ctypes.byref(written))
+        if status == 3:
+            name = library.vlan_tag_misfit(ctypes.byref(fields)).decode()
+            raise DoesNotFit(f"{name}: the format does not allow this value")
         if status:
             raise _ERRORS[status]()
         return buffer.raw[: written.value]
@@ -125,3 +128,5 @@ library.vlan_tag_pack.argtypes = [
     ctypes.POINTER(ctypes.c_size_t),
 ]
 library.vlan_tag_pack.restype = ctypes.c_int
+library.vlan_tag_misfit.argtypes = [ctypes.POINTER(_C)]
+library.vlan_tag_misfit.restype = ctypes.c_char_p

@@ -30,8 +30,8 @@ pub enum VlanTagError {
     EndOfInput,
     /// The buffer is too short.
     NoRoom,
-    /// A field has a value that the format does not allow.
-    DoesNotFit,
+    /// The field of this name has a value that the format does not allow.
+    DoesNotFit(&'static str),
 }
 
 impl core::fmt::Display for VlanTagError {
@@ -39,7 +39,9 @@ impl core::fmt::Display for VlanTagError {
         f.write_str(match self {
             VlanTagError::EndOfInput => "the bytes end before the fields do",
             VlanTagError::NoRoom => "the buffer is too short",
-            VlanTagError::DoesNotFit => "a field has a value that the format does not allow",
+            VlanTagError::DoesNotFit(field) => {
+                return write!(f, "`{field}` has a value that the format does not allow")
+            }
         })
     }
 }
@@ -49,9 +51,8 @@ impl core::error::Error for VlanTagError {}
 fn done(status: i32) -> Result<(), VlanTagError> {
     match status {
         0 => Ok(()),
-        1 => Err(VlanTagError::EndOfInput),
         2 => Err(VlanTagError::NoRoom),
-        _ => Err(VlanTagError::DoesNotFit),
+        _ => Err(VlanTagError::EndOfInput),
     }
 }
 
@@ -82,8 +83,8 @@ impl VlanTagC {
         }
     }
 
-    pub(crate) fn fields(&self) -> Option<VlanTag> {
-        Some(VlanTag {
+    pub(crate) fn fields(&self) -> Result<VlanTag, &'static str> {
+        Ok(VlanTag {
             priority: self.priority,
             drop_eligible: self.drop_eligible != 0,
             vlan: self.vlan,
@@ -107,6 +108,20 @@ struct Packed {
 extern "C" {
     fn proved_vlan_tag_parse(bytes: *const u8, length: usize) -> Parsed;
     fn proved_vlan_tag_pack(value: &VlanTagC, buffer: *mut u8, length: usize) -> Packed;
+    fn vlan_tag_misfit(value: &VlanTagC) -> *const core::ffi::c_char;
+}
+
+/// Returns the name of a field of C, or an empty text if there is none.
+///
+/// # Safety
+///
+/// `name` is null or a text that stays as it is.
+unsafe fn named(name: *const core::ffi::c_char) -> &'static str {
+    if name.is_null() {
+        return "";
+    }
+    // SAFETY: as above.
+    unsafe { core::ffi::CStr::from_ptr(name) }.to_str().unwrap_or_default()
 }
 
 // The layout that the proved functions have.
@@ -126,7 +141,7 @@ impl VlanTag {
         // SAFETY: the pointer and the length are a slice's.
         let parsed = unsafe { proved_vlan_tag_parse(bytes.as_ptr(), bytes.len()) };
         done(parsed.status)?;
-        parsed.value.fields().ok_or(VlanTagError::DoesNotFit)
+        parsed.value.fields().map_err(VlanTagError::DoesNotFit)
     }
 
     /// Writes the fields to the first 4 bytes of a buffer, and returns 4. The other bytes stay as
@@ -140,6 +155,10 @@ impl VlanTag {
         let value = VlanTagC::new(self);
         // SAFETY: the pointer and the length are a slice's, which is borrowed mutably.
         let packed = unsafe { proved_vlan_tag_pack(&value, buffer.as_mut_ptr(), buffer.len()) };
+        if packed.status == 3 {
+            // SAFETY: as above; the name is null or a constant of the library.
+            return Err(VlanTagError::DoesNotFit(unsafe { named(vlan_tag_misfit(&value)) }));
+        }
         done(packed.status)?;
         Ok(packed.written)
     }

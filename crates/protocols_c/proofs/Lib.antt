@@ -10,5 +10,6 @@ pub mod ReportBlockLemmas
 pub mod RtcpReceiverReportLemmas
 pub mod SharedLemmas
 pub mod SocksLoginLemmas
+pub mod StunHeaderLemmas
 pub mod VariedLemmas
 pub mod VlanTagLemmas

@@ -10,5 +10,6 @@ pub mod ReportBlock
 pub mod RtcpReceiverReport
 pub mod Shared
 pub mod SocksLogin
+pub mod StunHeader
 pub mod Varied
 pub mod VlanTag

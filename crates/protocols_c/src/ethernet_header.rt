@@ -54,7 +54,7 @@ impl EthernetHeaderC {
             target: value.target,
             source: value.source,
             kind: value.kind.number(),
-            has_tag: has_vlan_tag(&value.tag),
+            has_tag: vlan_tag_flag(&value.tag),
             tag: vlan_tag_or_zero(&value.tag),
         }
     }
@@ -98,7 +98,7 @@ fn all_bytes(items: &[u8]) -> bool
 }
 
 /// Returns 1 if there is a `VlanTag`, and 0 if there is none.
-fn has_vlan_tag(value: &Option<VlanTag>) -> u8
+fn vlan_tag_flag(value: &Option<VlanTag>) -> u8
     ensures { result ≡ ethernet_header_has_vlan_tag value.now }
 {
     match value {

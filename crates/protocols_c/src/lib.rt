@@ -14,4 +14,5 @@ mod rtcp_receiver_report;
 mod shared;
 mod socks_login;
 mod status;
+mod stun_header;
 mod vlan_tag;

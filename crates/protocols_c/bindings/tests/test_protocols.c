@@ -6,6 +6,7 @@
 #include "mqtt_header.h"
 #include "rtcp_receiver_report.h"
 #include "socks_login.h"
+#include "stun_header.h"
 
 #include <stdio.h>
 #include <stdlib.h>
@@ -491,6 +492,40 @@ static void random_socks(void)
         packs(socks_pack, &it, b, 3 + it.name.length + it.password.length, it.name.length < 256);
 }
 
+/* ---- STUN, with two constants */
+
+static int stun_pack(const void *it, uint8_t *buffer, size_t length, size_t *written)
+{
+    return stun_header_pack(it, buffer, length, written);
+}
+
+/* Parses bytes, and packs their fields again. */
+static void stun_parses(const uint8_t *bytes, size_t length)
+{
+    struct stun_header it, before;
+    uint8_t *part = block(bytes, length);
+    int is_cookie = length > 7 && !memcmp(bytes + 4, "\x21\x12\xA4\x42", 4);
+    int status = length && bytes[0] > 63 ? STUN_HEADER_NO_STUN
+        : length > 7 && !is_cookie       ? STUN_HEADER_NO_COOKIE
+        : length < STUN_HEADER_SIZE      ? STUN_HEADER_END_OF_INPUT
+                                         : STUN_HEADER_OK;
+    memset(&it, 0xA5, sizeof it);
+    memcpy(&before, &it, sizeof it);
+    HOLDS((int)stun_header_parse(part, length, &it) == status);
+    calls++;
+    if (status)
+        HOLDS(!memcmp(&it, &before, sizeof it));
+    else {
+        HOLDS(it.kind == (bytes[0] << 8 | bytes[1]) && it.length == (bytes[2] << 8 | bytes[3]));
+        HOLDS(!memcmp(it.id, bytes + 8, 12) && !stun_header_misfit(&it));
+        packs(stun_pack, &it, bytes, STUN_HEADER_SIZE, 1);
+        it.kind |= 1 << 14;
+        packs(stun_pack, &it, bytes, STUN_HEADER_SIZE, 0);
+        HOLDS(!strcmp(stun_header_misfit(&it), "kind"));
+    }
+    free(part);
+}
+
 /* ---- RTCP, with a list of parts */
 
 static int rtcp_pack(const void *it, uint8_t *buffer, size_t length, size_t *written)
@@ -711,8 +746,10 @@ int main(void)
                 coap_parses(bytes, part);
             else if (line[0] == 'i')
                 icmp_parses(bytes, part);
-            else if (line[0] == 's')
+            else if (!strncmp(line, "socks", 5))
                 socks_parses(bytes, part);
+            else if (!strncmp(line, "stun", 4))
+                stun_parses(bytes, part);
             else if (!strncmp(line, "rtcp", 4))
                 rtcp_parses(bytes, part);
             else if (!strncmp(line, "report", 6))
@@ -746,6 +783,9 @@ int main(void)
         packet[0] = (uint8_t)(k % 8 ? 0x80 | (packet[0] & 0x23) : packet[0]);
         packet[1] = k % 8 == 1 ? packet[1] : 201;
         rtcp_parses(packet, next() % (sizeof packet + 1));
+        packet[0] &= k % 8 ? 63 : 255;
+        memcpy(packet + 4, "\x21\x12\xA4\x42", k % 4 ? 4 : 3);
+        stun_parses(packet, next() % 24);
         block_parses(packet, next() % 2 ? 24 : next() % 30);
         for (int i = 0; i < 10; i++)
             random_rtcp(i == 0);

@@ -7,7 +7,7 @@ import sys
 from typing import Callable
 
 from protocols import coap_header, ethernet_header, icmp_header, mqtt_header, report_block, rtcp_receiver_report
-from protocols import socks_login
+from protocols import socks_login, stun_header
 from protocols.coap_header import CoapHeader, Message
 from protocols.ethernet_header import EthernetHeader, EtherType
 from protocols.icmp_gateway import IcmpGateway
@@ -17,6 +17,7 @@ from protocols.mqtt_header import MqttHeader, Packet
 from protocols.report_block import ReportBlock
 from protocols.rtcp_receiver_report import RtcpReceiverReport
 from protocols.socks_login import SocksLogin
+from protocols.stun_header import StunHeader
 from protocols.vlan_tag import VlanTag
 
 calls = 0
@@ -34,7 +35,7 @@ def parsed(parse: Callable[[bytes], tuple[object, int]], data: bytes) -> Answer:
 
 
 def packed(
-    it: CoapHeader | MqttHeader | EthernetHeader | IcmpHeader | RtcpReceiverReport | SocksLogin,
+    it: CoapHeader | MqttHeader | EthernetHeader | IcmpHeader | RtcpReceiverReport | SocksLogin | StunHeader,
 ) -> bytes | type[ValueError]:
     """Returns the bytes, or the class of the exception."""
     global calls
@@ -115,6 +116,17 @@ def socks_fields(b: bytes) -> Answer:
     return SocksLogin(b[2:second], b[second + 1 : size]), size
 
 
+def stun_fields(b: bytes) -> Answer:
+    """Returns what a parse of the header of STUN is to return."""
+    if b and b[0] > 63:
+        return stun_header.NoStun
+    if len(b) > 7 and b[4:8] != b"\x21\x12\xa4\x42":
+        return stun_header.NoCookie
+    if len(b) < StunHeader.SIZE:
+        return stun_header.EndOfInput
+    return StunHeader(b[0] << 8 | b[1], b[2] << 8 | b[3], b[8:20]), StunHeader.SIZE
+
+
 def block_fields(b: bytes) -> ReportBlock:
     """Returns the fields of the bytes of a report block."""
     words = [int.from_bytes(b[k : k + 4], "big") for k in range(0, 24, 4)]
@@ -170,6 +182,11 @@ def check_messages(name: str, data: bytes) -> None:
         assert icmp == icmp_fields(data), data
         if isinstance(icmp, tuple) and isinstance(icmp[0], IcmpHeader):
             assert packed(icmp[0]) == data[: icmp[1]], data
+    if name == "stun_header":
+        stun = parsed(lambda it: (StunHeader.parse(it), StunHeader.SIZE), data)
+        assert stun == stun_fields(data), data
+        if isinstance(stun, tuple) and isinstance(stun[0], StunHeader):
+            assert packed(stun[0]) == data[: StunHeader.SIZE], data
     if name == "socks_login":
         found = parsed(SocksLogin.parse, data)
         assert found == socks_fields(data), data
@@ -293,6 +310,9 @@ for _ in range(10000):
     check_socks()
     head = bytes([random.getrandbits(2) | 0x80 | random.getrandbits(1) << 5, random.choice([201, 201, 201, 200])])
     check("rtcp_receiver_report", head + random.randbytes(random.randint(0, 79)))
+    cookie = random.choice([b"\x21\x12\xa4\x42", b"\x21\x12\xa4\x42", random.randbytes(4)])
+    message = bytes([random.choice([0, 1, 63, 64]), *random.randbytes(3), *cookie, *random.randbytes(14)])
+    check("stun_header", message[: random.randint(0, len(message))])
     check("report_block", random.randbytes(random.choice([24, 25, random.randint(0, 23)])))
     for _ in range(10):
         check_rtcp()
@@ -300,6 +320,10 @@ try:
     EthernetHeader(bytes(6), bytes(6), 0x8100, VlanTag(8, True, 1, 1)).pack()
 except ethernet_header.DoesNotFit as it:
     assert str(it) == "tag.priority: 8 is not from 0 to 7"
+try:
+    EthernetHeader(bytes(5), bytes(6), 0x8100, None).pack()
+except ethernet_header.DoesNotFit as it:
+    assert str(it) == "target: 5 bytes, and not 6"
 try:
     RtcpReceiverReport(False, 7, 5, [ReportBlock(1, 0, 2**23, 0, 0, 0, 0)]).pack()
 except rtcp_receiver_report.DoesNotFit as it:

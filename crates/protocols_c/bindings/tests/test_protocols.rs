@@ -10,6 +10,7 @@ use protocols::mqtt_header::{MqttError, MqttHeader, Packet};
 use protocols::report_block::{ReportBlock, ReportBlockError};
 use protocols::rtcp_receiver_report::{ReceiverReportError, RtcpReceiverReport};
 use protocols::socks_login::{SocksLogin, SocksLoginError};
+use protocols::stun_header::{StunHeader, StunHeaderError};
 use protocols::vlan_tag::VlanTag;
 use std::io::BufRead;
 
@@ -162,6 +163,22 @@ fn socks_wanted(b: &[u8]) -> Result<(SocksLogin, usize), SocksLoginError> {
     Ok((SocksLogin { name, password }, size))
 }
 
+/// What a parse of the header of STUN is to return.
+fn stun_wanted(b: &[u8]) -> Result<StunHeader, StunHeaderError> {
+    match b {
+        [64..=255, ..] => return Err(StunHeaderError::NoStun),
+        [_, _, _, _, 0x21, 0x12, 0xA4, 0x42, ..] => {}
+        [_, _, _, _, _, _, _, _, ..] => return Err(StunHeaderError::NoCookie),
+        _ => {}
+    }
+    let b = b.get(..20).ok_or(StunHeaderError::EndOfInput)?;
+    Ok(StunHeader {
+        kind: u16::from(b[0]) << 8 | u16::from(b[1]),
+        length: u16::from(b[2]) << 8 | u16::from(b[3]),
+        id: b[8..].try_into().unwrap(),
+    })
+}
+
 /// What a parse of a report block is to return.
 fn block_wanted(b: &[u8]) -> Result<ReportBlock, ReportBlockError> {
     let b = b.get(..24).ok_or(ReportBlockError::EndOfInput)?;
@@ -279,6 +296,15 @@ fn parses(name: &str, bytes: &[u8]) -> u64 {
             1 + packs(|b| it.pack_into(b), Ok(&bytes[..size]), &ReceiverReportError::NoRoom)
         });
     }
+    if name == "stun_header" {
+        let found = StunHeader::parse(bytes);
+        assert_eq!(found, stun_wanted(bytes));
+        return found.map_or(1, |it| {
+            let other = StunHeader { kind: it.kind | 1 << 14, ..it };
+            1 + packs(|b| it.pack_into(b), Ok(&bytes[..20]), &StunHeaderError::NoRoom)
+                + packs(|b| other.pack_into(b), Err(StunHeaderError::DoesNotFit("kind")), &StunHeaderError::NoRoom)
+        });
+    }
     if name == "socks_login" {
         let found = SocksLogin::parse(bytes);
         assert_eq!(found, socks_wanted(bytes));
@@ -299,7 +325,7 @@ fn random_fields(random: &mut Random) -> u64 {
         remaining: (random.next() >> (32 + random.next() % 32)) as u32,
     };
     if it.quality > 3 {
-        return packs(|b| it.pack_into(b), Err(MqttError::DoesNotFit), &MqttError::NoRoom);
+        return packs(|b| it.pack_into(b), Err(MqttError::DoesNotFit("quality")), &MqttError::NoRoom);
     }
     let bytes = it.pack().unwrap();
     assert_eq!(bytes, mqtt_bytes(&it));
@@ -310,7 +336,7 @@ fn random_fields(random: &mut Random) -> u64 {
         kind: EtherType::Arp,
         tag: Some(VlanTag { priority: 0, drop_eligible: false, vlan: 1, kind: 2 }),
     };
-    assert_eq!(other.pack(), Err(EthernetHeaderError::DoesNotFit));
+    assert_eq!(other.pack(), Err(EthernetHeaderError::DoesNotFit("tag")));
     let message = CoapHeader {
         kind: Message::Reset,
         class: 7,
@@ -320,7 +346,7 @@ fn random_fields(random: &mut Random) -> u64 {
     };
     match message.pack() {
         Ok(bytes) => assert_eq!(CoapHeader::parse(&bytes), Ok((message, bytes.len()))),
-        Err(error) => assert!(error == CoapError::DoesNotFit && message.token.len() > 15),
+        Err(error) => assert!(error == CoapError::DoesNotFit("token") && message.token.len() > 15),
     }
     5 + random_messages(random)
 }
@@ -347,7 +373,10 @@ fn random_reports(random: &mut Random) -> u64 {
             assert!(fits && bytes == rtcp_bytes(&it));
             assert_eq!(RtcpReceiverReport::parse(&bytes), Ok((it, bytes.len())));
         }
-        Err(error) => assert!(error == ReceiverReportError::DoesNotFit && !fits),
+        Err(error) => {
+            let field = if count > 31 { "reports" } else { "reports.lost" };
+            assert!(error == ReceiverReportError::DoesNotFit(field) && !fits);
+        }
     }
     2
 }
@@ -365,7 +394,7 @@ fn random_messages(random: &mut Random) -> u64 {
     match it.pack() {
         Ok(bytes) => assert_eq!(IcmpHeader::parse(&bytes), Ok((it, bytes.len()))),
         Err(error) => {
-            assert!(error == IcmpHeaderError::DoesNotFit && matches!(body, Body::Other(0 | 5 | 8)));
+            assert!(error == IcmpHeaderError::DoesNotFit("body") && matches!(body, Body::Other(0 | 5 | 8)));
         }
     }
     let login = SocksLogin {
@@ -374,7 +403,7 @@ fn random_messages(random: &mut Random) -> u64 {
     };
     match login.pack() {
         Ok(bytes) => assert_eq!(SocksLogin::parse(&bytes), Ok((login, bytes.len()))),
-        Err(error) => assert!(error == SocksLoginError::DoesNotFit && login.name.len() > 255),
+        Err(error) => assert!(error == SocksLoginError::DoesNotFit("name") && login.name.len() > 255),
     }
     4
 }
@@ -411,6 +440,10 @@ fn main() {
         let packet = [bytes.as_slice(), bytes.as_slice()].concat();
         calls += parses("rtcp_receiver_report", &packet[..length % 5 * 12]);
         calls += parses("report_block", &packet[length..length + length % 3 * 12]);
+        let mut message = packet;
+        message[0] &= if k % 8 == 0 { 255 } else { 63 };
+        message[4..8].copy_from_slice(&[0x21, 0x12, 0xA4, if k % 4 == 0 { 0x43 } else { 0x42 }]);
+        calls += parses("stun_header", &message[..length + 4]);
         calls += (0..10).map(|_| random_reports(&mut random)).sum::<u64>();
     }
     let error: Box<dyn std::error::Error> = Box::new(MqttError::NoPacket);
