@@ -50,7 +50,8 @@ def items(values: Sequence[int], count: int, least: int, most: int, name: str) -
     if not hasattr(values, "__len__"):
         raise TypeError(f"{name}: a sequence is wanted, and not {type(values).__name__}")
     if len(values) != count:
-        raise OverflowError(f"{name}: {len(values)} items, and not {count}")
+        what = "bytes" if isinstance(values, (bytes, bytearray, memoryview)) else "items"
+        raise OverflowError(f"{name}: {len(values)} {what}, and not {count}")
     return tuple(number(it, least, most, f"{name}[{k}]") for k, it in enumerate(values))
 
 

@@ -39,6 +39,19 @@ enum primary_header_status primary_header_pack(const struct primary_header *in, 
     return (enum primary_header_status)packed.status;
 }
 
+const char *primary_header_misfit(const struct primary_header *value)
+{
+    if (!value)
+        return NULL;
+    if (value->apid > 2047)
+        return "apid";
+    if (value->sequence > 3)
+        return "sequence";
+    if (value->count > 16383)
+        return "count";
+    return NULL;
+}
+
 const char *primary_header_status_text(enum primary_header_status status)
 {
     switch (status) {

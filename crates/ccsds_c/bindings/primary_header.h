@@ -74,6 +74,10 @@ enum primary_header_status primary_header_parse(const uint8_t *bytes, size_t len
 enum primary_header_status primary_header_pack(
     const struct primary_header *in, uint8_t *buffer, size_t length, size_t *written);
 
+/* Returns the name of the first field whose value the format does not allow, for which a pack returns
+ * PRIMARY_HEADER_DOES_NOT_FIT, or null if there is none or a pointer is null. It is not proved. */
+const char *primary_header_misfit(const struct primary_header *in);
+
 #ifdef __cplusplus
 }
 #endif

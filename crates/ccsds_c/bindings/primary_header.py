@@ -110,6 +110,9 @@ class PrimaryHeader:
             raise DoesNotFit(str(it)) from None
         buffer, written = ctypes.create_string_buffer(self.SIZE), ctypes.c_size_t()
         status = library.primary_header_pack(ctypes.byref(fields), buffer, len(buffer), ctypes.byref(written))
+        if status == 3:
+            name = library.primary_header_misfit(ctypes.byref(fields)).decode()
+            raise DoesNotFit(f"{name}: the format does not allow this value")
         if status:
             raise _ERRORS[status]()
         return buffer.raw[: written.value]
@@ -147,3 +150,5 @@ library.primary_header_pack.argtypes = [
     ctypes.POINTER(ctypes.c_size_t),
 ]
 library.primary_header_pack.restype = ctypes.c_int
+library.primary_header_misfit.argtypes = [ctypes.POINTER(_C)]
+library.primary_header_misfit.restype = ctypes.c_char_p

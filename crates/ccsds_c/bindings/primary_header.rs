@@ -36,8 +36,8 @@ pub enum PrimaryHeaderError {
     EndOfInput,
     /// The buffer is too short.
     NoRoom,
-    /// A field has a value that the format does not allow.
-    DoesNotFit,
+    /// The field of this name has a value that the format does not allow.
+    DoesNotFit(&'static str),
     /// The version is not 0.
     WrongVersion,
 }
@@ -47,8 +47,10 @@ impl core::fmt::Display for PrimaryHeaderError {
         f.write_str(match self {
             PrimaryHeaderError::EndOfInput => "the bytes end before the fields do",
             PrimaryHeaderError::NoRoom => "the buffer is too short",
-            PrimaryHeaderError::DoesNotFit => "a field has a value that the format does not allow",
             PrimaryHeaderError::WrongVersion => "the version is not 0",
+            PrimaryHeaderError::DoesNotFit(field) => {
+                return write!(f, "`{field}` has a value that the format does not allow")
+            }
         })
     }
 }
@@ -58,10 +60,9 @@ impl core::error::Error for PrimaryHeaderError {}
 fn done(status: i32) -> Result<(), PrimaryHeaderError> {
     match status {
         0 => Ok(()),
-        1 => Err(PrimaryHeaderError::EndOfInput),
         2 => Err(PrimaryHeaderError::NoRoom),
         5 => Err(PrimaryHeaderError::WrongVersion),
-        _ => Err(PrimaryHeaderError::DoesNotFit),
+        _ => Err(PrimaryHeaderError::EndOfInput),
     }
 }
 
@@ -98,8 +99,8 @@ impl PrimaryHeaderC {
         }
     }
 
-    pub(crate) fn fields(&self) -> Option<PrimaryHeader> {
-        Some(PrimaryHeader {
+    pub(crate) fn fields(&self) -> Result<PrimaryHeader, &'static str> {
+        Ok(PrimaryHeader {
             telecommand: self.telecommand != 0,
             secondary: self.secondary != 0,
             apid: self.apid,
@@ -125,6 +126,20 @@ struct Packed {
 extern "C" {
     fn proved_primary_header_parse(bytes: *const u8, length: usize) -> Parsed;
     fn proved_primary_header_pack(value: &PrimaryHeaderC, buffer: *mut u8, length: usize) -> Packed;
+    fn primary_header_misfit(value: &PrimaryHeaderC) -> *const core::ffi::c_char;
+}
+
+/// Returns the name of a field of C, or an empty text if there is none.
+///
+/// # Safety
+///
+/// `name` is null or a text that stays as it is.
+unsafe fn named(name: *const core::ffi::c_char) -> &'static str {
+    if name.is_null() {
+        return "";
+    }
+    // SAFETY: as above.
+    unsafe { core::ffi::CStr::from_ptr(name) }.to_str().unwrap_or_default()
 }
 
 // The layout that the proved functions have.
@@ -145,7 +160,7 @@ impl PrimaryHeader {
         // SAFETY: the pointer and the length are a slice's.
         let parsed = unsafe { proved_primary_header_parse(bytes.as_ptr(), bytes.len()) };
         done(parsed.status)?;
-        parsed.value.fields().ok_or(PrimaryHeaderError::DoesNotFit)
+        parsed.value.fields().map_err(PrimaryHeaderError::DoesNotFit)
     }
 
     /// Writes the fields to the first 6 bytes of a buffer, and returns 6. The other bytes stay as
@@ -159,6 +174,10 @@ impl PrimaryHeader {
         let value = PrimaryHeaderC::new(self);
         // SAFETY: the pointer and the length are a slice's, which is borrowed mutably.
         let packed = unsafe { proved_primary_header_pack(&value, buffer.as_mut_ptr(), buffer.len()) };
+        if packed.status == 3 {
+            // SAFETY: as above; the name is null or a constant of the library.
+            return Err(PrimaryHeaderError::DoesNotFit(unsafe { named(primary_header_misfit(&value)) }));
+        }
         done(packed.status)?;
         Ok(packed.written)
     }

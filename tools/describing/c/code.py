@@ -5,7 +5,7 @@ import re
 from typing import assert_never
 
 from describing import model as m
-from describing.c import choices, cross, decided, fills, lists, optional, part_lists, varying
+from describing.c import choices, cross, decided, fills, lists, optional, part_lists, untils, varying
 from describing.c.cross import Crossed, Listed, Member, base, enums, fields, is_narrow, is_partial, members, parts
 from describing.c.imports import ghost_uses
 from describing.c.status import DOES_NOT_FIT, END_OF_INPUT, NO_ROOM, own
@@ -37,10 +37,11 @@ def lists_code(f: Format) -> list[str]:
     """Returns the functions of a format with lists."""
     kinds = cross.lists(f.description)
     out = [line for it in {base(it): it for it in kinds}.values() for line in lists.keep_code(f, it)]
-    out += [line for it in kinds for line in lists.read_list_code(f, it)]
+    out += [line for it in kinds for line in lists.read_list_code(f, it)] + untils.read_code(f)
     out += [line for it in f.lines for line in lists.stated_code(f, it)]
     found = [it for it in f.lines if isinstance(it.kind, m.Optional | m.If)]
     out += [line for it in found if it.use for line in parts_code.optional_code(f, it, it.use)]
+    out += [line for it in f.lines if isinstance(it.kind, m.Choose) for line in parts_code.size_code(f, it)]
     out += [*lists.read_code(f, to_c), *lists.answer_code(f), *lists.parse_code(f), *lists.writing_code(f)]
     return [*out, *varying.size_code(f), *varying.put_code(f), *lists.pack_code(f)]
 
@@ -233,7 +234,9 @@ def helpers(f: Format) -> list[str]:
             found[f"number_{base(it)}"] = number_code(base(it))
         if isinstance(enum := m.held_item(it), m.EnumType) and is_narrow(enum):
             found[enum.name] = narrow_code(f, enum)
-        if isinstance(it, m.Array) or cross.is_listed(it) and not cross.is_mapped(it):
+        if isinstance(it, m.Until):
+            found[untils.test_name(it)] = untils.test_code(it)
+        elif isinstance(it, m.Array) or cross.is_listed(it) and not cross.is_mapped(it):
             found[items_name(it)] = items_code(it)
     return [line for it in found.values() for line in it] + optional.code(f) + choices.code(f) + part_lists.code(f)
 
@@ -337,14 +340,25 @@ def tests(f: Format, kind: Crossed) -> list[str]:
             return optional.tests(f, kind)
         case m.Choose():
             return choices.tests(f, kind)
-        case m.List() | m.Sized() | m.Fill() | m.Rest():
+        case m.List() | m.Sized() | m.Fill() | m.Rest() | m.Until():
             return lists.tests(f, kind)
     assert_never(kind)
 
 
+# The most tests in one expression: a search proves some more.
+MOST_TESTS = 11
+
+
+def apart(f: Format) -> dict[str, str]:
+    """Returns the tests that call a function, each with the name of its result, if a format has many tests."""
+    found = [(test, it.name) for it in fields(f.description) for test in tests(f, it)]
+    calls = {test: f"{name}_is_fit" for test, name in found if re.fullmatch(r"[\w:]+\(&?value\.\w+\)", test)}
+    return calls if len(found) > MOST_TESTS else {}
+
+
 def fit_code(f: Format) -> list[str]:
     """Returns the function that tests whether all fields fit their bits."""
-    firsts = {f"{it.use.module}_fits(&value.{it.name})": f"{it.name}_fit" for it in optional.listed(f)}
+    firsts = apart(f) | {f"{it.use.module}_fits(&value.{it.name})": f"{it.name}_fit" for it in optional.listed(f)}
     firsts |= fills.firsts(f)
     found = [test for it in fields(f.description) for test in tests(f, it) if test not in firsts] or ["true"]
     body = ["    " + "\n        && ".join(found)]

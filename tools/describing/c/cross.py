@@ -11,21 +11,20 @@ from describing.rust.calls import integer_range
 
 Crossed: TypeAlias = (
     m.Bool | m.Number | m.NonZero | m.MaybeNonZero | m.Enum | m.Array | m.Groups | m.Golomb | m.Varint | m.Part
-    | m.Optional | m.If | m.List | m.Sized | m.Fill | m.Rest | m.Choose
+    | m.Optional | m.If | m.List | m.Sized | m.Fill | m.Rest | m.Until | m.Choose
 )  # fmt: skip
-Listed: TypeAlias = m.List | m.Sized | m.Fill | m.Rest  # items in storage of the caller
+Listed: TypeAlias = m.List | m.Sized | m.Fill | m.Rest | m.Until  # items in storage of the caller
+
+# The most bytes before a terminator, and up to the end, that a pack takes.
+MOST_ENDED, MOST_REST = 4095, 65535
 
 # The most bytes of a format whose size varies: `pack` holds them on the stack.
-MOST_BYTES = 4096
-
-# The most bytes up to the end that a pack takes.
-MOST_REST = 65535
+MOST_BYTES = MOST_REST + 4096
 
 # Why a field of another kind does not cross to C.
 OTHERS = {
     m.Given: "is given to the parse, which does not cross to C yet",
     m.UpToLast: "ends at its last part, which does not cross to C yet",
-    m.Until: "has items up to a last one, which does not cross to C yet",
     m.Blocks: "has bytes in blocks, which does not cross to C yet",
     m.Unary: "is a unary number, which can be longer than any buffer, and does not cross to C",
 }
@@ -65,14 +64,17 @@ def crosses(kind: m.Kind) -> TypeGuard[Crossed]:
 def check(description: m.Description) -> None:
     """Refuses a format with a field that C does not have."""
     if not description.whole:
-        raise Refused("a part without whole bytes does not cross to C yet", description.heads["struct"])
+        why = "a `part` does not cross to C yet: begin the description with `struct`, if its bits are whole bytes"
+        raise Refused(why, description.heads["struct"])
     for it in description.kinds:
         if isinstance(it, m.Check):
             check_sum(description, it)
+        if m.own_order(it):
+            raise Refused("a number in a byte order of its own does not cross to C yet", it.at)
         if isinstance(it, m.Pad):
             raise Refused("zeros up to a multiple of bits do not cross to C yet", it.at)
-        if isinstance(it, m.Size) and (it.groups or m.is_limited(it)):
-            raise Refused("a size in groups, or with a greatest value, does not cross to C yet", it.at)
+        if isinstance(it, m.Size) and it.groups:
+            raise Refused("a size in groups does not cross to C yet", it.at)
     for kind in description.fields:
         if not crosses(kind):
             raise Refused(f"`{kind.name}` {OTHERS[type(kind)]}", kind.at)
@@ -80,7 +82,7 @@ def check(description: m.Description) -> None:
         if isinstance(kind, m.Fill):
             check_fill(description, kind)
         if isinstance(kind, m.Rest):
-            check_rest(description, kind)
+            check_rest(kind)
     check_types(description)
     names = [it.name for it in members(description)]
     if lists(description) and len(description.kinds) > LONG:
@@ -89,7 +91,7 @@ def check(description: m.Description) -> None:
         for member in members_of(description, kind) if crosses(kind) else []:
             if names.count(member.name) > 1:
                 raise Refused(f"two members of the struct of C have one name, `{member.name}`", kind.at)
-    if description.bits is None and most(description) > 8 * MOST_BYTES:
+    if description.bits is None and open_most(description) > 8 * MOST_BYTES:
         longest = max(description.fields, key=lambda it: most_of(description, it))
         raise Refused(
             f"`{longest.name}` can make the format longer than {MOST_BYTES} bytes, which does not cross to C yet",
@@ -129,8 +131,6 @@ def check_field(kind: Crossed) -> None:
     """Refuses a field that C does not have."""
     if isinstance(kind, m.Array) and isinstance(kind.item, m.EnumType):
         raise Refused(f"`{kind.name}` is an array of an enum, which does not cross to C yet", kind.at)
-    if isinstance(kind, m.If) and kind.due:
-        raise Refused(f"`{kind.name}` has a condition over several fields, which does not cross to C yet", kind.at)
     if isinstance(kind, m.Choose) and kind.sized:
         what = "reads to the end of the bytes" if kind.to_end else "is a choice with a size"
         raise Refused(f"`{kind.name}` {what}, which does not cross to C yet", kind.at)
@@ -155,15 +155,10 @@ def check_field(kind: Crossed) -> None:
                 raise Refused(f"`{kind.name}` is a part with {what}, which does not cross to C yet", kind.at)
 
 
-def check_rest(description: m.Description, kind: m.Rest) -> None:
-    """Refuses parts up to the end, and bytes up to the end before other lines or after lines without a constant width."""
+def check_rest(kind: m.Rest) -> None:
+    """Refuses parts up to the end."""
     if isinstance(kind.item, m.Use):
         raise Refused(f"`{kind.name}` has parts to the end of the bytes, which do not cross to C yet", kind.at)
-    if description.kinds[-1] is not kind:
-        raise Refused(f"`{kind.name}` has lines after its bytes, which do not cross to C yet", kind.at)
-    if any(m.bits(it) is None for it in description.kinds if it is not kind):
-        what = f"`{kind.name}` reads to the end of the bytes after a list or an optional part"
-        raise Refused(f"{what}, which does not cross to C yet", kind.at)
 
 
 def check_fill(description: m.Description, kind: m.Fill) -> None:
@@ -175,6 +170,8 @@ def check_fill(description: m.Description, kind: m.Fill) -> None:
         )
     if isinstance(line, m.Size) and line.units:
         raise Refused(f"`{kind.name}` fills a size in units, which does not cross to C yet", kind.at)
+    if m.is_limited(line):
+        raise Refused(f"`{kind.name}` fills a size with a greatest value, which does not cross to C yet", kind.at)
     if kind.use.description.bits is None:
         raise Refused(
             f"`{kind.name}` has parts of several sizes that fill a size, which do not cross to C yet", kind.at
@@ -201,7 +198,7 @@ def spec_item(kind: Listed) -> str:
 
 def is_listed(kind: m.Kind) -> TypeGuard[Listed]:
     """Returns true for a field whose items are in storage of the caller."""
-    return isinstance(kind, m.List | m.Sized | m.Fill | m.Rest)
+    return isinstance(kind, m.List | m.Sized | m.Fill | m.Rest | m.Until)
 
 
 def rest(description: m.Description) -> m.Rest | None:
@@ -227,8 +224,8 @@ def most_items(description: m.Description, kind: Listed) -> int:
     return line.most // (item_width(kind) // 8) if isinstance(kind, m.Fill) else line.most
 
 
-def most_counted(line: m.Count) -> int:
-    """Returns the greatest number that counts the items of a list."""
+def most_counted(line: m.Count | m.Size) -> int:
+    """Returns the greatest number that counts the items of a list, or states their size."""
     return (1 << line.width) - 1 if line.limit is None else line.limit
 
 
@@ -240,7 +237,7 @@ def item_width(kind: Listed | m.Array) -> int:
 
 
 def most(description: m.Description) -> int:
-    """Returns a number of bits that the fields that fit do not exceed, without bytes up to the end."""
+    """Returns a number of bits that the fields that fit do not exceed, without lists that have no greatest length."""
     return sum(most_of(description, it) for it in description.kinds)
 
 
@@ -260,6 +257,8 @@ def most_of(description: m.Description, kind: m.Kind) -> int:
             return 64
         case m.Rest():
             return 0
+        case m.Until():
+            return 8
         case m.List() | m.Sized():
             return most_items(description, kind) * item_width(kind)
         case m.Fill():
@@ -282,7 +281,10 @@ def lists(description: m.Description) -> list[Listed]:
 
 def open_lists(description: m.Description) -> list[tuple[Listed, int]]:
     """Returns the lists without a greatest length, each with the most bytes of it that are packed."""
-    return [(it, MOST_REST) for it in lists(description) if isinstance(it, m.Rest)]
+    found = lists(description)
+    return [
+        (it, MOST_REST if isinstance(it, m.Rest) else MOST_ENDED) for it in found if isinstance(it, m.Rest | m.Until)
+    ]
 
 
 def open_most(description: m.Description) -> int:
@@ -325,7 +327,7 @@ def members_of(description: m.Description, kind: Crossed) -> list[Member]:
             return [there, Member(kind.name, base(kind), comment(kind), kind.use.module)]
         case m.Array():
             return [Member(kind.name, base(kind), comment(kind), count=kind.count)]
-        case m.List() | m.Sized() | m.Fill() | m.Rest():
+        case m.List() | m.Sized() | m.Fill() | m.Rest() | m.Until():
             said, module = list_comment(description, kind), kind.item.module if isinstance(kind.item, m.Use) else ""
             return [Member(kind.name, "usize", said, item=base(kind), of=module)]
         case m.Choose():
@@ -357,7 +359,7 @@ def base(kind: Crossed) -> str:
             return kind.integer.base
         case m.Enum():
             return f"u{enum_bits(kind.enum)}"
-        case m.Array() | m.List() | m.Sized() | m.Fill() | m.Rest():
+        case m.Array() | m.List() | m.Sized() | m.Fill() | m.Rest() | m.Until():
             if isinstance(kind.item, m.Use):
                 return f"{kind.item.name}C"
             if isinstance(kind.item, m.EnumType):
@@ -428,6 +430,8 @@ def list_comment(description: m.Description, kind: Listed) -> str:
     """Returns the comment of a list, with its range."""
     if isinstance(kind, m.Rest):
         return f"{comment(kind)} All bytes up to the end. At most {MOST_REST} are packed."
+    if isinstance(kind, m.Until):
+        return f"{comment(kind)} None of them is {kind.stop}, which ends them. At most {MOST_ENDED} are packed."
     line = counted(description, kind)
     if isinstance(kind, m.Fill):
         return f"{comment(kind)} At most {most_items(description, kind)}."

@@ -80,7 +80,7 @@ def answer(t: Target) -> str:
     if not only_constants(f):
         return ""
     errors = " ".join(f"c.parse.ensures.{it.clause}" for it in f.tests)
-    held = " ".join(f"all.{'1.' * k}{'0' if k < len(f.tests) else ''}".rstrip(".") for k in range(len(f.tests) + 1))
+    held = " ".join(f"all.{k}" for k in range(len(f.tests) + 1))
     there = f"c.parse.ensures.there {held if f.tests else 'all'}"
     return f"""
 pub returns-clause-ok : goal.returns-clause-ok

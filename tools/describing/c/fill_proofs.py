@@ -62,7 +62,7 @@ def shape_of(kind: m.Fill, one: Shape, items: str) -> str:
 
 
 def whole(f: Format) -> list[str]:
-    """Returns the facts that the items next to another list have whole bytes."""
+    """Returns the facts that the items next to other fields have whole bytes."""
     found = fills.beside(f)
     return [f"fill_whole {shape_of(kind, one, f'c.args.value.now.{kind.name}.now')}" for kind, one in found]
 

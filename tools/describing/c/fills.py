@@ -35,15 +35,15 @@ def known(f: Format, line: Line, kind: m.Fill) -> str:
 
 
 def beside(f: Format) -> list[tuple[m.Fill, Shape]]:
-    """Returns the lists that fill a size next to another list, each with its item."""
-    return [(kind, one) for _, kind, one in fills(f)] if len(cross.lists(f.description)) > 1 else []
+    """Returns the lists that fill a size next to other fields, each with its item."""
+    return [(kind, one) for _, kind, one in fills(f)] if len(cross.fields(f.description)) > 1 else []
 
 
 # ---- code
 
 
 def firsts(f: Format) -> dict[str, str]:
-    """Returns the tests of sizes next to another list, of which a proof names the results, each with this name."""
+    """Returns the tests of sizes next to other fields, of which a proof names the results, each with this name."""
     return {f"{kind.name}_fit(value.{kind.name})": f"{kind.name}_size_fits" for kind, _ in beside(f)}
 
 

@@ -2,6 +2,7 @@
 from __future__ import annotations
 
 from describing import model as m
+from describing.c import misfit
 from describing.c.cross import Member, choice_members, choices, enums, layout, lists, members, parts
 from describing.c.rests import which_bytes
 from describing.c.status import numbers, own, rooms, statuses, unless_refused
@@ -156,6 +157,7 @@ def calls_code(t: Target) -> list[str]:
         f"enum {name} {f.m}_pack(",
         f"    const struct {f.m} *in, uint8_t *buffer, size_t length, size_t *written);",
         "",
+        *misfit.declaration(f.m),
     ]
 
 
@@ -272,6 +274,8 @@ enum {name} {f.m}_pack(const struct {f.m} *in, uint8_t *buffer, size_t length, s
     return (enum {name})packed.status;
 }}
 
+{listed.misfit(t)}
+
 const char *{name}_text(enum {name} status)
 {{
     switch (status) {{
@@ -290,6 +294,18 @@ class Listed:
         self.no_storage, self.storage, self.has_items = "", "", ""
         self.taken_out = "\n        *out = parsed.value;"
         self.pack = f"\n        packed = proved_{module}_pack(in, buffer, length);"
+        self.into, self.passed, self.lacks_items = list[str](), "", ""
+
+    def misfit(self, t: Target) -> str:
+        """Returns the functions that return the name of a field that does not fit."""
+        module, given = t.f.m, self.given.removesuffix(", ")
+        if not self.into:
+            return misfit.function(t.f.description, module, module, given)
+        null = [f"if (!in{self.lacks_items})", "    return NULL;"]
+        body = [self.into[0], *null, *self.into[1:], f"return misfit_of_{module}(&head{self.passed});"]
+        head = f"const char *{module}_misfit(const struct {module} *in)"
+        function = misfit.function(t.f.description, module, self.crossing, given)
+        return "\n".join([function, "", head, "{", *[f"    {it}" for it in body], "}"])
 
 
 def lists_source(t: Target) -> Listed:
@@ -319,7 +335,10 @@ def lists_source(t: Target) -> Listed:
             into.append(f"head.{name} = in->{name}{'.length' * bool(it.item)};")
     given = "".join(f"in->{it}.items, in->{it}.length, " for it in names)
     zeros = ["memset(&head, 0, sizeof head);"] * bool(choices(f.description))
-    into = [f"struct {f.m}_head head;", *zeros, *into, f"packed = proved_{f.m}_pack(&head, {given}buffer, length);"]
+    found.into = [f"struct {f.m}_head head;", *zeros, *into]
+    found.passed = "".join(f", in->{it}.items, in->{it}.length" for it in names)
+    found.lacks_items = "".join(f" || (!in->{it}.items && in->{it}.length)" for it in names)
+    into = [*found.into, f"packed = proved_{f.m}_pack(&head, {given}buffer, length);"]
     found.taken_out = " {\n        " + "\n        ".join(out) + "\n    }"
     found.pack = " {\n        " + "\n        ".join(into) + "\n    }"
     if zeros or any(it.count is not None for it in all_of):

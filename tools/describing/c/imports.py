@@ -38,6 +38,7 @@ def own_names(t: Target) -> Table:
         ),
         f"Rattle.{t.crate}.specs.Varied": "IsDecided reader_status",
         f"Rattle.{t.crate}.specs.Lists": "ReadsInto ReadsStated ItemsKept stored",
+        f"Rattle.{t.crate}.specs.Untils": "ReadsUntil",
         f"Rattle.{t.crate}.specs.Parts": "ItemsInto PartsInto PartsKept ItemFits all_made",
         f"Rattle.{t.crate}.specs.Fills": "FillsInto PartsFilled",
         f"{base}.{f.m}.{f.type}Given": f"{f.type}Given",
@@ -71,7 +72,7 @@ def spec_uses(t: Target, text: str) -> list[str]:
 # The lemmas that proofs for C use.
 LEMMAS: Table = {
     "Rattle.std.proofs.Common": "≡ ≢ < ≤ ++ ∷ [] ∙ + - * / ℕ ℤ Bool List Result Ok Err length map refl sym ap ap₂ subst arith rules",
-    "Rattle.std.specs.Prelude": "^ pos take drop",
+    "Rattle.std.specs.Prelude": "^ pos take drop Option None Some",
     "Rattle.std.proofs.lemmas.List": "take-append-drop length-take-le take_at drop_at",
     "Rattle.std.proofs.lemmas.Bool": "cases_lt",
     "Rattle.std.proofs.lemmas.Bool.Decides": "nat_tests eqb_tells",
@@ -83,7 +84,7 @@ LEMMAS: Table = {
     "Rattle.bitstream_io.specs.Word": "zig",
     "Rattle.bitstream_format.specs.Varint": "varint_length varint_width",
     "Rattle.bitstream_format.specs.SizeLaws": "stored-whole",
-    "Rattle.bitstream_io.specs.Callers": "EndOfInput Error High Low align OwnAnswer ReadsOwn BitSource result_map bits same_error",
+    "Rattle.bitstream_io.specs.Callers": "EndOfInput Error High Low align OwnAnswer ReadsOwn BitSource result_map bits optional_size same_error",
     "Rattle.std.specs.Result": "IsErrAnd",
     "Rattle.bitstream_io.specs.Codec": "Prefix Incomplete Done",
 }

@@ -4,7 +4,7 @@ from __future__ import annotations
 import re
 
 from describing import model as m
-from describing.c import cross, fill_proofs, part_lists, part_proofs, varying
+from describing.c import cross, fill_proofs, part_lists, part_proofs, rests, untils, varying
 from describing.c.cross import Listed, base, is_mapped, is_stated, lists, spec_item
 from describing.c.imports import answer_uses
 from describing.c.lists import count_name, decoder, given, parse_answers
@@ -45,7 +45,12 @@ class Reads(Answers):
 
 def label(f: Format, kind: Listed) -> str:
     """Returns the name of the call that reads a list."""
-    return count_name(f, kind) if is_stated(kind) or isinstance(kind, m.Fill) else f"read_{kind.name}"
+    return count_name(f, kind) if is_stated(kind) or isinstance(kind, m.Fill | m.Until) else f"read_{kind.name}"
+
+
+def read_size(f: Format, kind: Listed) -> str:
+    """Returns the equation of the number of items that were read of a list."""
+    return f"c.in_ok-{label(f, kind)}.ensures.size{' refl' * (not is_stated(kind))}"
 
 
 def read_answers(f: Format) -> str:
@@ -55,6 +60,8 @@ def read_answers(f: Format) -> str:
         form, fact, wide = calls.read_call(f, it)
         asks = asked_enums(f, it.kind) or isinstance(it.kind, m.Choose) and by_enum(f, it.kind) is not None
         known = (f"c.{steps.next('number')}.ensures",) if asks else ()
+        if isinstance(it.kind, m.If) and it.kind.due:
+            known = (f"c.is_{it.kind.due}.ensures",)
         named = calls.read_label(it)
         if cross.is_listed(it.kind):
             own = is_stated(it.kind) or isinstance(it.kind, m.Fill) or is_mapped(it.kind) and it.own
@@ -62,6 +69,8 @@ def read_answers(f: Format) -> str:
             known = (
                 (f"c.size_in_units-{count_name(f, it.kind)}.ensures",) if it.units and not is_stated(it.kind) else ()
             )
+        if isinstance(it.kind, m.Rest):
+            known = rests.known(f, {one.name: read_size(f, one) for one in lists(f.description)})
         made.append(Call(form, fact, labels.next(named), "", wide=wide, known=known))
         if m.is_limited(it.kind):
             test = f"not-is_{it.name}"
@@ -89,7 +98,7 @@ class Writes(calls.Writes):
             return (f"(made_written {one.from_c} {part_lists.given_writes(kind)} _)",)
         if isinstance(kind, m.Count) and (one := part_lists.shape(self.f, cross.target(self.f.description, kind))):
             return (f"c.{self.steps.next(f'count_{one.word}')}.ensures",)
-        return () if isinstance(kind, m.List | m.Sized | m.Count | m.Rest) else super().known(line)
+        return () if isinstance(kind, m.List | m.Sized | m.Count | m.Rest | m.Until) else super().known(line)
 
 
 def write_fields(f: Format) -> str:
@@ -350,7 +359,7 @@ def files(t: Target) -> dict[str, str]:
     found[f"{home}/{given(f)}/write/Answers.antt"] = f"-- {t.made}\n{more}{text}\n"
     found[f"{home}/{given(f)}ToBitStream/to_writer/Answers.antt"] = to_writer(t)
     for it in lists(f.description):
-        if is_mapped(it):
+        if is_mapped(it) or isinstance(it, m.Until):
             continue
         found[f"{home}/read_{it.name}/Invariants.antt"] = invariant(t, it)
         found[f"{home}/read_{it.name}/Answers.antt"] = list_answers(t, it)
@@ -364,7 +373,7 @@ def files(t: Target) -> dict[str, str]:
         found |= optional_files(t, use)
     for it in lists(f.description):
         found[f"{home}/{part_lists.keep(f, it)}/Answers.antt"] = keep_answers(t, it)
-    return found | part_proofs.files(t) | fill_proofs.files(t)
+    return found | part_proofs.files(t) | fill_proofs.files(t) | untils.answer_files(t)
 
 
 def loops(t: Target, kind: m.List) -> dict[str, str]:

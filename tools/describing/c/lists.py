@@ -4,7 +4,7 @@ from __future__ import annotations
 from typing import Callable, TypeGuard
 
 from describing import model as m
-from describing.c import cross, fills, part_lists, rests, varying
+from describing.c import cross, fills, part_lists, rests, untils, varying
 from describing.c.cross import Crossed, Listed, base, is_partial, is_stated, lists, spec_item
 from describing.c.status import DOES_NOT_FIT, END_OF_INPUT, NO_ROOM, rooms
 from describing.layout import Format, Line
@@ -88,8 +88,10 @@ def tests(f: Format, kind: Listed) -> list[str]:
     """Returns the tests that a list fits its bits."""
     if isinstance(kind, m.Rest):
         return [f"{items_name(kind)}(value.{kind.name})"]
+    if isinstance(kind, m.Until):
+        return [f"value.{kind.name}.len() <= {2**32 - 1}", f"{untils.test_name(kind)}(value.{kind.name})"]
     line, count = cross.counted(f.description, kind), f"value.{kind.name}.len()"
-    most = cross.most_counted(line) if isinstance(line, m.Count) else (1 << line.width) - 1
+    most = cross.most_counted(line)
     if one := part_lists.shape(f, kind):
         return part_lists.tests(f, kind, one)
     if isinstance(line, m.Size) and line.units:
@@ -135,6 +137,8 @@ def keep_code(f: Format, kind: Listed) -> list[str]:
 
 def read_list_code(f: Format, kind: Listed) -> list[str]:
     """Returns the function that reads a list."""
+    if isinstance(kind, m.Until):
+        return []
     if one := part_lists.shape(f, kind):
         return fills.read_code(f, kind, one) if isinstance(kind, m.Fill) else part_lists.read_code(f, kind, one)
     number, octets = base(kind), isinstance(kind.item, m.Octet)
@@ -164,14 +168,21 @@ def read_statement(f: Format, line: Line) -> str:
         return f"let {count} = read_stated_{name}(reader, {name}_items, {name}_bytes)?;"
     if isinstance(line.kind, m.Fill):
         return f"let {count} = read_{name}(reader, {name}_items, {name}_bytes)?;"
+    if isinstance(line.kind, m.Until):
+        return f"let {count} = {untils.FUNCTION}(reader, {name}_items, {line.kind.stop})?;"
     read = f"read_{name}(reader, {name}_items, {count})?;"
+    if isinstance(line.kind, m.Rest):
+        before = {it.name: count_name(f, it) for it in lists(f.description)}
+        return "\n    ".join([*rests.statements(f, before), read])
     return f"let {count} = {rust.octets_count(line)};\n    {read}" if line.units else read
 
 
 def count_name(f: Format, kind: Listed) -> str:
     """Returns the name of the number of items of a list in the function that reads it."""
     if isinstance(kind, m.Rest):
-        return rests.given(f)
+        return rests.count(f)
+    if isinstance(kind, m.Until):
+        return f"{kind.name}_count"
     line = cross.counted(f.description, kind)
     counted = isinstance(kind, m.Fill) or isinstance(line, m.Size) and line.units
     return f"{kind.name}_count" if counted else m.label(line)

@@ -4,7 +4,7 @@ from __future__ import annotations
 from describing import model as m
 from describing.c import cross
 from describing.layout import Format
-from describing.rust.asked import test
+from describing.rust.asked import due_code, test
 
 Maybe = m.Optional | m.If
 
@@ -20,7 +20,7 @@ def uses(f: Format) -> list[m.Use]:
 def to_c(kind: Maybe) -> dict[str, str]:
     """Returns the members of C."""
     module, v = kind.use.module, f"&value.{kind.name}"
-    return {f"has_{kind.name}": f"has_{module}({v})", kind.name: f"{module}_or_zero({v})"}
+    return {f"has_{kind.name}": f"{module}_flag({v})", kind.name: f"{module}_or_zero({v})"}
 
 
 def from_c(kind: Maybe) -> str:
@@ -33,7 +33,10 @@ def tests(f: Format, kind: Maybe) -> list[str]:
     module, v = kind.use.module, f"&value.{kind.name}"
     if isinstance(kind, m.Optional):
         return [f"{module}_fits({v})"]
-    return [f"{module}_fits({v})", f"is_{module}_there({v}, {test(f, kind.tests[0], 'value.')})"]
+    due = test(f, kind.tests[0], "value.")
+    if kind.due:
+        due = f"is_{kind.due}({', '.join(f'value.{it}' for it in kind.asked)})"
+    return [f"{module}_fits({v})", f"is_{module}_there({v}, {due})"]
 
 
 def listed(f: Format) -> list[Maybe]:
@@ -59,10 +62,11 @@ def fit_answers(f: Format, more: list[str]) -> str:
 
 def code(f: Format) -> list[str]:
     """Returns the functions for each part that may be there or not."""
-    asked = {it.use.module for it in f.description.fields if isinstance(it, m.If)}
-    return [line for it in uses(f) for line in [*has_code(f, it), *if_code(f, it), *fits_code(it)]] + [
-        line for it in uses(f) if it.module in asked for line in there_code(it)
-    ]
+    conditions = [it for it in f.description.fields if isinstance(it, m.If)]
+    asked = {it.use.module for it in conditions}
+    out = [line for it in uses(f) for line in [*has_code(f, it), *if_code(f, it), *fits_code(it)]]
+    out += [line for it in uses(f) if it.module in asked for line in there_code(it)]
+    return out + [line for it in conditions if it.due for line in due_code(f, it)]
 
 
 def has_code(f: Format, use: m.Use) -> list[str]:
@@ -70,7 +74,7 @@ def has_code(f: Format, use: m.Use) -> list[str]:
     module, t = use.module, use.name
     return [
         f"/// Returns 1 if there is a `{t}`, and 0 if there is none.",
-        f"fn has_{module}(value: &Option<{t}>) -> u8",
+        f"fn {module}_flag(value: &Option<{t}>) -> u8",
         f"    ensures {{ result ≡ {f.m}_has_{module} value.now }}",
         "{",
         "    match value {",

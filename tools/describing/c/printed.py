@@ -6,7 +6,7 @@ import os
 import re
 import tempfile
 
-from describing.c import fills, header, list_shared, python, rests, rust, shared, varied
+from describing.c import fills, header, list_shared, python, rests, rust, shared, untils, varied
 from describing.c.code import code
 from describing.c.cross import check, is_mapped, lists, parts, stated
 from describing.c.proofs import answer_files
@@ -15,7 +15,7 @@ from describing.c.target import Target, target
 from describing.layout import Format
 from describing.model import Refused
 from describing.parse import description_text
-from describing.printing import add_line, format_of, lay_out, plain_format, put, text_of
+from describing.printing import add_line, format_of, lay_out, plain_format, put, remove_others, text_of
 from describing.renamed import shown_for_c
 
 ROOT = """//! The functions of the library `LIBRARY` that C, Rust and Python call: a module for each format.
@@ -39,6 +39,8 @@ def files_of(t: Target, plain: Target) -> dict[str, str]:
         found |= fills.files(t.crate)
     if rests.given(f):
         found |= rests.files()
+    if untils.untils(f):
+        found |= untils.files(t.crate)
     shown = {shown_for_c(place, ".rt"): shown_for_c(text, place) for place, text in found.items()}
     return shown | binding_files(plain)
 
@@ -106,6 +108,7 @@ def listed(t: Target) -> dict[str, list[str]]:
             *["pub mod Lists"] * some,
             *["pub mod Parts"] * any(map(is_mapped, t.f.description.kinds)),
             *["pub mod Fills"] * bool(fills.fills(t.f)),
+            *["pub mod Untils"] * bool(untils.untils(t.f)),
         ],
         "proofs/Lib.antt": [
             f"pub mod {t.f.spec}Lemmas",
@@ -115,6 +118,7 @@ def listed(t: Target) -> dict[str, list[str]]:
             *["pub mod PartLemmas"] * any(map(is_mapped, t.f.description.kinds)),
             *["pub mod FillLemmas"] * bool(fills.fills(t.f)),
             *["pub mod RestLemmas"] * bool(rests.given(t.f)),
+            *["pub mod UntilLemmas"] * bool(untils.untils(t.f)),
             *["pub mod StatedLemmas"] * bool(stated(t.f.description)),
         ],
     }
@@ -135,6 +139,7 @@ def write(description: str, folder: str) -> int:
     """Writes the files of a format, and the lines that name them; returns the number of lines."""
     t, texts = printed(description, folder)
     check_parts(t.f, folder)
+    remove_others(folder, f"proofs/{t.f.m}", t.made, texts)
     for place, text in texts.items():
         put(folder, place, text)
     if not os.path.exists(os.path.join(folder, "src", "lib.rt")):

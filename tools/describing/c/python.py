@@ -24,7 +24,7 @@ from describing.c.cross import (
     said_of_enum,
 )
 from describing.c.rests import which_bytes
-from describing.c.status import NO_ROOM, Status, numbers, own, refused, rooms, unless_refused
+from describing.c.status import DOES_NOT_FIT, NO_ROOM, Status, numbers, own, refused, rooms, unless_refused
 from describing.c.target import Target
 from describing.c.words import drawn, in_docstring, paragraph, python_name, quoted
 
@@ -80,7 +80,8 @@ def items(values: Sequence[int], count: int, least: int, most: int, name: str) -
     if not hasattr(values, "__len__"):
         raise TypeError(f"{name}: a sequence is wanted, and not {type(values).__name__}")
     if len(values) != count:
-        raise OverflowError(f"{name}: {len(values)} items, and not {count}")
+        what = "bytes" if isinstance(values, (bytes, bytearray, memoryview)) else "items"
+        raise OverflowError(f"{name}: {len(values)} {what}, and not {count}")
     return tuple(number(it, least, most, f"{name}[{k}]") for k, it in enumerate(values))
 
 
@@ -237,7 +238,7 @@ def hint(kind: Crossed) -> str:
             return f"list[_{use.module}.{use.name}]"
         case m.List(item=m.EnumType() as enum):
             return f"list[{enum.name}{' | int' if enum.other else ''}]"
-        case m.List() | m.Sized() | m.Rest():
+        case m.List() | m.Sized() | m.Rest() | m.Until():
             return "bytes" if isinstance(kind.item, m.Octet) else "list[int]"
     assert_never(kind)
 
@@ -266,21 +267,12 @@ def fields_code(t: Target) -> list[str]:
 
 def span(kind: Crossed) -> str:
     """Returns the least and the greatest number of a field, or of each item."""
-    match kind:
-        case m.Number(limit=int() as limit):
-            return f"0, {limit}"
-        case m.Number(integer=number) | m.Array(item=m.Integer() as number) | m.Groups(integer=number):
-            return f"{number.least}, {number.most}"
-        case m.Varint() | m.Golomb():
-            least, most = m.range_of(kind) or (0, 0)
-            return f"{least}, {most}"
-        case m.NonZero():
-            return f"1, {kind.integer.most + 1}"
-        case m.MaybeNonZero():
-            return f"1, {kind.integer.most}"
-        case m.Enum():
-            return f"0, {2**kind.enum.width - 1}"
-    return "0, 255"
+    least, most = m.range_of(kind) or (0, 255)
+    if isinstance(kind, m.MaybeNonZero):
+        least = 1
+    if isinstance(kind, m.Enum):
+        most = 2**kind.enum.width - 1
+    return f"{least}, {most}"
 
 
 def to_c(kind: Crossed) -> dict[str, str]:
@@ -340,7 +332,7 @@ def from_c(kind: Crossed) -> str:
             return f"[_{use.module}.{use.name}._from_c(it) for it in {v}.items[: {v}.length]]"
         case m.List(item=m.EnumType() as enum):
             return f"[{f'_{m.snake(enum.name)}' if enum.other else enum.name}(it) for it in {v}.items[: {v}.length]]"
-        case m.List() | m.Sized() | m.Rest():
+        case m.List() | m.Sized() | m.Rest() | m.Until():
             return f"{'bytes' if isinstance(kind.item, m.Octet) else 'list'}({v}.items[: {v}.length])"
     assert_never(kind)
 
@@ -587,6 +579,9 @@ def pack_code(t: Target) -> list[str]:
         "        except OverflowError as it:",
         "            raise DoesNotFit(str(it)) from None",
         *body,
+        f"        if status == {DOES_NOT_FIT}:",
+        f"            name = library.{f.m}_misfit(ctypes.byref(fields)).decode()",
+        '            raise DoesNotFit(f"{name}: the format does not allow this value")',
         "        if status:",
         "            raise _ERRORS[status]()",
         "        return buffer.raw[: written.value]",
@@ -625,4 +620,6 @@ def end_code(t: Target) -> list[str]:
         "    ctypes.POINTER(ctypes.c_size_t),",
         "]",
         f"{of_c}_pack.restype = ctypes.c_int",
+        f"{of_c}_misfit.argtypes = [ctypes.POINTER(_C)]",
+        f"{of_c}_misfit.restype = ctypes.c_char_p",
     ]

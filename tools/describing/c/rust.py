@@ -4,6 +4,7 @@ from __future__ import annotations
 from typing import assert_never
 
 from describing import model as m
+from describing.c import misfit
 from describing.c.cross import (
     Crossed,
     Listed,
@@ -26,7 +27,7 @@ from describing.c.cross import (
     said_of_enum,
 )
 from describing.c.rests import which_bytes
-from describing.c.status import DOES_NOT_FIT, Status, numbers, own, refused, rooms, unless_refused
+from describing.c.status import DOES_NOT_FIT, END_OF_INPUT, Status, numbers, own, refused, rooms, unless_refused
 from describing.c.target import Target
 from describing.c.words import doc, drawn, quoted
 from describing.layout import enum_bits
@@ -135,7 +136,7 @@ def choice_from_c(kind: m.Choose) -> str:
     for k, it in enumerate(kind.arms):
         held = f"(self.{named[it.case].name}{'.fields()?' * bool(it.held)})" if it.case in named else ""
         rows.append(f"{k} => {kind.type}::{it.case}{held}")
-    return matched(f"self.{kind.name}_case", [*rows, "_ => return None"])
+    return matched(f"self.{kind.name}_case", [*rows, f"_ => return Err({quoted(kind.name)})"])
 
 
 def matched(value: str, rows: list[str]) -> str:
@@ -154,7 +155,9 @@ def error_code(t: Target) -> list[str]:
     e, cases = error_name(t), refused(t.f)
     out = [f"/// The reason why no `{t.f.type}` was parsed or packed.", DERIVES, f"pub enum {e} {{"]
     for it in cases:
-        out += [*doc(it.text, "    "), f"    {it.camel},"]
+        held = "(&'static str)" * (it.number == DOES_NOT_FIT)
+        said = "The field of this name has a value that the format does not allow." if held else it.text
+        out += [*doc(said, "    "), f"    {it.camel}{held},"]
     return [
         *out,
         "}",
@@ -162,7 +165,10 @@ def error_code(t: Target) -> list[str]:
         f"impl core::fmt::Display for {e} {{",
         "    fn fmt(&self, f: &mut core::fmt::Formatter<'_>) -> core::fmt::Result {",
         "        f.write_str(match self {",
-        *[f"            {e}::{it.camel} => {quoted(it.short)}," for it in cases],
+        *[f"            {e}::{it.camel} => {quoted(it.short)}," for it in cases if it.number != DOES_NOT_FIT],
+        f"            {e}::DoesNotFit(field) => {{",
+        '                return write!(f, "`{field}` has a value that the format does not allow")',
+        "            }",
         "        })",
         "    }",
         "}",
@@ -172,21 +178,16 @@ def error_code(t: Target) -> list[str]:
         f"fn done(status: i32) -> Result<(), {e}> {{",
         "    match status {",
         "        0 => Ok(()),",
-        *[f"        {number(it)} => Err({e}::{it.camel})," for it in last_does_not_fit(cases)],
+        *[
+            f"        {it.number} => Err({e}::{it.camel}),"
+            for it in cases
+            if it.number not in (END_OF_INPUT, DOES_NOT_FIT)
+        ],
+        f"        _ => Err({e}::EndOfInput),",
         "    }",
         "}",
         "",
     ]
-
-
-def last_does_not_fit(cases: list[Status]) -> list[Status]:
-    """Returns the statuses with `DOES_NOT_FIT` as the last one."""
-    return sorted(cases, key=lambda it: it.number == DOES_NOT_FIT)
-
-
-def number(status: Status) -> str:
-    """Returns the pattern of a status: the last one takes all other numbers, of which there are none."""
-    return "_" if status.number == DOES_NOT_FIT else str(status.number)
 
 
 # ---- the struct that crosses
@@ -236,20 +237,21 @@ def from_c(kind: Crossed) -> str:
         case m.Number() | m.Array() | m.Groups() | m.Golomb() | m.Varint():
             return v
         case m.NonZero():
-            return f"NonZero::<{base(kind)}>::new({v})?"
+            return f"NonZero::<{base(kind)}>::new({v}).ok_or({quoted(kind.name)})?"
         case m.MaybeNonZero():
             return f"NonZero::<{base(kind)}>::new({v})"
         case m.Enum():
-            return f"{kind.enum.name}::of({v})?"
+            return f"{kind.enum.name}::of({v}).ok_or({quoted(kind.name)})?"
         case m.Part():
             return f"{v}.fields()?"
         case m.Optional() | m.If():
             return f"if self.has_{kind.name} == 0 {{ None }} else {{ Some({v}.fields()?) }}"
         case m.List(item=m.Use() as use) | m.Fill(use=use):
-            return f"{kind.name}_items.iter().map({use.name}C::fields).collect::<Option<Vec<_>>>()?"
+            return f"{kind.name}_items.iter().map({use.name}C::fields).collect::<Result<Vec<_>, _>>()?"
         case m.List(item=m.EnumType() as enum):
-            return f"{kind.name}_items.iter().map(|it| {enum.name}::of(*it)).collect::<Option<Vec<_>>>()?"
-        case m.List() | m.Sized() | m.Rest():
+            found = f"{kind.name}_items.iter().map(|it| {enum.name}::of(*it)).collect::<Option<Vec<_>>>()"
+            return f"{found}.ok_or({quoted(kind.name)})?"
+        case m.List() | m.Sized() | m.Rest() | m.Until():
             return f"{kind.name}_items"
         case m.Choose():
             return choice_from_c(kind)
@@ -280,8 +282,8 @@ def crossing_code(t: Target) -> list[str]:
         "        }",
         "    }",
         "",
-        f"    pub(crate) fn fields(&self{items_parameters(t)}) -> Option<{f.type}> {{",
-        f"        Some({f.type} {{",
+        f"    pub(crate) fn fields(&self{items_parameters(t)}) -> Result<{f.type}, &'static str> {{",
+        f"        Ok({f.type} {{",
         *[f"            {it.name}: {from_c(it)}," for it in of_all],
         "        })",
         "    }",
@@ -303,6 +305,20 @@ def crossing_code(t: Target) -> list[str]:
         'extern "C" {',
         f"    fn proved_{f.m}_parse(bytes: *const u8, length: usize{pointers(t, 'mut')}) -> Parsed;",
         f"    fn proved_{f.m}_pack(value: &{name}{pointers(t, 'const')}, buffer: *mut u8, length: usize) -> Packed;",
+        f"    fn {misfit_name(t)}(value: &{name}{pointers(t, 'const')}) -> *const core::ffi::c_char;",
+        "}",
+        "",
+        "/// Returns the name of a field of C, or an empty text if there is none.",
+        "///",
+        "/// # Safety",
+        "///",
+        "/// `name` is null or a text that stays as it is.",
+        "unsafe fn named(name: *const core::ffi::c_char) -> &'static str {",
+        "    if name.is_null() {",
+        '        return "";',
+        "    }",
+        "    // SAFETY: as above.",
+        "    unsafe { core::ffi::CStr::from_ptr(name) }.to_str().unwrap_or_default()",
         "}",
         "",
         "// The layout that the proved functions have.",
@@ -344,6 +360,12 @@ def pointers(t: Target, how: str) -> str:
     return "".join(f", {name}_items: *{how} {number}, {name}_count: usize" for name, number in names)
 
 
+def misfit_name(t: Target) -> str:
+    """Returns the name of the function of C that names a field that does not fit."""
+    apart = lists(t.f.description) or choices(t.f.description)
+    return misfit.function_name(t.f.m, f"{t.f.m}_head" if apart else t.f.m)
+
+
 def calls_code(t: Target) -> list[str]:
     """Returns the functions."""
     f = t.f
@@ -370,7 +392,7 @@ def parse_code(t: Target) -> list[str]:
     f, e = t.f, error_name(t)
     told = "" if f.sized else ", and returns them with the number of bytes that they take"
     found, value = (f.type, "parsed.value.fields()") if f.sized else (f"({f.type}, usize)", "fields")
-    end = f"        {value}.ok_or({e}::DoesNotFit)"
+    end = f"        {value}.map_err({e}::DoesNotFit)"
     return [
         *doc(f"Parses the fields at the start of `bytes`{told}.", "    "),
         "    ///",
@@ -422,7 +444,7 @@ def parse_lists_code(t: Target) -> list[str]:
         "                    done(status)?;",
         *cut,
         f"                    let fields = parsed.value.fields({names}).map(|it| (it, parsed.taken));",
-        f"                    return fields.ok_or({e}::DoesNotFit);",
+        f"                    return fields.map_err({e}::DoesNotFit);",
         "                }",
         "            }",
         "        }",
@@ -452,6 +474,10 @@ def pack_into_code(t: Target) -> list[str]:
         *items_for_c(t),
         "        // SAFETY: the pointer and the length are a slice's, which is borrowed mutably.",
         f"        let packed = unsafe {{ proved_{f.m}_pack(&value{given}, buffer.as_mut_ptr(), buffer.len()) }};",
+        f"        if packed.status == {DOES_NOT_FIT} {{",
+        "            // SAFETY: as above; the name is null or a constant of the library.",
+        f"            return Err({e}::DoesNotFit(unsafe {{ named({misfit_name(t)}(&value{given})) }}));",
+        "        }",
         "        done(packed.status)?;",
         "        Ok(packed.written)",
         "    }",

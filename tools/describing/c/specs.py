@@ -113,7 +113,7 @@ def from_c(f: Format, kind: Crossed) -> str:
             return optional.from_c_specs(f, kind)
         case m.Choose():
             return choices.from_c_specs(f, kind)
-        case m.List() | m.Sized() | m.Fill() | m.Rest():
+        case m.List() | m.Sized() | m.Fill() | m.Rest() | m.Until():
             return f"{kind.name}_items"
     assert_never(kind)
 

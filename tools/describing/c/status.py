@@ -1,10 +1,10 @@
 """The statuses of the functions for C: their numbers, names and texts."""
 from __future__ import annotations
 
-from dataclasses import dataclass
+from dataclasses import dataclass, replace
 
 from describing import model as m
-from describing.layout import Format, reader_errors
+from describing.layout import UNENDED, Format, reader_errors
 from describing.model import snake
 from describing.rust.calls import error_cases
 from describing.text import article
@@ -41,9 +41,14 @@ FIRST = (
     Status(DOES_NOT_FIT, "DOES_NOT_FIT", "A field has a value that the format does not allow."),
     Status(NULL, "NULL", "A pointer is null."),
 )
+UNENDED_TOO = ", or the byte that ends a list is not among the first 2^32."
 NUMBER = Status(
     BAD_NUMBER, "BAD_NUMBER", "A number of variable width is too large, or ends in a group of 0 behind others."
 )
+
+
+# The status of the same number in a format without such numbers.
+RUN = Status(BAD_NUMBER, "RUN_TOO_LONG", "The byte that ends a list is not among the first 2^32.")
 
 
 def has_numbers(kinds: tuple[m.Kind, ...]) -> bool:
@@ -53,12 +58,16 @@ def has_numbers(kinds: tuple[m.Kind, ...]) -> bool:
 
 def numbers(f: Format) -> list[Status]:
     """Returns the status of numbers of variable width that are refused, if there are any."""
-    return [NUMBER] * has_numbers(f.description.kinds)
+    errors = {it for it, _ in reader_errors(f.description.kinds)}
+    if errors == {UNENDED[0]}:
+        return [RUN]
+    number = replace(NUMBER, text=NUMBER.text[:-1] + UNENDED_TOO) if UNENDED[0] in errors else NUMBER
+    return [number] * bool(errors)
 
 
 def rooms(f: Format) -> list[Status]:
     """Returns the statuses of lists without room for their items."""
-    names = [it.name for it in f.description.fields if isinstance(it, m.List | m.Sized | m.Fill | m.Rest)]
+    names = [it.name for it in f.description.fields if isinstance(it, m.List | m.Sized | m.Fill | m.Rest | m.Until)]
     last = len(FIRST) + len(numbers(f))
     return [
         Status(last + k, f"NO_ROOM_{it.upper()}", f"The storage has no room for the items of `{it}`.")

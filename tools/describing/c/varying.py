@@ -161,8 +161,7 @@ def packable_specs(f: Format) -> list[str]:
 def few_terms(f: Format, all_: str) -> list[str]:
     """Returns the facts about the lengths of these lists, of the fact that a pack takes the fields."""
     count = len(open_lists(f.description))
-    places = [".1" * k + ".0" for k in range(1, count)] + [".1" * count]
-    return [f"{all_}{it}" for it in places] if count else []
+    return [f"{all_}.{k}" for k in range(1, count + 1)]
 
 
 def put_code(f: Format) -> list[str]:

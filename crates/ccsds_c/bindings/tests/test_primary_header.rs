@@ -35,14 +35,14 @@ fn wanted(b: &[u8]) -> Result<PrimaryHeader, PrimaryHeaderError> {
 }
 
 /// Packs fields into buffers of all lengths up to 8.
-fn packs(it: &PrimaryHeader, bytes: Option<&[u8]>) -> u64 {
+fn packs(it: &PrimaryHeader, bytes: Result<&[u8], &'static str>) -> u64 {
     for length in 0..=8 {
         let mut buffer = vec![0xEE; length];
         let mut after = buffer.clone();
         let answer = match bytes {
-            None => Err(PrimaryHeaderError::DoesNotFit),
-            Some(_) if length < 6 => Err(PrimaryHeaderError::NoRoom),
-            Some(bytes) => {
+            Err(field) => Err(PrimaryHeaderError::DoesNotFit(field)),
+            Ok(_) if length < 6 => Err(PrimaryHeaderError::NoRoom),
+            Ok(bytes) => {
                 after[..6].copy_from_slice(bytes);
                 Ok(6)
             }
@@ -57,7 +57,7 @@ fn packs(it: &PrimaryHeader, bytes: Option<&[u8]>) -> u64 {
 fn parses(bytes: &[u8]) -> u64 {
     let found = PrimaryHeader::parse(bytes);
     assert_eq!(found, wanted(bytes));
-    found.map_or(1, |it| 1 + packs(&it, Some(&bytes[..6])))
+    found.map_or(1, |it| 1 + packs(&it, Ok(&bytes[..6])))
 }
 
 /// Packs random fields, some of which do not fit, and parses them again.
@@ -71,13 +71,14 @@ fn random_fields(random: &mut Random) -> u64 {
         count: random.next() as u16 & if wide == 2 { 0xFFFF } else { 16383 },
         length: random.next() as u16,
     };
-    if it.apid > 2047 || it.sequence > 3 || it.count > 16383 {
-        return packs(&it, None);
+    let misfits = [("apid", it.apid > 2047), ("sequence", it.sequence > 3), ("count", it.count > 16383)];
+    if let Some((field, _)) = misfits.into_iter().find(|it| it.1) {
+        return packs(&it, Err(field));
     }
     let bytes = it.pack().unwrap();
     assert_eq!(wanted(&bytes), Ok(it));
     assert_eq!(PrimaryHeader::parse(&bytes), Ok(it));
-    2 + packs(&it, Some(&bytes))
+    2 + packs(&it, Ok(&bytes))
 }
 
 fn main() {
