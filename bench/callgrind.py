@@ -15,8 +15,8 @@ FAILED = str(2**64 - 1)
 # How the function of a workload is named on each side.
 SYMBOLS = {"orig": "orig_{}", "port": "bench_{}", "slice": "bench_{}_slice", "over": "bench_{}_over"}
 PORTS = ("port", "slice", "over")
-# Functions that make a tree, and its table or its code words, before the first item.
-MAKING = ("read_code", "write_code")
+# Functions that make a tree, and its table or its code words, or a buffer, before the first item.
+MAKING = ("read_code", "write_code", "write_indexed", "read_buffered", "write_buffered")
 
 
 @dataclass(frozen=True)

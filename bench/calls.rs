@@ -60,7 +60,10 @@ sides! {
     read_prefix "orig_read_prefix" "bench_read_prefix" (order: u32, data: *const u8, len: usize, count: u64);
     read_code "orig_read_code" "bench_read_code" (order: u32, code: u32, data: *const u8, len: usize, count: u64);
     write_code "orig_write_code" "bench_write_code" (order: u32, code: u32, data: *const u8, len: usize, count: u64, out: *mut u8, out_len: usize);
+    write_indexed "orig_write_indexed" "bench_write_indexed" (order: u32, code: u32, data: *const u8, len: usize, count: u64, out: *mut u8, out_len: usize);
     write_prefix "orig_write_prefix" "bench_write_prefix" (order: u32, count: u64, seed: u64, out: *mut u8, out_len: usize);
+    read_buffered "orig_read_buffered" "bench_read_buffered" (order: u32, data: *const u8, len: usize, count: u64);
+    write_buffered "orig_write_buffered" "bench_write_buffered" (order: u32, count: u64, seed: u64, out: *mut u8, out_len: usize);
     read_fields "orig_read_fields" "bench_read_fields" (order: u32, data: *const u8, len: usize, count: u64);
     read_array "orig_read_array" "bench_read_array" (order: u32, data: *const u8, len: usize, count: u64);
     read_value "orig_read_value" "bench_read_value" (order: u32, data: *const u8, len: usize, count: u64);
@@ -150,8 +153,22 @@ mod slice {
             out: *mut u8,
             out_len: usize,
         ) -> u64;
+        #[link_name = "bench_write_indexed_slice"]
+        pub safe fn write_indexed(
+            order: u32,
+            code: u32,
+            data: *const u8,
+            len: usize,
+            count: u64,
+            out: *mut u8,
+            out_len: usize,
+        ) -> u64;
         #[link_name = "bench_write_prefix_slice"]
         pub safe fn write_prefix(order: u32, count: u64, seed: u64, out: *mut u8, out_len: usize) -> u64;
+        #[link_name = "bench_read_buffered_slice"]
+        pub safe fn read_buffered(order: u32, data: *const u8, len: usize, count: u64) -> u64;
+        #[link_name = "bench_write_buffered_slice"]
+        pub safe fn write_buffered(order: u32, count: u64, seed: u64, out: *mut u8, out_len: usize) -> u64;
         #[link_name = "bench_read_fields_slice"]
         pub safe fn read_fields(order: u32, data: *const u8, len: usize, count: u64) -> u64;
         #[link_name = "bench_read_array_slice"]
@@ -189,7 +206,10 @@ const SLICE: Side = Side {
     write_vbr: slice::write_vbr,
     write_flac_header: slice::write_flac_header,
     write_code: slice::write_code,
+    write_indexed: slice::write_indexed,
     write_prefix: slice::write_prefix,
+    read_buffered: slice::read_buffered,
+    write_buffered: slice::write_buffered,
     read_fields: slice::read_fields,
     read_array: slice::read_array,
     read_value: slice::read_value,
@@ -386,13 +406,29 @@ fn codes(order: u32, o: &str) -> Vec<Work> {
                 (s.write_code)(order, code, d.as_ptr(), d.len(), n, b.as_mut_ptr(), b.len())
             }),
         });
+        list.push(Work {
+            name: format!("write-indexed-{name}-{o}"),
+            function: "write_indexed",
+            data: symbols(code),
+            out_len: SIZE,
+            items: SYMBOLS as u64,
+            run: Box::new(move |s, d, b, n| {
+                (s.write_indexed)(order, code, d.as_ptr(), d.len(), n, b.as_mut_ptr(), b.len())
+            }),
+        });
     }
     list
 }
 
-/// Fields of constant widths, arrays, and whole-byte numbers.
+/// Numbers over std's buffers, fields of constant widths, arrays, and whole-byte numbers.
 fn values(order: u32, o: &str) -> Vec<Work> {
     vec![
+        read(format!("read-buffered-{o}"), "read_buffered", random(), capacity(13), move |s, d, n| {
+            (s.read_buffered)(order, d.as_ptr(), d.len(), n)
+        }),
+        write(format!("write-buffered-{o}"), "write_buffered", capacity(13), move |s, b, n| {
+            (s.write_buffered)(order, n, SEED, b.as_mut_ptr(), b.len())
+        }),
         read(format!("read-fields-{o}"), "read_fields", random(), capacity(64), move |s, d, n| {
             (s.read_fields)(order, d.as_ptr(), d.len(), n)
         }),

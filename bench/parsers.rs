@@ -85,7 +85,7 @@ fn works() -> Vec<Work> {
         read skip 100 - "orig_read_skip" "bench_read_skip" "bench_read_skip_slice" - [];
         read bytevec 4000 - "orig_read_bytevec" "bench_read_bytevec" "bench_read_bytevec_slice" - [];
         read cursor 150000 - "orig_read_cursor" "bench_read_cursor" - - [];
-        read bufreader 150000 - "orig_read_bufreader" "bench_read_bufreader" - - [];
+        read bufreader 150000 - "orig_read_bufreader" "bench_read_bufreader" "bench_read_bufreader_slice" - [];
         read script 4000 "orig_write_packed" - "bench_read_script" "bench_read_script_slice" - [];
         write golomb 8000 - "orig_write_golomb" "bench_write_golomb" "bench_write_golomb_slice" - ["store_write_golomb"];
         write rice 100000 - "orig_write_rice" "bench_write_rice" "bench_write_rice_slice" - ["store_write_rice"];

@@ -38,9 +38,11 @@ PARSERS = (
     Row("vectors of bytes, read and written", "read-bytevec", "write-vec"),
 )
 
+CALLS_WRITTEN = "write-(?!words|indexed|buffered).*|record-.*"
 CALLS = (
-    Row("all reads, in geometric mean", "read-.*|skip-.*", is_mean=True),
-    Row("all writes, in geometric mean", "", "write-.*|record-.*", is_mean=True),
+    Row("all reads, in geometric mean (no tables and buffers)", "read-(?!table|buffered).*|skip-.*", is_mean=True),
+    Row("all writes, in geometric mean (no code words and buffers)", "", CALLS_WRITTEN, is_mean=True),
+    Row("numbers of 13 bits, read over a `BufReader`, and written to a `BufWriter`", "read-buffered", "write-buffered"),
     Row(
         "numbers of a width known at run time, read and written",
         r"read-(un)?signed-(?!100)\d+",
@@ -70,6 +72,8 @@ CALLS = (
         "read-table-skewed-.*",
         "write-words-skewed-.*",
     ),
+    Row("symbols of flat codes, written by an array", "", "write-indexed-flat-.*"),
+    Row("symbols of skewed codes, written by an array", "", "write-indexed-skewed-.*"),
     Row("counting", "", "count"),
     Row("recording numbers of 13 bits, and playing them", "", "record-13"),
 )

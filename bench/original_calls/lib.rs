@@ -5,7 +5,7 @@ use bitstream_io::{
     BE, BitRead, BitReader, BitRecorder, BitWrite, BitWriter, BitsWritten, ByteRead, ByteReader, ByteWrite, ByteWriter,
     Endianness, LE, define_huffman_tree,
 };
-use std::io;
+use std::io::{self, BufReader, BufWriter, Write};
 use std::num::NonZero;
 
 mod codes;
@@ -127,9 +127,21 @@ exports! {
     fn write_code(order: u32, code: u32, data: *const u8, len: usize, count: u64, out: *mut u8, out_len: usize) {
         in_order!(order, E => code_out::<E>(code, &slice(data, len)[..count as usize], slice_mut(out, out_len)))
     }
+    "orig_write_indexed" "bench_write_indexed"
+    fn write_indexed(order: u32, code: u32, data: *const u8, len: usize, count: u64, out: *mut u8, out_len: usize) {
+        in_order!(order, E => code_out::<E>(code, &slice(data, len)[..count as usize], slice_mut(out, out_len)))
+    }
     "orig_write_prefix" "bench_write_prefix"
     fn write_prefix(order: u32, count: u64, seed: u64, out: *mut u8, out_len: usize) {
         in_order!(order, E => prefix_out::<E>(count, seed, slice_mut(out, out_len)))
+    }
+    "orig_read_buffered" "bench_read_buffered"
+    fn read_buffered(order: u32, data: *const u8, len: usize, count: u64) {
+        in_order!(order, E => buffered_in::<E>(slice(data, len), count))
+    }
+    "orig_write_buffered" "bench_write_buffered"
+    fn write_buffered(order: u32, count: u64, seed: u64, out: *mut u8, out_len: usize) {
+        in_order!(order, E => buffered_out::<E>(count, seed, slice_mut(out, out_len)))
     }
     "orig_read_fields" "bench_read_fields"
     fn read_fields(order: u32, data: *const u8, len: usize, count: u64) {
@@ -364,6 +376,27 @@ fn flac_out(count: u64, seed: u64, out: &mut [u8]) -> io::Result<u64> {
         w.write_bytes(&md5)?;
     }
     written(w, len)
+}
+
+fn buffered_in<E: Endianness>(data: &[u8], count: u64) -> io::Result<u64> {
+    let mut r = BitReader::<_, E>::new(BufReader::new(data));
+    let mut sum = 0;
+    for _ in 0..count {
+        sum = mix(sum, r.read_var::<u16>(13)?.into());
+    }
+    Ok(sum)
+}
+
+fn buffered_out<E: Endianness>(count: u64, seed: u64, out: &mut [u8]) -> io::Result<u64> {
+    let mut w = BitWriter::<_, E>::new(BufWriter::new(out));
+    let mut s = seed;
+    for _ in 0..count {
+        s = next(s);
+        w.write_var::<u16>(13, (s >> 51) as u16)?;
+    }
+    w.byte_align()?;
+    w.into_writer().flush()?;
+    Ok((13 * count).div_ceil(8))
 }
 
 fn fields_in<E: Endianness>(data: &[u8], count: u64) -> io::Result<u64> {

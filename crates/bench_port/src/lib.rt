@@ -2,6 +2,7 @@
 //! number computed from its items, or 2^64 - 1 if a call is refused.
 #![tactic(auto)]
 
+mod buffers;
 mod codes;
 mod flac;
 mod memory;

@@ -52,6 +52,15 @@ fn lengths_of(code: u32) -> &'static [(u8, u16)] {
     }
 }
 
+/// Returns the last symbol of a code: its symbols are numbered from 0.
+pub(crate) fn last_symbol(code: u32) -> u16 {
+    let mut symbols = 0u16;
+    for (_, count) in lengths_of(code) {
+        symbols = symbols.wrapping_add(*count);
+    }
+    symbols.saturating_sub(1)
+}
+
 /// Adds a leaf behind the parts of a tree, and joins the parts that are as deep as it.
 fn add(alloc: Global, parts: &mut Vec<Part>, symbol: u16, depth: u8) -> Result<(), AllocError> {
     let mut part = Part {
