@@ -49,6 +49,11 @@ class Sheet:
         """The name of the struct."""
         return "".join(it.capitalize() for it in self.module.split("_"))
 
+    @property
+    def other_order(self) -> str:
+        """The order that the format does not have."""
+        return "LE" if self.order == "BE" else "BE"
+
     def name(self) -> str:
         """Returns a new name of a field."""
         self.names.append(self.draw.choice([it for it in NAMES if it not in self.names]))
@@ -127,7 +132,7 @@ def cases(sheet: Sheet, width: int) -> str:
     return ", ".join(named)
 
 
-SIMPLE = tuple("bool number number signed nonzero option array bytes const any enum enums".split())
+SIMPLE = tuple("bool number number ordered signed nonzero option array bytes const any enum enums".split())
 
 
 def simple(sheet: Sheet) -> None:
@@ -149,6 +154,11 @@ def constant(sheet: Sheet, what: str) -> None:
                 values = [str(draw.randrange(min(1 << width, 9))) for _ in range(2)]
                 sheet.asked.append((name, values, True))
                 sheet.selectors += [(name, range(1 << width))] * (width <= 16)
+        case "ordered":
+            base = f"{draw.choice('ui')}{draw.choice((16, 32, 64, 128))}"
+            sheet.add(f"{(name := sheet.name())} {base} {base[1:]} {sheet.other_order}")
+            sheet.asked += [(name, [str(draw.randrange(9))], True)] * (base[0] == "u")
+            sheet.selectors += [(name, range(1 << 16))] * (base == "u16")
         case "nonzero" | "option" as found:
             base, width = integer(draw, False)
             size = int(base[1:])
@@ -464,7 +474,9 @@ def summed_lines(sheet: Sheet) -> None:
 
 def unused_sum(sheet: Sheet) -> str:
     """Returns a checksum that the lines do not have yet."""
-    return sheet.draw.choice([it for it in m.SUMS if not any(one.startswith(f"check {it} ") for one in sheet.lines)])
+    found = sheet.draw.choice([it for it in m.SUMS if not any(one.startswith(f"check {it} ") for one in sheet.lines)])
+    ordered = m.SUMS[found] in (16, 32) and sheet.draw.random() < 0.3
+    return f"{found} {sheet.other_order}" if ordered else found
 
 
 def computed(sheet: Sheet) -> None:

@@ -13,21 +13,21 @@ from describing.parse import ONLY_PARTS, beside, parsed
 LISTED = "`./format --help` lists such names"
 
 
-def described(text: str, path: str, module: str, names: bool = True) -> m.Description:
-    """Returns the model of a description. With `names`, names that the printed text uses itself are refused."""
-    found = parsed(text, beside(path, (module,), lambda it: check(it, names)))
-    check(found, names)
+def described(text: str, path: str, module: str) -> m.Description:
+    """Returns the model of a description, whose lines belong together."""
+    found = parsed(text, beside(path, (module,), check))
+    check(found)
     return found
 
 
-def check(it: m.Description, names: bool = True) -> None:
-    """Refuses what does not go checks."""
+def check(it: m.Description) -> None:
+    """Refuses lines that do not belong together, and names that the printed text uses itself."""
     if not it.name:
         raise Refused("no line `struct NAME`: it is the first one", Position(1, 1))
     if it.order not in ("BE", "LE"):
         raise Refused(f"the order is BE or LE, and not `{it.order}`", it.heads["order"])
-    check_lines(it, names)
-    check_types(it, names)
+    check_lines(it)
+    check_types(it)
     if it.error and not any(m.error(kind) for kind in it.kinds):
         why = f"no line refuses bits, so there is no `{it.error}`: leave this line out"
         raise Refused(why, it.heads["error"])
@@ -43,7 +43,7 @@ def last_line(it: m.Description) -> Position:
     return max((kind.at for kind in it.kinds), key=lambda at: at.line, default=it.heads["struct"])
 
 
-def check_lines(it: m.Description, own: bool) -> None:
+def check_lines(it: m.Description) -> None:
     """Refuses a line that needs a later one, the name of an earlier line, or an error that is not declared."""
     names: list[str] = []
     for index, kind in enumerate(it.kinds):
@@ -52,7 +52,9 @@ def check_lines(it: m.Description, own: bool) -> None:
         check_sum_name(it, kind)
         check_target(it, index, kind)
         check_given(it, kind)
-        if own and name in reserved.WORDS:
+        if m.own_order(kind) == it.order:
+            raise Refused(f"`{it.order}` is the byte order of the format: leave it out here", kind.at)
+        if name in reserved.WORDS:
             raise Refused(f"`{name}` is a word of the language: take another name ({LISTED})", kind.at)
         if name and name in names:
             raise Refused(f"two fields have one name, `{name}`", kind.at)
@@ -109,9 +111,10 @@ def check_error(it: m.Description, kind: m.Kind) -> None:
         enum = isinstance(item, m.EnumType) or isinstance(kind, m.Choose) and bool(kind.unknown)
         case = f": add it, or a case `.. Other` for the other numbers" * enum
         raise Refused(f"this line refuses bits, and the description has no line `error NAME`{case}", kind.at)
-    if any(m.snake(case) in reserved.CLAUSES for case in errors):
-        why = "`There`, `Short`, `Answer` and `Back` are names of the contract: take other ones"
-        raise Refused(why, kind.at)
+    for case in errors:
+        if m.snake(case) in reserved.CLAUSES:
+            why = "`There`, `Short`, `Answer` and `Back` are names of the contract: take other ones"
+            raise Refused(why, it.place(kind.at, case))
 
 
 def check_target(it: m.Description, index: int, kind: m.Kind) -> None:
@@ -215,7 +218,7 @@ def new_enums(it: m.Description) -> Iterator[tuple[Position, m.EnumType]]:
             yield kind.at, item
 
 
-def check_types(it: m.Description, own: bool) -> None:
+def check_types(it: m.Description) -> None:
     """Refuses two types with one name, and a type or a case of the error with a name of the specs."""
     enums = list(new_enums(it))
     types = [(it.heads["struct"], it.name), (it.heads.get("error", Position(1, 1)), it.error)]
@@ -224,19 +227,18 @@ def check_types(it: m.Description, own: bool) -> None:
     parts = [use.name for kind in it.kinds for use in m.uses(kind)]
     cases = [(at, case) for at, enum in enums for case in enum.names()]
     cases += [(kind.at, arm.case) for kind in it.kinds if isinstance(kind, m.Choose) for arm in kind.arms]
-    errors = [(kind.at, case) for kind in it.kinds for case, _ in m.refusals(kind)]
+    errors = [(it.place(kind.at, case), case) for kind in it.kinds for case, _ in m.refusals(kind)]
     for at, name in [*types, *errors, *cases]:
         check_name(name, at)
-        if own:
-            check_type_name(name, at)
+        check_type_name(name, at)
     for index, (at, name) in enumerate(types):
         if name and (name in [one for _, one in types[:index]] or name in parts):
             raise Refused(f"two types have one name, `{name}`", at)
     for at, name in [*types, *errors]:
-        if own and name in TAKEN:
+        if name in TAKEN:
             raise Refused(f"`{name}` is a name of the specs: take another one ({LISTED})", at)
     for kind in it.kinds:
-        if own and isinstance(kind, m.Choose):
+        if isinstance(kind, m.Choose):
             check_choice(it, kind, {name for _, name in [*types, *errors]} | set(parts))
 
 

@@ -11,12 +11,9 @@ from describing.read import Node, record_reader, value_of
 from describing.write import Bits, put_record
 
 
-def described(text: str, path: str, module: str, names: bool = True) -> m.Description:
-    """Returns the model of a description, whose lines belong together and whose examples are right.
-
-    With `names`, names that the printed text uses itself are refused.
-    """
-    found = checks.described(text, path, module, names)
+def described(text: str, path: str, module: str) -> m.Description:
+    """Returns the model of a description, whose lines belong together and whose examples are right."""
+    found = checks.described(text, path, module)
     for it in found.examples:
         try:
             check(found, it)

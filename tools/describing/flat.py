@@ -16,6 +16,8 @@ FlatNodes: TypeAlias = Callable[[Input], list[Node] | None]
 def made(kind: m.Kind) -> tuple[bool, Made]:
     """Returns true if a line is simple, and the function that makes its value of its number."""
     match kind:
+        case _ if m.own_order(kind):
+            return False, None
         case m.Bool():
             return True, bool
         case m.Number(integer=whole) if whole.signed:

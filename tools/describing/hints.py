@@ -42,7 +42,10 @@ def number_type(name: str, word: str) -> str:
     sign = "i" if found[1] in ("i", "int", "s", "sint") else "u"
     whole = next((it for it in (8, 16, 32, 64, 128) if it >= bits), 0)
     if whole:
-        return f"a number of {bits} bits is `{name} {sign}{whole} {bits}`"
+        order = "BE" if "be" in (found[1], found[3]) else "LE" if "le" in (found[1], found[3]) else ""
+        format_order = "LE" if order == "BE" else "BE"
+        more = f"; in a format of order {format_order} it is `{name} {sign}{whole} {bits} {order}`"
+        return f"a number of {bits} bits is `{name} {sign}{whole} {bits}`" + more * (bool(order) and 8 < bits == whole)
     return f"a number has at most 128 bits: `{name} bytes {-(-bits // 8)}` are bytes"
 
 

@@ -6,7 +6,6 @@ from describing.layout import Format, Line, all_fit, all_values, is_part_size
 from describing.model import snake
 from describing.names import Table, merged, spec_of
 from describing.specs.last import asked, case_name, inner_cases, inner_name, number_name
-from describing.specs.limits import names as limit_names
 from describing.specs.terms import called
 
 WITHIN = "Rattle.bitstream_format"
@@ -136,7 +135,6 @@ def own_specs(f: Format) -> Table:
     for it in f.summed:
         more = [f"_{k + 1}" * (k > 0) for k in range(len(f.covered(it)))]
         names += [f"{it.word}_sum", *[it.called] * (it.called != it.word), *(f"{it.word}_writes{one}" for one in more)]
-    names += limit_names(f)
     lines = {module: it for module, it in all_names(f).items() if ".declared." not in module}
     return merged({f.specs_path: " ".join(names)}, lines)
 

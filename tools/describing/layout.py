@@ -150,7 +150,7 @@ def fits_if_accepted(kind: m.Kind) -> bool:
         case m.Part():
             return all_fit(kind.use.description.kinds)
     plain = isinstance(kind, m.Number | m.NonZero | m.MaybeNonZero | m.Bool | m.Const | m.Skip | m.Flag | m.Count)
-    return plain and not m.is_limited(kind) and not m.is_golomb(kind)
+    return plain and not m.is_limited(kind) and not m.is_golomb(kind) and not m.own_order(kind)
 
 
 def all_values(kinds: Iterable[m.Kind]) -> bool:

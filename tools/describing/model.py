@@ -138,11 +138,15 @@ class Bool(Field):
 
 @dataclass(frozen=True, slots=True)
 class Number(Field):
-    """NAME TYPE BITS [max N ERROR]: a number above N, the `limit`, is the error."""
+    """NAME TYPE BITS [max N ERROR]: a number above N, the `limit`, is the error.
+
+    NAME TYPE BITS BE, NAME TYPE BITS LE: its bytes are in an order of their own, `order`, and it has no limit.
+    """
 
     integer: Integer
     limit: int | None = None
     error: str = ""
+    order: str = ""
 
 
 @dataclass(frozen=True, slots=True)
@@ -565,6 +569,8 @@ class Blocks(Field):
     """blocks NAME: bytes in blocks, each behind its size in 8 bits, up to an empty one, which is no item."""
 
 
+# The name of each order in specs.
+ORDERS = {"BE": "High", "LE": "Low"}
 # The bits of each checksum.
 SUMS = {
     "sum16": 16,
@@ -585,7 +591,8 @@ class Check(Line):
     check SUM over all [to LAST] ERROR, check SUM over FIRST to LAST ERROR: of the bytes of all lines from FIRST, or the
     first one, to LAST, or to this one. Then `over` has FIRST and LAST, or empty texts, and `span` is true. If it stands
     among them itself, it counts as zeros. `lines` is true for a checksum of the bits of its lines, of any kind: it is
-    tested behind the last line of the description.
+    tested behind the last line of the description. After SUM stands `BE` or `LE` if the bytes of the checksum are in an
+    order of their own, `order`.
     """
 
     sum: str
@@ -593,6 +600,7 @@ class Check(Line):
     error: str
     span: bool = False
     lines: bool = False
+    order: str = ""
 
     @property
     def width(self) -> int:
@@ -621,8 +629,8 @@ class Check(Line):
 
     @property
     def type_bits(self) -> int:
-        """The bits of the type that holds its number in code."""
-        return 64 if self.lines else self.width
+        """The bits of the type that holds the number that was read in code."""
+        return 64 if self.lines and not self.order else self.width
 
 
 @dataclass(frozen=True, slots=True)
@@ -713,7 +721,7 @@ def is_whole(kind: Kind) -> bool:
     """Returns true for an unsigned number, or a case, that has all bits of a type of 8, 16 or 32 bits."""
     match kind:
         case Number(integer=whole):
-            return whole.base == f"u{whole.width}" and whole.width <= 32
+            return whole.base == f"u{whole.width}" and whole.width <= 32 and not kind.order
         case Enum(enum=enum):
             return enum.width in (8, 16, 32)
     return False
@@ -785,6 +793,11 @@ class Description:
     heads: Mapping[str, Position] = field(default_factory=dict)
     examples: tuple[Example, ...] = ()
     whole: bool = True  # whether it has whole bytes if its number of bits is constant
+    places: Mapping[tuple[int, str], Position] = field(default_factory=dict, compare=False)  # of the words of each line
+
+    def place(self, at: Position, word: str) -> Position:
+        """Returns the position of a word of a line that begins at a position, or that position if the word is not there."""
+        return self.places.get((at.line, word), at)
 
     @property
     def fields(self) -> list[Described]:
@@ -847,6 +860,11 @@ Capped: TypeAlias = Number | Count | Size
 def is_capped(kind: Kind) -> TypeGuard[Capped]:
     """Returns true for a number of the record with a greatest value of its own: a greater one is not written."""
     return is_limited(kind) and not isinstance(kind, Pad)
+
+
+def own_order(kind: Kind) -> str:
+    """Returns the order of the bytes of a line if it is not that of the format, or an empty text."""
+    return kind.order if isinstance(kind, Number | Check) else ""
 
 
 def grouped(kind: Kind) -> Kind:

@@ -51,6 +51,9 @@ Rattle.bitstream_format.specs.Blocks: blocks_decoder blocks_writes blocks_size I
 Rattle.bitstream_format.specs.UpToLast: up_to_last_decoder EndsOnce
 Rattle.bitstream_format.specs.Powers: power_count
 Rattle.bitstream_format.specs.InGroups: grouped_encoder
+Rattle.bitstream_format.specs.Bounded: within_most within_counted
+Rattle.bitstream_format.specs.InBytes: in_bytes_decoder in_bytes_word in_bytes_number signed_in_bytes_decoder signed_in_bytes_word
+    signed_in_bytes_number
 Rattle.bitstream_format.specs.Checks: bytes1 bytes2 bytes4 low_step high_step byte_count sum16 sum16_udp crc32 crc32_mpeg crc16_ccitt crc16_x25 crc16_kermit
     crc24_adsb
 Rattle.bitstream_format.specs.Summed: lines_sum
@@ -79,24 +82,10 @@ Rattle.bitstream_format.specs.Lists: even_array even_list own_even_list list own
 Rattle.bitstream_format.specs.Cases: cases open_cases cases_array own_cases_array open_cases_array
 Rattle.bitstream_format.specs.Chosen: Choice=FormatChoice chosen by_size Goes=CaseGoes held-goes plain_held-goes alone-goes bytes_held-goes
 Rattle.bitstream_format.specs.Measured: varint vec Written=WrittenPart of_format of_choice of_items size_of_part stored_of_part over_bytes
-    filling in_units
+    filling in_units size-most stored-most
 Rattle.bitstream_format.specs.SizeLaws: units-again
-Rattle.bitstream_format.specs.Bounded: own_bounded
+Rattle.bitstream_format.specs.Bounded: own_bounded own_limited own_limited_size
 Rattle.bitstream_format.specs.InGroupsLaws: size_in_groups
-"""
-)
-
-# In the definitions of numbers with a greatest value.
-LIMITS = table(
-    """
-Rattle.std.proofs.Common: ∙ sym subst ap refl
-Rattle.std.proofs.lemmas.Bool: le-leb
-Rattle.bitstream_io.specs.Lengths: counted_bits=FormatBits
-Rattle.bitstream_io.proofs.CallerLemmas: RoundTrip=FormatRoundTrip Packs=FormatPacks
-Rattle.bitstream_format.specs.Format: AllOf=FormatFacts Part=FormatPart first_of_facts others_of_facts
-Rattle.bitstream_format.specs.Measured: size-most stored-most Written=WrittenPart
-Rattle.bitstream_format.specs.SizeLaws: counted-is
-Rattle.bitstream_format.specs.Bounded: own_bounded
 """
 )
 
@@ -136,6 +125,7 @@ Rattle.bitstream_io.proofs.GrowsLemmas: go_grown stop_grown grown_end vec-grown
 Rattle.bitstream_io.proofs.EachLemmas: grown_made own_map_err
     made_items-finds part_items-finds part_items-misses all_ok-items made-put made-all made-stop
 Rattle.bitstream_format.proofs.InGroupsLemmas: above-leb
+Rattle.bitstream_format.proofs.InBytesLemmas: in_bytes-finds signed_in_bytes-finds
 Rattle.bitstream_format.proofs.RestLemmas: rest-back
 Rattle.bitstream_format.proofs.ChecksLemmas: sum16-small sum16_udp-small crc32-small crc32_mpeg-small crc16_ccitt-small crc16_x25-small crc16_kermit-small
     crc24_adsb-small over-then sum-then verified-back
@@ -147,13 +137,14 @@ Rattle.bitstream_io.proofs.WriteParts: all_none
 """
 )
 PROOFS |= {module: names for module, names in SPECS.items() if module != "Rattle.std.specs.Prelude"}
+PROOFS["Rattle.bitstream_format.specs.InBytes"] += " in_bytes-back in_bytes-written"
 
 # Names that no type or case of a format may have.
 TAKEN = {
     it
     for names in [
         *SPECS.values(),
-        "PlainFormat OwnFormat FormatParts FormatPart FormatBits FormatFacts FormatPacks FormatRoundTrip FormatChoice CaseGoes WrittenPart",
+        "PlainFormat OwnFormat FormatParts FormatBits FormatChoice CaseGoes WrittenPart",
     ]
     for it in names.split()
 } - {"NonZero"} | {

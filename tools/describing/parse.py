@@ -25,8 +25,9 @@ HEADS = {
 ORDERS = ("==", "!=", "<", ">=")
 ONLY_PARTS = "only a part may be missing: describe it, also its size or its count, by lines of a file MODULE.fields"
 GIVEN = "`0 CASE, 1 CASE` and so on, after a colon"
-INTEGER = "`NAME TYPE BITS` or `NAME TYPE BITS x COUNT`"
+INTEGER = "`NAME TYPE BITS`, `NAME TYPE BITS x COUNT`, `NAME TYPE BITS max N ERROR` or `NAME TYPE BITS LE`"
 LIMITED = "a number with a greatest value is unsigned"
+BYTE_ORDERS = ("BE", "LE")
 ENUM = "`NAME enum TYPE BITS{}: NUMBER CASE, ..; DOC`"
 LIST = "`{0} NAME TYPE BITS`, `{0} NAME bytes`, `{0} NAME enum TYPE BITS: ..` or `{0} NAME TYPE of MODULE`"
 ARMS = "NUMBER TYPE of MODULE, NUMBER CASE TYPE of MODULE, NUMBER CASE, .. CASE [bytes]; DOC"
@@ -65,7 +66,8 @@ STARTS = {
     "choose": f"`choose NAME TYPE [by FIELD] [sized ERROR | rest ERROR]: {ARMS}`",
     "rest": LIST.format("rest"),
     "blocks": "`blocks NAME`",
-    "check": "`check SUM over FIELD.. ERROR`, `check SUM over all [to FIELD] ERROR` or `check SUM over FIELD to FIELD ERROR`",
+    "check": "`check SUM [LE] over FIELD.. ERROR`, `check SUM [LE] over all [to FIELD] ERROR` or "
+    "`check SUM [LE] over FIELD to FIELD ERROR`",
     "given": "`given NAME TYPE of MODULE`",
     "computed": "`computed NAME BITS [plus N | less N] [by N] over FIELD.. ERROR`, with the same lines as `check`",
     "until": "`until NAME bytes STOP`, `until NAME TYPE BITS STOP` or `until NAME TYPE of MODULE if TEST [or TEST]`",
@@ -258,11 +260,29 @@ def typed(words: Words, context: Context) -> m.Kind:
 
 def integer_line(words: Words, context: Context, word: str, at: Position, name: str) -> m.Kind:
     number = integer(words, word)
+    if words.peek() in BYTE_ORDERS:
+        return m.Number(at, words.behind, name, number, order=byte_order(words, number))
     if words.skip("x"):
         return m.Array(at, words.behind, name, number, count(words))
     if words.peek() == "max" and number.signed:
         raise words.refuse(LIMITED, 0)
     return m.Number(at, words.behind, name, number, *limit(words, number.most))
+
+
+def byte_order(words: Words, number: m.Integer) -> str:
+    """Takes `BE` or `LE`, the order of the bytes of a number."""
+    order, whole = words.next(), number.base[1:]
+    if whole == "8":
+        raise words.refuse("a number of 8 bits has one byte, and no order of its bytes")
+    if number.width != int(whole):
+        raise words.refuse(
+            f"a number in a byte order of its own has all bits of its type: `{number.base} {whole} {order}`"
+        )
+    if words.peek() == "x":
+        raise words.refuse("the numbers of an array are in the byte order of the format", 0)
+    if words.peek() == "max":
+        raise words.refuse("a number in a byte order of its own has no greatest value", 0)
+    return order
 
 
 def limit(words: Words, most: int) -> tuple[int | None, str]:
@@ -282,7 +302,9 @@ def bytes_line(words: Words, context: Context, word: str, at: Position, name: st
 
 
 def nonzero_line(words: Words, context: Context, word: str, at: Position, name: str) -> m.Kind:
-    return m.NonZero(at, words.behind, name, integer(words, wraps="NonZero<{}>", most=1))
+    return m.NonZero(
+        at, words.behind, name, integer(words, wraps="NonZero<{}>, which is stored as its number less 1,", most=1)
+    )
 
 
 def option_line(words: Words, context: Context, word: str, at: Position, name: str) -> m.Kind:
@@ -708,8 +730,11 @@ def check_line(words: Words, context: Context, at: Position) -> m.Kind:
     name = words.next()
     if name not in m.SUMS:
         raise words.refuse(f"`{name}` is no checksum: take one of {', '.join(m.SUMS)}")
+    order = words.next() if words.peek() in BYTE_ORDERS else ""
+    if order and m.SUMS[name] not in (16, 32):
+        raise words.refuse("a checksum in a byte order of its own has 16 or 32 bits")
     over, error, span = covered_lines(words, f"`check {name} over FIELD.. ERROR`")
-    return m.Check(at, words.behind, name, over, error, span, span)
+    return m.Check(at, words.behind, name, over, error, span, span, order)
 
 
 def covered_lines(words: Words, form: str) -> tuple[tuple[str, ...], str, bool]:
@@ -740,7 +765,7 @@ def computed_line(words: Words, context: Context, at: Position) -> m.Kind:
     name, width = words.next(), words.number(1, 60, "the width of a computed number")
     unit, plus = units(words)
     over, error, span = covered_lines(words, STARTS["computed"])
-    return m.Computed(at, words.behind, "bytes", over, error, span, True, name, width, unit, plus)
+    return m.Computed(at, words.behind, "bytes", over, error, span, True, "", name, width, unit, plus)
 
 
 TypedLine = Callable[[Words, Context, str, Position, str], m.Kind]
@@ -877,7 +902,10 @@ def default_comment(kind: m.Const | m.Check) -> str:
 
 
 def verified(kinds: tuple[m.Kind, ...], order: str) -> tuple[m.Kind, ...]:
-    """Returns lines with the tests of their checksums: behind the last field of one, or behind the last line."""
+    """Returns lines with the tests of their checksums: behind the last field of one, or behind the last line.
+
+    There the tests of fields come first: a test of lines needs the record, which takes the fields.
+    """
     names = [it.name for it in kinds if m.is_field(it)]
     for it in kinds:
         if isinstance(it, m.Check):
@@ -888,7 +916,7 @@ def verified(kinds: tuple[m.Kind, ...], order: str) -> tuple[m.Kind, ...]:
         if not it.lines:
             covers = m.covered(tuple(found), it)
             last = 1 + max(index for index, one in enumerate(found) if one is it or one in covers)
-        while last < len(found) and isinstance(found[last], m.Verify):
+        while last < len(found) and isinstance(one := found[last], m.Verify) and it.lines >= one.check.lines:
             last += 1
         found.insert(last, m.Verify(it.at, it.doc, it))
     return tuple(found)
@@ -957,10 +985,12 @@ def words_of(line: str, count: int) -> Words:
 def parsed(text: str, find: Find) -> m.Description:
     """Returns the model of a description. `describing.checks` refuses lines that do not belong together."""
     head, context = Head(), Context(find)
+    places: dict[tuple[int, str], Position] = {}
     for count, line in enumerate(text.removeprefix("\ufeff").split("\n"), 1):
         words = words_of(line, count)
         if not words.found or words.peek().startswith("#"):
             continue
+        places |= {(count, it): Position(count, column + 1) for column, it in words.found}
         try:
             take(head, context, words)
         except Early:
@@ -970,7 +1000,7 @@ def parsed(text: str, find: Find) -> m.Description:
             why = f"`{line.strip()}` is not understood: it is "
             raise Refused(why + form_of(words), words.place()) from None
     kinds, examples = with_ends(verified(commented(context.kinds), head.order)), tuple(head.examples)
-    return m.Description(head.name, head.doc, head.order, head.error, kinds, head.heads, examples, head.whole)
+    return m.Description(head.name, head.doc, head.order, head.error, kinds, head.heads, examples, head.whole, places)
 
 
 def description_text(path: str) -> str:

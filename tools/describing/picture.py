@@ -84,7 +84,17 @@ def pieces(bits: int, used: int) -> list[int]:
 
 def name_of(kind: m.Kind) -> str:
     """Returns the name of a line as the description has it: a flag has that of its part."""
-    return kind.target if isinstance(kind, m.Flag) else m.title(kind)
+    return kind.target if isinstance(kind, m.Flag) else ordered(kind, m.title(kind))
+
+
+def label_of(kind: m.Kind) -> str:
+    """Returns the name of a line in code."""
+    return ordered(kind, m.label(kind))
+
+
+def ordered(kind: m.Kind, name: str) -> str:
+    """Returns the name of a line, with the order of its bytes if it has one of its own."""
+    return f"{name} {m.own_order(kind)}".rstrip()
 
 
 def rows_of(kinds: tuple[m.Kind, ...], named: Callable[[m.Kind], str] = name_of) -> list[Row]:
@@ -135,7 +145,7 @@ def text(kinds: tuple[m.Kind, ...], in_code: bool = False) -> list[str]:
         kinds = tuple(replace(it, digits="") if isinstance(it, m.Const) else it for it in kinds)
     tens = "".join(f"{k // 10} " if k % 10 == 0 else "  " for k in range(WIDE)).rstrip()
     out, above = [f" {tens}", " " + " ".join(str(k % 10) for k in range(WIDE))], 0
-    for row, count in shortened(rows_of(kinds, m.label if in_code else name_of)):
+    for row, count in shortened(rows_of(kinds, label_of if in_code else name_of)):
         wide = WIDE if row[0].bits is None else width(row)
         out.append("+-" * max(above, wide) + "+")
         if row[0].bits is None:

@@ -6,7 +6,7 @@ import re
 import shutil
 import subprocess
 import tempfile
-from typing import Mapping
+from typing import Collection, Mapping
 
 from describing import model as m
 from describing import reserved
@@ -136,6 +136,34 @@ def add_line(folder: str, place: str, line: str) -> None:
         put(folder, place, "\n".join([*lines[:at], *apart, line, *lines[at:]]) + "\n")
 
 
+def drop_line(folder: str, place: str, line: str) -> None:
+    """Removes a line that names a file, if it is there."""
+    lines = text_of(folder, place).split("\n")
+    put(folder, place, "\n".join(it for it in lines if it != line))
+
+
+def remove_others(folder: str, home: str, made: str, places: Collection[str]) -> None:
+    """Removes what an earlier run printed into a folder of proofs, and this one did not; `made` is in the first line."""
+    for at, _, names in os.walk(os.path.join(folder, home), topdown=False):
+        for name in names:
+            path = os.path.join(at, name)
+            if os.path.relpath(path, folder) not in places and made in text_of(path).split("\n")[0]:
+                os.remove(path)
+        if not os.listdir(at):
+            os.rmdir(at)
+
+
+def remove_stale(f: Format, folder: str, places: Collection[str]) -> None:
+    """Removes what an earlier run printed for a format whose description has changed."""
+    remove_others(folder, f"proofs/{f.m}", f.made, places)
+    for of, name in (("specs", f"{f.spec}Fields"), ("specs", f"{f.spec}Bytes"), ("proofs", f"{f.spec}Rows")):
+        place = f"{of}/{name}.antt"
+        path = os.path.join(folder, place)
+        if place not in places and os.path.exists(path) and f.made in text_of(path):
+            os.remove(path)
+            drop_line(folder, f"{of}/Lib.antt", f"{'pub ' * (of == 'specs')}mod {name}")
+
+
 def write(description: str, folder: str, name: str = "") -> int:
     """Writes the files of a format, and the lines that name them; returns how many lines are written."""
     name = name or os.path.splitext(os.path.basename(description))[0]
@@ -151,6 +179,7 @@ def write_all(descriptions: Mapping[str, str], folder: str) -> int:
     """Does so for formats by path and module, each after its parts."""
     written = 0
     for f, files in printed(descriptions, folder):
+        remove_stale(f, folder, files)
         for place, text in files.items():
             put(folder, place, text)
             written += text.count("\n")

@@ -6,7 +6,7 @@ from typing import Callable, Mapping, TypeAlias
 
 from describing import model as m
 from describing.input import Input, ReadError, Value
-from describing.write import Unfit, checksum_of, is_last
+from describing.write import Unfit, checksum_of, is_last, swapped
 
 
 @dataclass(slots=True)
@@ -42,6 +42,8 @@ def values(kind: m.Kind) -> Callable[[Input], Value] | None:
     match kind:
         case m.Bool() | m.Flag():
             return lambda row: row.number(1) == 1
+        case m.Number(integer=whole) if kind.order:
+            return of_ordered(whole, kind.order)
         case m.Number(integer=whole):
             return of_integer(whole)
         case m.NonZero(integer=m.Integer(width=width)):
@@ -52,6 +54,8 @@ def values(kind: m.Kind) -> Callable[[Input], Value] | None:
             return lambda row: golomb(row) + less
         case m.Count(width=width, less=less):
             return lambda row: row.number(width) + less
+        case m.Check(width=width, order=order) if order:
+            return lambda row: swapped(row.number(width), width, order, row.big)
         case m.Tag(width=width) | m.Check(width=width):
             return lambda row: row.number(width)
         case m.Varint() | m.Size(varint=True):
@@ -90,6 +94,19 @@ def of_integer(whole: m.Integer) -> Callable[[Input], int]:
     """Returns the reader of a number."""
     width = whole.width
     return (lambda row: row.signed(width)) if whole.signed else (lambda row: row.number(width))
+
+
+def of_ordered(whole: m.Integer, order: str) -> Callable[[Input], int]:
+    """Returns the reader of a number in a byte order of its own."""
+    width = whole.width
+    if not whole.signed:
+        return lambda row: swapped(row.number(width), width, order, row.big)
+
+    def read(row: Input) -> int:
+        found = swapped(row.number(width), width, order, row.big)
+        return found - (found >> (width - 1) << width)
+
+    return read
 
 
 def of_enum(enum: m.EnumType) -> Callable[[Input], Value]:

@@ -66,9 +66,9 @@ CHUNK = 1 << 16
 
 
 def loaded(path: str) -> m.Description:
-    """Returns the model of a description file. Names that only printed text would refuse are allowed."""
+    """Returns the model of a description file."""
     try:
-        return described(description_text(path), path, os.path.basename(path).removesuffix(".fields"), names=False)
+        return described(description_text(path), path, os.path.basename(path).removesuffix(".fields"))
     except Refused as it:
         raise Refused(it.why, it.at, it.path or path) from None
 

@@ -31,7 +31,8 @@ def type_text(kind: m.Kind | None) -> str:
     """Returns the type of a field, or the word of another line."""
     if kind is None:
         return ""
-    return m.rust_type(kind) if m.is_field(kind) else type(kind).__name__.lower()
+    said = m.rust_type(kind) if m.is_field(kind) else type(kind).__name__.lower()
+    return f"{said} {m.own_order(kind)}".rstrip()
 
 
 def cases(kind: m.Kind | None) -> list[Json]:

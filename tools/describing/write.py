@@ -113,6 +113,18 @@ def put_integer(bits: Bits, name: str, whole: m.Integer, value: Value) -> None:
     bits.put(found & ((1 << whole.width) - 1), whole.width)
 
 
+def swapped(number: int, width: int, order: str, big: bool) -> int:
+    """Returns a number of whole bytes with its bytes reversed, if `order` is not the order of the bits: BE for `big`."""
+    if big == (order == "BE"):
+        return number
+    return int.from_bytes(number.to_bytes(width // 8, "big"), "little")
+
+
+def put_in_order(bits: Bits, number: int, width: int, order: str) -> None:
+    """Writes a number of whole bytes in a byte order of its own."""
+    bits.put(swapped(number & ((1 << width) - 1), width, order, bits.big), width)
+
+
 def enum_number(name: str, enum: m.EnumType, value: Value) -> int:
     """Returns the number of a case."""
     if isinstance(value, str) and (found := enum.number(value)) is not None:
@@ -223,6 +235,9 @@ def put_field(bits: Bits, kind: m.Described, value: Value, whole: Record, name: 
         case m.Number():
             if kind.limit is not None:
                 number(name, value, 0, kind.limit)
+            if kind.order:
+                found = number(name, value, kind.integer.least, kind.integer.most)
+                return put_in_order(bits, found, kind.integer.width, kind.order)
             put_integer(bits, name, kind.integer, value)
         case m.NonZero(integer=it):
             bits.put(number(name, value, 1, it.most + 1) - 1, it.width)
@@ -428,8 +443,8 @@ def put_hidden(bits: Bits, kind: m.Hidden, description: m.Description, whole: Re
         case m.Size():
             put_size(bits, kind, description, whole, path)
         case m.Check():
-            found = checksum_of(kind, description, whole, path)
-            bits.put(number(m.title(kind), found, 0, (1 << kind.width) - 1), kind.width)
+            found = number(m.title(kind), checksum_of(kind, description, whole, path), 0, (1 << kind.width) - 1)
+            put_in_order(bits, found, kind.width, kind.order or ("BE" if bits.big else "LE"))
 
 
 def bits_before(kind: m.Pad, description: m.Description, whole: Record, path: str) -> int:

@@ -8,6 +8,7 @@ from describing import model as m
 from describing.layout import Format, Line, is_octets, is_part_size, is_some_bytes
 from describing.model import snake
 from describing.proofs.chains import VIEW, Answers, Call
+from describing.rust.calls import in_bytes_write, sum_write
 from describing.specs.terms import asked_enums, by_enum, bytes_name, short
 
 # Contracts of reads, from the weakest: a plain read, one with errors of its own, one that allocates.
@@ -58,7 +59,10 @@ def read_call(f: Format, line: Line) -> tuple[str, str, str]:
     kind = line.kind
     match kind:
         case m.Number() if kind.integer.signed:
-            return "read", "reads", f"w{kind.integer.base[1:]}"
+            wide = f"w{kind.integer.base[1:]}"
+            return (f"signed read of {wide}", "", "") if kind.order else ("read", "reads", wide)
+        case m.Number() | m.Check():
+            return "read", "" if kind.order else "reads", ""
         case m.Groups() if kind.integer.signed:
             return f"signed read of w{kind.integer.base[1:]}", "reads", ""
         case m.Golomb():
@@ -206,7 +210,13 @@ class Writes:
             case m.Bool() | m.Flag():
                 return "call", "write_bit", "writes", ""
             case m.Number():
-                return "value", "write", "writes", f"w{kind.integer.base[1:]}" if kind.integer.signed else ""
+                wide = f"w{kind.integer.base[1:]}" if kind.integer.signed else ""
+                if kind.order:
+                    form = f"signed value of {wide} {self.fields}.{kind.name}" if wide else "value"
+                    return form, in_bytes_write(kind), "", ""
+                return "value", "write", "writes", wide
+            case m.Check():
+                return ("value", sum_write(kind), "", "") if kind.order else ("value", "write", "writes", "")
             case m.Array(item=m.Integer()):
                 return "list", "write", "writes", ""
             case m.Groups() if kind.integer.signed:

@@ -6,7 +6,7 @@ from typing import assert_never
 from describing import model as m
 from describing.layout import Line, enum_bits
 from describing.model import snake
-from describing.specs.terms import sign, width
+from describing.specs.terms import byte_shape, in_bytes, sign, width
 
 
 def found(line: Line, left: int, behind: str, order: str) -> str:
@@ -16,6 +16,9 @@ def found(line: Line, left: int, behind: str, order: str) -> str:
         case m.Bool() | m.Flag():
             return f"bit-finds _ _ {left} _ _ refl ({behind})"
         case m.Number():
+            if kind.order:
+                own, count = byte_shape(kind.order, kind.integer.width).split()
+                return f"{in_bytes(kind)}-finds _ _ {left} _ {count} {order} {own} _ refl ({behind})"
             made = f"_ {order} {width(kind.integer)} _ refl refl {'refl ' * kind.integer.signed}({behind})"
             return f"{sign(kind.integer)}-finds _ _ {kind.integer.width} {left} {made}"
         case m.NonZero() | m.MaybeNonZero():

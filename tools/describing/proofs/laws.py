@@ -6,7 +6,7 @@ import re
 from describing import model as m
 from describing.layout import Format, Line
 from describing.specs import checks, measured, values
-from describing.specs.terms import of_value, rest_count
+from describing.specs.terms import byte_shape, of_value, rest_count
 
 
 def lemmas(f: Format) -> list[str]:
@@ -79,6 +79,9 @@ def goes(f: Format) -> list[str]:
         match it.kind:
             case m.Check() as kind:
                 said, small = checks.written_sum(kind, it.covers), checks.small_sum(kind, it.covers)
+                if kind.order:
+                    term = f"in_bytes-back o {byte_shape(kind.order, kind.width)} _ _ ({said}) _ {small} ({term})"
+                    continue
                 term = f"unsigned-back o {kind.width} _ _ {kind.type_bits} ({said}) _ refl {small} ({term})"
             case m.Const(width=width, value=number):
                 term = f"literal-back _ _ o {width} {number} _ refl ({term})"
@@ -103,7 +106,10 @@ def packs(f: Format) -> list[str]:
         if isinstance(it.kind, m.Check):
             shape, number = checks.shape(it.kind), checks.written_sum(it.kind, it.covers)
             small = checks.small_sum(it.kind, it.covers)
-            term = f"packs-more (unsigned-written {shape} ({number}) refl {small}) ({term})"
+            written = f"unsigned-written {shape} ({number}) refl {small}"
+            if it.kind.order:
+                written = f"in_bytes-written o {byte_shape(it.kind.order, it.kind.width)} ({number})"
+            term = f"packs-more ({written}) ({term})"
         else:
             term = f"packs-part ({of_part(f, it, 'packs')}) ({term})"
     return [

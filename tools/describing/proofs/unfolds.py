@@ -18,7 +18,7 @@ def unfolds(line: Line) -> list[str]:
         case m.Bool() | m.Flag():
             return []
         case m.Number():
-            return of_integer(kind.integer)
+            return ["bytes_decoder", "bytes_of"] if kind.order else of_integer(kind.integer)
         case m.NonZero():
             return [*NUMBER, "non_zero", "non_zero_decoder"]
         case m.MaybeNonZero():
@@ -35,7 +35,8 @@ def unfolds(line: Line) -> list[str]:
         case m.Check():
             lines = ["lines_sum", "whole_bytes", "bytes_of"] * kind.lines
             sums = {"sum16": ["sum16_state"], "sum16-udp": ["sum16_state"], "bytes": ["stored_size"]}
-            return [*NUMBER, *lines, *sums.get(kind.sum, ["crc_over", "steps"])]
+            number = ["bytes_decoder", "bytes_of"] if kind.order else NUMBER
+            return [*number, *lines, *sums.get(kind.sum, ["crc_over", "steps"])]
         case m.Verify():
             return []
         case m.Varint() | m.Size(varint=True):

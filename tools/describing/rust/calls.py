@@ -9,7 +9,7 @@ from describing.layout import Format, Line, enum_bits, is_octets, is_part_size, 
 from describing.model import snake
 from describing.rust.asked import test
 from describing.rust.checks import arguments
-from describing.specs.terms import by_enum, bytes_name, short, tag_bits, tag_of, width
+from describing.specs.terms import by_enum, bytes_name, in_bytes, short, tag_bits, tag_of, width
 from describing.text import article
 
 
@@ -216,7 +216,8 @@ def verify(f: Format, line: Line, kind: m.Check) -> str:
     """Returns the statements that compare a checksum."""
     name = f"is_{kind.word}"
     found = f"value.{kind.called}()" if kind.lines else f"{kind.word}_of({arguments(line.covers)})"
-    test = f"let {name} = {m.label(kind)} == {found};"
+    wide = " as u64" * (kind.lines and bool(kind.order))
+    test = f"let {name} = {m.label(kind)}{wide} == {found};"
     return f"{test}\n        if !{name} {{\n            return Err({f.error}::{line.error});\n        }}"
 
 
@@ -227,6 +228,8 @@ def read(f: Format, line: Line) -> str:
         case m.Bool() | m.Flag():
             return "reader.read_bit()"
         case m.Number() | m.NonZero() | m.MaybeNonZero():
+            if isinstance(kind, m.Number) and kind.order:
+                return f"read_{in_bytes(kind)}::<{kind.order}, {kind.integer.base}, R>(reader)"
             return f"reader.read::<Bits<{kind.integer.width}>, {m.rust_type(kind)}>()"
         case m.Enum():
             return f"{kind.enum.name}::read(reader)"
@@ -256,6 +259,8 @@ def read(f: Format, line: Line) -> str:
         case m.Count():
             return f"reader.read::<Bits<{kind.width}>, u64>()"
         case m.Tag() | m.Check():
+            if isinstance(kind, m.Check) and kind.order:
+                return f"read_in_bytes::<{kind.order}, {value_type(kind)}, R>(reader)"
             return f"reader.read::<Bits<{kind.width}>, {value_type(kind)}>()"
         case m.Size(groups=m.Groups() as groups):
             any_call = "read_unsigned_vbr_any" if groups.any else "read_vbr"
@@ -366,6 +371,8 @@ def write(line: Line) -> str:
         case m.Bool():
             return f"writer.write_bit(self.{kind.name})"
         case m.Number() | m.Count() | m.Size():
+            if isinstance(kind, m.Number) and kind.order:
+                return f"{in_bytes_write(kind)}::<{kind.order}, {kind.integer.base}, W>(writer, self.{kind.name})"
             return write_number(line, kind, number_written(line, kind))
         case m.NonZero() | m.MaybeNonZero():
             return f"writer.write::<Bits<{kind.integer.width}>, {m.rust_type(kind)}>(self.{kind.name})"
@@ -402,6 +409,9 @@ def write(line: Line) -> str:
         case m.Check():
             number = f"{kind.word}_of({arguments(line.covers, 'self.')})"
             number = f"self.{kind.called}()" if kind.lines else number
+            if kind.order:
+                type_ = f", u{kind.width}" * (not kind.lines)
+                return f"{sum_write(kind)}::<{kind.order}{type_}, W>(writer, {number})"
             return f"writer.write::<Bits<{kind.width}>, {value_type(kind)}>({number})"
         case m.Verify():
             raise AssertionError(kind)
@@ -412,6 +422,16 @@ def write(line: Line) -> str:
         case m.Optional() | m.If():
             return f"write_{snake(kind.use.name)}_if(writer, {'&' * m.allocating(kind.use)}self.{kind.name})"
     assert_never(kind)
+
+
+def in_bytes_write(kind: m.Number) -> str:
+    """Returns the name of the function that writes a number in a byte order of its own."""
+    return f"write_{in_bytes(kind)}"
+
+
+def sum_write(kind: m.Check) -> str:
+    """Returns the name of the function that writes a checksum in a byte order of its own."""
+    return {16: "write_two_bytes", 32: "write_four_bytes"}[kind.width] if kind.lines else "write_in_bytes"
 
 
 def number_written(line: Line, kind: m.Number | m.Count | m.Size) -> str:

@@ -37,6 +37,7 @@ from describing.text import article
 CALLED = {
     "stated": "size_in_units stated_size stored_size write_stored_size",
     "checks": "crc16_low_more crc16_more crc32_more crc32_mpeg_more octets_of_u16 octets_of_u32 octets_of_u8 sum16_more",
+    "in_bytes": "read_in_bytes read_signed_in_bytes write_four_bytes write_in_bytes write_signed_in_bytes write_two_bytes",
     "in_groups": "write_size_in_groups",
     "powers": "power_count",
     "rest": "bytes_after rest_after rest_of",

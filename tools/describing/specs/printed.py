@@ -6,7 +6,7 @@ import re
 from describing import model as m
 from describing.imports import parts_specs, types
 from describing.layout import Format, Line
-from describing.names import ENUMS, LIMITS, SPECS, VALUES, merged, uses
+from describing.names import ENUMS, SPECS, VALUES, uses
 from describing.specs import limits, values
 from describing.specs.definitions import definitions
 from describing.specs.terms import binds, fits, place, size, spec_type
@@ -37,7 +37,7 @@ def bytes_specs(f: Format, unnamed: list[str]) -> str:
 
 def specs(f: Format) -> str:
     """Returns the text of the definitions."""
-    out = becomes(f) + (BITS_AT if f.sized else []) + limits.definitions(f)
+    out = becomes(f) + (BITS_AT if f.sized else [])
     out += [line for it in f.lines for line in definitions(f, it)]
     out += [line for it in sums_in_order(f) for line in sum_definitions(f, it)]
     out += [*values.lines(f), *values.reads(f), *values.writes(f)] if f.valued else [*entries(f), *writes(f)]
@@ -46,7 +46,6 @@ def specs(f: Format) -> str:
     text = "\n".join(out)
     # here `bits` is bound in each definition that names it
     own = VALUES if f.valued else ENUMS
-    own = merged(own, LIMITS) if limits.lines(f) else own
     imports = uses(re.sub(r"\bbits\b", "", text), types(f), parts_specs(f), own, SPECS)
     imports += [values.ATOMS] * (" atom." in text or "(atom." in text)
     return wrapped("\n".join([f"-- {f.doc}", *imports, "", f"-- {f.made}", "", text.rstrip()])) + "\n"

@@ -109,6 +109,16 @@ def shape(integer: m.Integer) -> str:
     return f"o {width(integer)} {integer.width}"
 
 
+def in_bytes(kind: m.Number) -> str:
+    """Returns the first word of the names for a number in a byte order of its own."""
+    return f"{'signed_' * kind.integer.signed}in_bytes"
+
+
+def byte_shape(order: str, width: int) -> str:
+    """Returns the order and the number of the bytes of a number."""
+    return f"{m.ORDERS[order]} {width // 8}"
+
+
 def sign(integer: m.Integer) -> str:
     """Returns the name of the write of a number."""
     return "signed" if integer.signed else "unsigned"
@@ -314,7 +324,7 @@ def entry(f: Format, line: Line) -> str:
         case m.Bool() | m.Flag():
             return "bit_decoder"
         case m.Number():
-            return f"{sign(kind.integer)}_decoder {shape(kind.integer)}"
+            return number_decoder(kind)
         case m.NonZero():
             return f"non_zero_{kind.integer.base}_decoder o {kind.integer.width}"
         case m.MaybeNonZero():
@@ -348,7 +358,8 @@ def entry(f: Format, line: Line) -> str:
         case m.Tag():
             return f"unsigned_decoder {tag_shape(kind)}"
         case m.Check():
-            return f"unsigned_decoder {checks.shape(kind)}"
+            own = f"in_bytes_decoder o {byte_shape(kind.order, kind.width)}" if kind.order else ""
+            return own or f"unsigned_decoder {checks.shape(kind)}"
         case m.Size():
             return f"unsigned_decoder o 64 {kind.width}"
         case m.Sized() | m.Fill():
@@ -374,6 +385,13 @@ def entry(f: Format, line: Line) -> str:
         case m.Verify():
             raise AssertionError(kind)
     assert_never(kind)
+
+
+def number_decoder(kind: m.Number) -> str:
+    """Returns the read of a number."""
+    if kind.order:
+        return f"{in_bytes(kind)}_decoder o {byte_shape(kind.order, kind.integer.width)}"
+    return f"{sign(kind.integer)}_decoder {shape(kind.integer)}"
 
 
 def groups_decoder(kind: m.Groups) -> str:
@@ -535,7 +553,8 @@ def word(line: Line) -> str:
         case m.Bool():
             return f"bit {term}"
         case m.Number():
-            return f"{sign(kind.integer)} {shape(kind.integer)} {term}"
+            own = f"{in_bytes(kind)}_word o {byte_shape(kind.order, kind.integer.width)}" if kind.order else ""
+            return f"{own or f'{sign(kind.integer)} {shape(kind.integer)}'} {term}"
         case m.NonZero():
             return f"non_zero {shape(kind.integer)} ({non_zero(kind)})"
         case m.MaybeNonZero():
@@ -571,7 +590,8 @@ def word(line: Line) -> str:
         case m.Tag():
             return f"unsigned {tag_shape(kind)} ({tag_number(line)})"
         case m.Check():
-            return f"unsigned {checks.shape(kind)} ({checks.written_sum(kind, line.covers)})"
+            own = f"in_bytes_word o {byte_shape(kind.order, kind.width)}" if kind.order else ""
+            return f"{own or f'unsigned {checks.shape(kind)}'} ({checks.written_sum(kind, line.covers)})"
         case m.Verify():
             raise AssertionError(kind)
         case m.Size():
@@ -817,7 +837,9 @@ def value_of(line: Line, bits: str, order: str) -> str:
     kind = line.kind
     match kind:
         case m.Number():
-            return f"{'signed_' * kind.integer.signed}number {order} ({bits})"
+            own = f"{in_bytes(kind)}_number {order} {byte_shape(kind.order, kind.integer.width)}" if kind.order else ""
+            signed = "signed_" * kind.integer.signed
+            return f"{own or f'{signed}number {order}'} ({bits})"
         case m.Bool() | m.Flag():
             return f"first_bit ({bits})"
         case m.NonZero():

@@ -11,9 +11,11 @@ from describing.specs.terms import (
     Of,
     bit,
     as_read,
+    byte_shape,
     called,
     count_bound,
     fits,
+    in_bytes,
     list_count,
     measured_size,
     number_counted,
@@ -194,7 +196,7 @@ def line_format(f: Format, line: Line, of: Of) -> str:
         case m.Bool() | m.Flag():
             return "atom.bool"
         case m.Number():
-            return number(kind.integer)
+            return ordered_number(kind) if kind.order else number(kind.integer)
         case m.NonZero():
             return f"(atom.non_zero_{kind.integer.base} {kind.integer.width} refl refl)"
         case m.MaybeNonZero():
@@ -249,6 +251,12 @@ def line_format(f: Format, line: Line, of: Of) -> str:
 def number(integer: m.Integer) -> str:
     """Returns the format of a number."""
     return f"(atom.{sign(integer)} {width(integer)} {integer.width} refl{' refl' * integer.signed})"
+
+
+def ordered_number(kind: m.Number) -> str:
+    """Returns the format of a number in a byte order of its own."""
+    shape = byte_shape(kind.order, kind.integer.width)
+    return f"(atom.{in_bytes(kind)} {shape}{' refl' * kind.integer.signed})"
 
 
 def part_format(f: Format, line: Line, use: m.Use) -> str:
