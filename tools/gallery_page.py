@@ -39,16 +39,18 @@ class Protocol:
 FIELDS = {
     "arp_packet": 5000, "av1_sequence": 34033, "can_frame": 4000, "can_packet": 4911, "ccsds_packet": 6000,
     "client_hello": 14137, "coap_message": 7264, "dhcp_message": 18972, "dns_message": 24681, "dns_typed_message":
-    16086, "eapol_packet": 5504, "ethernet_header": 4316, "gif_file": 30164, "gre_packet": 6983, "h264_high_pps": 16000, "h264_sps":
+    16086, "eapol_packet": 5504, "ethernet_frame": 7028, "ethernet_header": 4316, "gif_file": 30164, "gre_packet": 6983, "h264_high_pps": 16000, "h264_sps":
     41659, "icmp_datagram": 3971, "icmp_message": 6000, "igmp_message": 4000, "igmp_query": 9010, "igmp_report":
     13840, "ipv4_packet": 8000, "ipv6_header": 8000, "ipv6_headers": 11705, "j1939_frame": 6000, "lldp_unit": 12490,
     "mac_frame": 12011, "mac_header": 10751, "macsec_frame": 9948, "modbus_exception": 4000, "modbus_request": 6617, "modbus_response": 7247, "mp3_header":
     12000, "mpls_stack": 11872, "mqtt_header": 2234, "mqtt_packet": 4605, "netflow_export": 288288, "ntp_message":
-    6000, "ntp_packet": 13000, "pcap_file": 9748, "png_file": 12608, "quic_long_header": 4627, "quic_packet": 4432,
+    6000, "ntp_packet": 13000, "pcap_file": 9748, "ppp_frame": 3000, "png_file": 12608, "quic_long_header": 4627, "quic_packet": 4432,
     "quic_retry": 4910, "radius_packet": 9936, "rip_message": 28742, "rtcp_compound": 38161, "rtp_datagram": 18723, "rtp_packet": 17152,
-    "tcp_header": 16000, "tcp_segment": 6255, "tftp_data": 3000, "tftp_request": 3000, "tls_record": 3509,
+    "stun_header": 3000, "tcp_header": 16000, "tcp_segment": 6255, "tftp_data": 3000, "tftp_request": 3000, "tls_record": 3509,
     "ts_header": 7000, "ts_pat": 47458, "udp_datagram": 5000, "vrrp_advertisement": 8517, "vxlan_packet": 5000,
+    "wifi_frame": 14058,
 }  # fmt: skip
+
 # The protocols that the gallery was asked for.
 WANTED = (
     Protocol("IPv4 with options and checksum", "ipv4_packet", True),
@@ -67,7 +69,7 @@ WANTED = (
     Protocol("UDP", "udp_datagram", True),
     Protocol("ICMP", "icmp_message messages/icmp_datagram", True),
     Protocol("ARP", "arp_packet", True),
-    Protocol("Ethernet with VLAN", "ethernet_header vlan_tag", True),
+    Protocol("Ethernet with VLAN", "ethernet_header vlan_tag messages/ethernet_frame", True),
     Protocol(
         "DNS messages: names with pointers, records by type",
         "dns_message dns/dns_typed_message",
@@ -145,6 +147,7 @@ OTHERS = (
     Protocol("TFTP requests and data", "tftp_request tftp_data", True),
     Protocol("EAP over IEEE 802.1X", "eapol_packet", True),
     Protocol("SOCKS login", "socks_login", True),
+    Protocol("STUN headers", "stun_header", True),
     Protocol("MPLS", "messages/mpls_stack", True),
     Protocol("LLDP", "messages/lldp_unit", True),
     Protocol("DHCP", "messages/dhcp_message", True),
@@ -154,6 +157,8 @@ OTHERS = (
     Protocol("pcap files", "messages/pcap_file", True),
     Protocol("VXLAN", "messages/vxlan_packet", True),
     Protocol("MACsec", "messages/macsec_frame", True),
+    Protocol("PPP", "messages/ppp_frame", True),
+    Protocol("802.11 data frames in the clear", "messages/wifi_frame", True, "the control of high throughput"),
     Protocol("GRE", "messages/gre_packet", True, "that the checksum is right: it is in an optional part"),
 )
 
