@@ -47,7 +47,7 @@ pub fn read_signed_in_bytes<F: Endianness, S: SignedInteger, R: BitRead>(
 ///
 /// # Errors
 ///
-/// The errors of the sink.
+/// The errors of the sink. The bits before the error stay written.
 pub fn write_in_bytes<F: Endianness, U: UnsignedInteger, W: BitWrite>(
     writer: &mut W,
     number: U,
@@ -63,7 +63,7 @@ pub fn write_in_bytes<F: Endianness, U: UnsignedInteger, W: BitWrite>(
 ///
 /// # Errors
 ///
-/// The errors of the sink.
+/// The errors of the sink. The bits before the error stay written.
 pub fn write_signed_in_bytes<F: Endianness, S: SignedInteger, W: BitWrite>(
     writer: &mut W,
     number: S,
@@ -80,7 +80,7 @@ pub fn write_signed_in_bytes<F: Endianness, S: SignedInteger, W: BitWrite>(
 ///
 /// # Errors
 ///
-/// The errors of the sink.
+/// The errors of the sink. The bits before the error stay written.
 pub fn write_two_bytes<F: Endianness, W: BitWrite>(writer: &mut W, number: u64) -> Result<(), Error>
     ensures { WritesAll W.sink (in_bytes_word W.sink.order F.order 2 number ∷ []) writer.old result writer.new }
 {
@@ -93,7 +93,7 @@ pub fn write_two_bytes<F: Endianness, W: BitWrite>(writer: &mut W, number: u64) 
 ///
 /// # Errors
 ///
-/// The errors of the sink.
+/// The errors of the sink. The bits before the error stay written.
 pub fn write_four_bytes<F: Endianness, W: BitWrite>(
     writer: &mut W,
     number: u64,
