@@ -106,7 +106,10 @@ WANTED = (
     ),
     Protocol("J1939", "j1939_frame", True),
     Protocol(
-        "802.15.4, versions 0 and 1", "mac_header messages/mac_frame", True, "security headers and commands by type"
+        "802.15.4, versions 0 and 1",
+        "messages/mac_header messages/mac_frame",
+        True,
+        "security headers and commands by type",
     ),
     Protocol(
         "CCSDS with secondary header",
@@ -142,8 +145,8 @@ WANTED = (
 )
 # Further ones.
 OTHERS = (
-    Protocol("IGMP, versions 2 and 3", "igmp_message igmp_query igmp_report", True),
-    Protocol("NetFlow, version 5", "netflow_export", True),
+    Protocol("IGMP, versions 2 and 3", "messages/igmp_message messages/igmp_query messages/igmp_report", True),
+    Protocol("NetFlow, version 5", "messages/netflow_export", True),
     Protocol("TFTP requests and data", "tftp_request tftp_data", True),
     Protocol("EAP over IEEE 802.1X", "eapol_packet", True),
     Protocol("SOCKS login", "socks_login", True),

@@ -1,6 +1,0 @@
--- Made by `./format` from formats/netflow_flow.fields: edit that file and make this one anew.
-use Rattle.bitstream_io.proofs.CallerLemmas.{plainly_written}
-use Rattle.network_messages.proofs.netflow_flow.NetflowFlowToBitStream.to_writer.Goals as goal
-
-pub returns : goal.returns
-returns g c = record { writes = plainly_written _ _ _ _ _ c.write.ensures }

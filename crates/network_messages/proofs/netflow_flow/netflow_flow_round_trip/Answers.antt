@@ -1,9 +1,0 @@
--- Made by `./format` from formats/netflow_flow.fields: edit that file and make this one anew.
-use Rattle.network_messages.proofs.NetflowFlowLemmas.{netflow_flow_goes, netflow_flow_packs}
-use Rattle.network_messages.proofs.netflow_flow.netflow_flow_round_trip.Goals as goal
-
-pub returns-clause-back : goal.returns-clause-back
-returns-clause-back c = λ o value at from more fits. (netflow_flow_goes o value fits).back at from more
-
-pub returns-clause-size : goal.returns-clause-size
-returns-clause-size c = λ o value at fits. (netflow_flow_packs o value fits).size at
