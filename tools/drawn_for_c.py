@@ -31,9 +31,12 @@ Row = tuple[Format, bytes]
 
 
 def formats(crate: str) -> list[Format]:
-    """Returns the formats of a crate for C, parts first."""
-    paths = descriptions_for_c(crate)
-    return [Format("tried", os.path.basename(it).removesuffix(".fields"), loaded(it), it) for it in paths]
+    """Returns the formats of a crate for C, inner ones first, without a `part` and those whose parse is given parts."""
+    paths = [(it, loaded(it)) for it in descriptions_for_c(crate)]
+    found = [
+        Format("tried", os.path.basename(it).removesuffix(".fields"), said, it) for it, said in paths if said.whole
+    ]
+    return [it for it in found if not it.handed]
 
 
 # ---- what is right
@@ -352,6 +355,10 @@ def asked(module: ModuleType, f: Format, data: bytes) -> str:
     return f"{taken} {value.pack().hex()}"
 
 
+# The most bytes of a list that is one byte too long.
+MOST_DRAWN = 1 << 20
+
+
 def misfits(description: m.Description) -> Iterator[tuple[str, object]]:
     """Returns fields with values that do not fit their bits, are above their greatest value, or hold what ends them."""
     for it in description.fields:
@@ -361,7 +368,9 @@ def misfits(description: m.Description) -> Iterator[tuple[str, object]]:
             yield it.name, bytes([it.stop])
         elif isinstance(it, m.List | m.Sized) and isinstance(it.item, m.Octet):
             line = counted(description, it)
-            yield it.name, bytes((line.most_items if isinstance(line, m.Count) else line.most) + 1)
+            most = line.most_items if isinstance(line, m.Count) else line.most
+            if most < MOST_DRAWN:
+                yield it.name, bytes(most + 1)
 
 
 def fields(description: m.Description, value: object) -> Record:

@@ -521,6 +521,10 @@ class Format:
         """The number of bytes of a format that has a constant number."""
         return (self.total or 0) // 8
 
+    def gives(self) -> str:
+        """Returns the record of what was read."""
+        return "record { " + "; ".join(f"{it.name} = {it.name}" for it in self.fields) + " }"
+
     def pieces(self) -> list[tuple[Line, ...]]:
         """Returns the lines that each function reads and writes."""
         head = self.lines[: len(self.lines) - len(self.summed)]

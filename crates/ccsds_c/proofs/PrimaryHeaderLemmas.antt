@@ -1,29 +1,19 @@
 -- Made by `./format --c` from ../bitstream_callers/formats/primary_header.fields: edit that file and make this one anew.
--- The number of bytes of a `PrimaryHeader`, its bits before others, and when a parse succeeds.
+-- The bits of a `PrimaryHeader` before others, and when a parse succeeds.
 use Rattle.ccsds_c.specs.PrimaryHeader.{primary_header_parsed}
-use Rattle.bitstream_callers.specs.PrimaryHeader.{primary_header_bits, Fits, const_at_0}
+use Rattle.bitstream_callers.specs.PrimaryHeader.{primary_header_bits, const_at_0}
 use Rattle.bitstream_callers.specs.declared.primary_header.PrimaryHeader.{PrimaryHeader}
 use Rattle.bitstream_callers.specs.declared.primary_header.PrimaryHeaderError.{PrimaryHeaderError}
 use Rattle.bitstream_callers.specs.declared.primary_header.PrimaryHeaderError.TheVariants.{Reader, WrongVersion}
 use Rattle.ccsds_c.proofs.SharedLemmas.{failed}
-use Rattle.bitstream_callers.proofs.PrimaryHeaderLemmas.{primary_header_packs, told}
-use Rattle.std.proofs.Common.{◌≡◌, ◌≢◌, ◌<◌, ◌≤◌, ◌++◌, ◌∙◌, ℕ, List, Result, Err, length, refl, sym, ap, arith}
+use Rattle.std.proofs.Common.{◌≡◌, ◌≢◌, ◌<◌, ◌≤◌, ◌++◌, ◌∙◌, ℕ, List, Result, Err, length, sym, ap, arith}
 use Rattle.std.specs.Prelude.{pos, take, drop}
 use Rattle.std.proofs.lemmas.List.{take-append-drop}
 use Rattle.std.proofs.lemmas.Bool.{cases_lt}
 use Rattle.std.proofs.lemmas.Bool.Decides.{eqb_tells}
-use Rattle.bitstream_io.proofs.WordLemmas.{length-bits, bits-append}
-use Rattle.bitstream_io.proofs.CallerLemmas.{inl, inr, packs-whole}
+use Rattle.bitstream_io.proofs.WordLemmas.{bits-append}
+use Rattle.bitstream_io.proofs.CallerLemmas.{inl, inr}
 use Rattle.bitstream_io.specs.Callers.{EndOfInput, High, bits}
-
--- the number of bytes
-pub bytes_count : (value : PrimaryHeader) (bytes : List ℕ) → Fits value
-    → bits High bytes ≡ primary_header_bits value → length bytes ≡ 6
-bytes_count value bytes fits is =
-    let all = primary_header_packs High value fits in
-    let count : length (bits High bytes) ≡ 48 =
-    ap length (is ∙ sym (told value) ∙ packs-whole all refl) ∙ all.size 0 in
-    omega (arith, count, length-bits High bytes)
 
 -- the bits of bytes whose first ones are known
 pub first_bytes : (value : PrimaryHeader) (bytes : List ℕ) → bits High (take 6 bytes) ≡ primary_header_bits value

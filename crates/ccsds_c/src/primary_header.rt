@@ -9,8 +9,9 @@ ghost use Rattle.bitstream_callers.specs.declared.primary_header.PrimaryHeaderEr
 ghost use Rattle.std.specs.Prelude.{◌≡◌, ◌≢◌, ◌<◌, ◌≤◌, ◌↔◌, Ok, Err, IsTrue, IsSomeAnd, length, take, pos};
 ghost use Rattle.bitstream_io.specs.Callers.{EndOfInput, High, bits, sure_answer};
 
-use crate::shared::{Packed, refused};
+use crate::shared::{Packed, refused, write_first};
 use bitstream_callers::primary_header::{PrimaryHeader, PrimaryHeaderError};
+use bitstream_io::BE;
 
 /// `struct primary_header` of C.
 #[repr(C)]
@@ -150,11 +151,7 @@ fn put(fields: &PrimaryHeader, buffer: &mut [u8]) -> Packed
     if buffer.len() < 6 {
         return refused(2);
     }
-    let mut whole = [0u8; 6];
-    match fields.pack_into(&mut whole) {
-        Ok(packed) => buffer[..6].copy_from_slice(packed.as_slice()),
-        Err(_) => unreachable!(),
-    }
+    write_first::<BE, PrimaryHeader>(fields, buffer);
     Packed {
         status: 0,
         written: 6,

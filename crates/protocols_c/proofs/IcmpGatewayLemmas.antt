@@ -1,26 +1,16 @@
 -- Made by `./format --c` from ../protocols/formats/icmp_gateway.fields: edit that file and make this one anew.
--- The number of bytes of a `IcmpGateway`, its bits before others, and when a parse succeeds.
+-- The bits of a `IcmpGateway` before others, and when a parse succeeds.
 use Rattle.protocols_c.specs.IcmpGateway.{icmp_gateway_parsed}
-use Rattle.protocols.specs.IcmpGateway.{icmp_gateway_bits, Fits}
+use Rattle.protocols.specs.IcmpGateway.{icmp_gateway_bits}
 use Rattle.protocols.specs.declared.icmp_gateway.IcmpGateway.{IcmpGateway}
 use Rattle.protocols_c.proofs.SharedLemmas.{failed}
-use Rattle.protocols.proofs.IcmpGatewayLemmas.{icmp_gateway_packs, told}
-use Rattle.std.proofs.Common.{◌≡◌, ◌<◌, ◌≤◌, ◌++◌, ◌∙◌, ℕ, List, Result, Err, length, refl, sym, ap, arith}
+use Rattle.std.proofs.Common.{◌≡◌, ◌<◌, ◌≤◌, ◌++◌, ◌∙◌, ℕ, List, Result, Err, length, sym, ap, arith}
 use Rattle.std.specs.Prelude.{pos, take, drop}
 use Rattle.std.proofs.lemmas.List.{take-append-drop}
 use Rattle.std.proofs.lemmas.Bool.{cases_lt}
-use Rattle.bitstream_io.proofs.WordLemmas.{length-bits, bits-append}
-use Rattle.bitstream_io.proofs.CallerLemmas.{inl, inr, packs-whole}
+use Rattle.bitstream_io.proofs.WordLemmas.{bits-append}
+use Rattle.bitstream_io.proofs.CallerLemmas.{inl, inr}
 use Rattle.bitstream_io.specs.Callers.{EndOfInput, Error, High, bits}
-
--- the number of bytes
-pub bytes_count : (value : IcmpGateway) (bytes : List ℕ) → Fits value
-    → bits High bytes ≡ icmp_gateway_bits value → length bytes ≡ 4
-bytes_count value bytes fits is =
-    let all = icmp_gateway_packs High value fits in
-    let count : length (bits High bytes) ≡ 32 =
-    ap length (is ∙ sym (told value) ∙ packs-whole all refl) ∙ all.size 0 in
-    omega (arith, count, length-bits High bytes)
 
 -- the bits of bytes whose first ones are known
 pub first_bytes : (value : IcmpGateway) (bytes : List ℕ) → bits High (take 4 bytes) ≡ icmp_gateway_bits value

@@ -1,26 +1,16 @@
 -- Made by `./format --c` from ../protocols/formats/report_block.fields: edit that file and make this one anew.
--- The number of bytes of a `ReportBlock`, its bits before others, and when a parse succeeds.
+-- The bits of a `ReportBlock` before others, and when a parse succeeds.
 use Rattle.protocols_c.specs.ReportBlock.{report_block_parsed}
-use Rattle.protocols.specs.ReportBlock.{report_block_bits, Fits}
+use Rattle.protocols.specs.ReportBlock.{report_block_bits}
 use Rattle.protocols.specs.declared.report_block.ReportBlock.{ReportBlock}
 use Rattle.protocols_c.proofs.SharedLemmas.{failed}
-use Rattle.protocols.proofs.ReportBlockLemmas.{report_block_packs, told}
-use Rattle.std.proofs.Common.{◌≡◌, ◌<◌, ◌≤◌, ◌++◌, ◌∙◌, ℕ, List, Result, Err, length, refl, sym, ap, arith}
+use Rattle.std.proofs.Common.{◌≡◌, ◌<◌, ◌≤◌, ◌++◌, ◌∙◌, ℕ, List, Result, Err, length, sym, ap, arith}
 use Rattle.std.specs.Prelude.{pos, take, drop}
 use Rattle.std.proofs.lemmas.List.{take-append-drop}
 use Rattle.std.proofs.lemmas.Bool.{cases_lt}
-use Rattle.bitstream_io.proofs.WordLemmas.{length-bits, bits-append}
-use Rattle.bitstream_io.proofs.CallerLemmas.{inl, inr, packs-whole}
+use Rattle.bitstream_io.proofs.WordLemmas.{bits-append}
+use Rattle.bitstream_io.proofs.CallerLemmas.{inl, inr}
 use Rattle.bitstream_io.specs.Callers.{EndOfInput, Error, High, bits}
-
--- the number of bytes
-pub bytes_count : (value : ReportBlock) (bytes : List ℕ) → Fits value
-    → bits High bytes ≡ report_block_bits value → length bytes ≡ 24
-bytes_count value bytes fits is =
-    let all = report_block_packs High value fits in
-    let count : length (bits High bytes) ≡ 192 =
-    ap length (is ∙ sym (told value) ∙ packs-whole all refl) ∙ all.size 0 in
-    omega (arith, count, length-bits High bytes)
 
 -- the bits of bytes whose first ones are known
 pub first_bytes : (value : ReportBlock) (bytes : List ℕ) → bits High (take 24 bytes) ≡ report_block_bits value

@@ -1,29 +1,19 @@
 -- Made by `./format --c` from ../protocols/formats/stun_header.fields: edit that file and make this one anew.
--- The number of bytes of a `StunHeader`, its bits before others, and when a parse succeeds.
+-- The bits of a `StunHeader` before others, and when a parse succeeds.
 use Rattle.protocols_c.specs.StunHeader.{stun_header_parsed}
-use Rattle.protocols.specs.StunHeader.{stun_header_bits, Fits, const_at_0, const_at_32}
+use Rattle.protocols.specs.StunHeader.{stun_header_bits, const_at_0, const_at_32}
 use Rattle.protocols.specs.declared.stun_header.StunHeader.{StunHeader}
 use Rattle.protocols.specs.declared.stun_header.StunHeaderError.{StunHeaderError}
 use Rattle.protocols.specs.declared.stun_header.StunHeaderError.TheVariants.{Reader, NoStun, NoCookie}
 use Rattle.protocols_c.proofs.SharedLemmas.{failed}
-use Rattle.protocols.proofs.StunHeaderLemmas.{stun_header_packs, told}
-use Rattle.std.proofs.Common.{◌≡◌, ◌≢◌, ◌<◌, ◌≤◌, ◌++◌, ◌∙◌, ℕ, List, Result, Err, length, refl, sym, ap, arith}
+use Rattle.std.proofs.Common.{◌≡◌, ◌≢◌, ◌<◌, ◌≤◌, ◌++◌, ◌∙◌, ℕ, List, Result, Err, length, sym, ap, arith}
 use Rattle.std.specs.Prelude.{pos, take, drop}
 use Rattle.std.proofs.lemmas.List.{take-append-drop}
 use Rattle.std.proofs.lemmas.Bool.{cases_lt}
 use Rattle.std.proofs.lemmas.Bool.Decides.{eqb_tells}
-use Rattle.bitstream_io.proofs.WordLemmas.{length-bits, bits-append}
-use Rattle.bitstream_io.proofs.CallerLemmas.{inl, inr, packs-whole}
+use Rattle.bitstream_io.proofs.WordLemmas.{bits-append}
+use Rattle.bitstream_io.proofs.CallerLemmas.{inl, inr}
 use Rattle.bitstream_io.specs.Callers.{EndOfInput, High, bits}
-
--- the number of bytes
-pub bytes_count : (value : StunHeader) (bytes : List ℕ) → Fits value
-    → bits High bytes ≡ stun_header_bits value → length bytes ≡ 20
-bytes_count value bytes fits is =
-    let all = stun_header_packs High value fits in
-    let count : length (bits High bytes) ≡ 160 =
-    ap length (is ∙ sym (told value) ∙ packs-whole all refl) ∙ all.size 0 in
-    omega (arith, count, length-bits High bytes)
 
 -- the bits of bytes whose first ones are known
 pub first_bytes : (value : StunHeader) (bytes : List ℕ) → bits High (take 20 bytes) ≡ stun_header_bits value

@@ -1,26 +1,16 @@
 -- Made by `./format --c` from ../protocols/formats/vlan_tag.fields: edit that file and make this one anew.
--- The number of bytes of a `VlanTag`, its bits before others, and when a parse succeeds.
+-- The bits of a `VlanTag` before others, and when a parse succeeds.
 use Rattle.protocols_c.specs.VlanTag.{vlan_tag_parsed}
-use Rattle.protocols.specs.VlanTag.{vlan_tag_bits, Fits}
+use Rattle.protocols.specs.VlanTag.{vlan_tag_bits}
 use Rattle.protocols.specs.declared.vlan_tag.VlanTag.{VlanTag}
 use Rattle.protocols_c.proofs.SharedLemmas.{failed}
-use Rattle.protocols.proofs.VlanTagLemmas.{vlan_tag_packs, told}
-use Rattle.std.proofs.Common.{◌≡◌, ◌<◌, ◌≤◌, ◌++◌, ◌∙◌, ℕ, List, Result, Err, length, refl, sym, ap, arith}
+use Rattle.std.proofs.Common.{◌≡◌, ◌<◌, ◌≤◌, ◌++◌, ◌∙◌, ℕ, List, Result, Err, length, sym, ap, arith}
 use Rattle.std.specs.Prelude.{pos, take, drop}
 use Rattle.std.proofs.lemmas.List.{take-append-drop}
 use Rattle.std.proofs.lemmas.Bool.{cases_lt}
-use Rattle.bitstream_io.proofs.WordLemmas.{length-bits, bits-append}
-use Rattle.bitstream_io.proofs.CallerLemmas.{inl, inr, packs-whole}
+use Rattle.bitstream_io.proofs.WordLemmas.{bits-append}
+use Rattle.bitstream_io.proofs.CallerLemmas.{inl, inr}
 use Rattle.bitstream_io.specs.Callers.{EndOfInput, Error, High, bits}
-
--- the number of bytes
-pub bytes_count : (value : VlanTag) (bytes : List ℕ) → Fits value
-    → bits High bytes ≡ vlan_tag_bits value → length bytes ≡ 4
-bytes_count value bytes fits is =
-    let all = vlan_tag_packs High value fits in
-    let count : length (bits High bytes) ≡ 32 =
-    ap length (is ∙ sym (told value) ∙ packs-whole all refl) ∙ all.size 0 in
-    omega (arith, count, length-bits High bytes)
 
 -- the bits of bytes whose first ones are known
 pub first_bytes : (value : VlanTag) (bytes : List ℕ) → bits High (take 4 bytes) ≡ vlan_tag_bits value

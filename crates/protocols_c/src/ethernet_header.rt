@@ -10,7 +10,7 @@ ghost use Rattle.std.specs.Prelude.{◌≡◌, ◌<◌, ◌≤◌, ◌↔◌, Ok
 ghost use Rattle.std.specs.Option.{ForSome};
 ghost use Rattle.bitstream_io.specs.Callers.{High, bits};
 
-use crate::shared::{Packed, refused};
+use crate::shared::{Packed, refused, write_first};
 use crate::vlan_tag::{self, VlanTagC};
 use bitstream_io::{BE, BitReader, BitsWritten, Error};
 use protocols::ethernet_header::{EtherType, EthernetHeader};
@@ -227,11 +227,7 @@ fn put(fields: &EthernetHeader, buffer: &mut [u8]) -> Packed
     if written > buffer.len() as u64 {
         return refused(2);
     }
-    let mut whole = [0u8; 18];
-    match fields.pack_into(&mut whole) {
-        Ok(packed) => buffer[..written as usize].copy_from_slice(packed.as_slice()),
-        Err(_) => unreachable!(),
-    }
+    write_first::<BE, EthernetHeader>(fields, buffer);
     Packed {
         status: 0,
         written: written as usize,

@@ -10,7 +10,7 @@ ghost use Rattle.bitstream_io.specs.Callers.{High, bits};
 
 use crate::icmp_gateway::{self, IcmpGatewayC};
 use crate::icmp_ids::{self, IcmpIdsC};
-use crate::shared::{Packed, refused};
+use crate::shared::{Packed, refused, write_first};
 use bitstream_io::{BE, BitReader, BitsWritten, Error};
 use protocols::icmp_header::{Body, IcmpHeader};
 
@@ -279,11 +279,7 @@ fn put(fields: &IcmpHeader, buffer: &mut [u8]) -> Packed
     if written > buffer.len() as u64 {
         return refused(2);
     }
-    let mut whole = [0u8; 8];
-    match fields.pack_into(&mut whole) {
-        Ok(packed) => buffer[..written as usize].copy_from_slice(packed.as_slice()),
-        Err(_) => unreachable!(),
-    }
+    write_first::<BE, IcmpHeader>(fields, buffer);
     Packed {
         status: 0,
         written: written as usize,

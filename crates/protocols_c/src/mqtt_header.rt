@@ -8,7 +8,7 @@ ghost use Rattle.protocols.specs.declared.mqtt_header.MqttHeader.{MqttHeader};
 ghost use Rattle.std.specs.Prelude.{◌≡◌, ◌≤◌, ◌↔◌, Ok, IsTrue, IsSomeAnd, length, take};
 ghost use Rattle.bitstream_io.specs.Callers.{High, bits};
 
-use crate::shared::{Packed, refused};
+use crate::shared::{Packed, refused, write_first};
 use crate::status::reader_status;
 use bitstream_io::{BE, BitReader, BitsWritten};
 use protocols::mqtt_header::{MqttError, MqttHeader, Packet};
@@ -161,11 +161,7 @@ fn put(fields: &MqttHeader, buffer: &mut [u8]) -> Packed
     if written > buffer.len() as u64 {
         return refused(2);
     }
-    let mut whole = [0u8; 6];
-    match fields.pack_into(&mut whole) {
-        Ok(packed) => buffer[..written as usize].copy_from_slice(packed.as_slice()),
-        Err(_) => unreachable!(),
-    }
+    write_first::<BE, MqttHeader>(fields, buffer);
     Packed {
         status: 0,
         written: written as usize,

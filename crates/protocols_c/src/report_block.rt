@@ -8,8 +8,8 @@ ghost use Rattle.protocols.specs.declared.report_block.ReportBlock.{ReportBlock}
 ghost use Rattle.std.specs.Prelude.{◌≡◌, ◌<◌, ◌≤◌, ◌↔◌, Ok, Err, IsTrue, IsSomeAnd, length, take, pos};
 ghost use Rattle.bitstream_io.specs.Callers.{EndOfInput, High, bits, sure_answer};
 
-use crate::shared::{Packed, refused};
-use bitstream_io::Error;
+use crate::shared::{Packed, refused, write_first};
+use bitstream_io::{BE, Error};
 use protocols::report_block::ReportBlock;
 
 /// `struct report_block` of C.
@@ -157,11 +157,7 @@ fn put(fields: &ReportBlock, buffer: &mut [u8]) -> Packed
     if buffer.len() < 24 {
         return refused(2);
     }
-    let mut whole = [0u8; 24];
-    match fields.pack_into(&mut whole) {
-        Ok(packed) => buffer[..24].copy_from_slice(packed.as_slice()),
-        Err(_) => unreachable!(),
-    }
+    write_first::<BE, ReportBlock>(fields, buffer);
     Packed {
         status: 0,
         written: 24,

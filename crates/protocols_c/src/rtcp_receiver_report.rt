@@ -16,10 +16,10 @@ ghost use Rattle.std.specs.List.{flat_map};
 ghost use Rattle.bitstream_io.specs.Callers.{list_item, High, bits, items_decoder, WritesAll, same_error, optional_writes};
 
 use crate::report_block::{self, ReportBlockC};
-use crate::shared::{Packed, refused};
+use crate::shared::{Packed, refused, write_first};
 use bitstream_io::{
     BE, BitRead, BitReadExt, BitReader, BitWrite, BitWriteExt, Bits, BitsWritten, Error,
-    ToBitStream, pack_into,
+    ToBitStream,
 };
 use protocols::report_block::ReportBlock;
 use protocols::rtcp_receiver_report::ReceiverReportError;
@@ -326,11 +326,7 @@ fn put(fields: &RtcpReceiverReportGiven, buffer: &mut [u8]) -> Packed
     if written > buffer.len() as u64 {
         return refused(2);
     }
-    let mut whole = [0u8; 752];
-    match pack_into::<BE, RtcpReceiverReportGiven>(fields, &mut whole) {
-        Ok(packed) => buffer[..written as usize].copy_from_slice(packed.as_slice()),
-        Err(_) => unreachable!(),
-    }
+    write_first::<BE, RtcpReceiverReportGiven>(fields, buffer);
     Packed {
         status: 0,
         written: written as usize,

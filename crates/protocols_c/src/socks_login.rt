@@ -10,10 +10,10 @@ ghost use Rattle.std.specs.Prelude.{◌≡◌, ◌<◌, ◌++◌, ◌∷◌, [],
 ghost use Rattle.bitstream_io.specs.Codec.{Done};
 ghost use Rattle.bitstream_io.specs.Callers.{High, bits, vec_decoder, WritesAll, same_error};
 
-use crate::shared::{Packed, refused};
+use crate::shared::{Packed, refused, write_first};
 use bitstream_io::{
     BE, BitRead, BitReadExt, BitReader, BitWrite, BitWriteExt, Bits, BitsWritten, Error,
-    ToBitStream, pack_into,
+    ToBitStream,
 };
 use protocols::socks_login::SocksLoginError;
 
@@ -258,11 +258,7 @@ fn put(fields: &SocksLoginGiven, buffer: &mut [u8]) -> Packed
     if written > buffer.len() as u64 {
         return refused(2);
     }
-    let mut whole = [0u8; 513];
-    match pack_into::<BE, SocksLoginGiven>(fields, &mut whole) {
-        Ok(packed) => buffer[..written as usize].copy_from_slice(packed.as_slice()),
-        Err(_) => unreachable!(),
-    }
+    write_first::<BE, SocksLoginGiven>(fields, buffer);
     Packed {
         status: 0,
         written: written as usize,

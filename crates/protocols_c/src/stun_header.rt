@@ -9,7 +9,8 @@ ghost use Rattle.protocols.specs.declared.stun_header.StunHeaderError.TheVariant
 ghost use Rattle.std.specs.Prelude.{◌≡◌, ◌≢◌, ◌<◌, ◌≤◌, ◌↔◌, Ok, Err, IsTrue, IsSomeAnd, All, length, take, pos};
 ghost use Rattle.bitstream_io.specs.Callers.{EndOfInput, High, bits, sure_answer};
 
-use crate::shared::{Packed, refused};
+use crate::shared::{Packed, refused, write_first};
+use bitstream_io::BE;
 use protocols::stun_header::{StunHeader, StunHeaderError};
 
 /// `struct stun_header` of C.
@@ -148,11 +149,7 @@ fn put(fields: &StunHeader, buffer: &mut [u8]) -> Packed
     if buffer.len() < 20 {
         return refused(2);
     }
-    let mut whole = [0u8; 20];
-    match fields.pack_into(&mut whole) {
-        Ok(packed) => buffer[..20].copy_from_slice(packed.as_slice()),
-        Err(_) => unreachable!(),
-    }
+    write_first::<BE, StunHeader>(fields, buffer);
     Packed {
         status: 0,
         written: 20,

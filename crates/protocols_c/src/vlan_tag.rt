@@ -8,8 +8,8 @@ ghost use Rattle.protocols.specs.declared.vlan_tag.VlanTag.{VlanTag};
 ghost use Rattle.std.specs.Prelude.{◌≡◌, ◌<◌, ◌≤◌, ◌↔◌, Ok, Err, IsTrue, IsSomeAnd, length, take, pos};
 ghost use Rattle.bitstream_io.specs.Callers.{EndOfInput, High, bits, sure_answer};
 
-use crate::shared::{Packed, refused};
-use bitstream_io::Error;
+use crate::shared::{Packed, refused, write_first};
+use bitstream_io::{BE, Error};
 use protocols::vlan_tag::VlanTag;
 
 /// `struct vlan_tag` of C.
@@ -134,11 +134,7 @@ fn put(fields: &VlanTag, buffer: &mut [u8]) -> Packed
     if buffer.len() < 4 {
         return refused(2);
     }
-    let mut whole = [0u8; 4];
-    match fields.pack_into(&mut whole) {
-        Ok(packed) => buffer[..4].copy_from_slice(packed.as_slice()),
-        Err(_) => unreachable!(),
-    }
+    write_first::<BE, VlanTag>(fields, buffer);
     Packed {
         status: 0,
         written: 4,

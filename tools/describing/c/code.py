@@ -5,7 +5,7 @@ import re
 from typing import assert_never
 
 from describing import model as m
-from describing.c import choices, cross, decided, fills, lists, optional, part_lists, untils, varying
+from describing.c import choices, cross, decided, fills, lists, optional, part_lists, sums, untils, varying
 from describing.c.cross import Crossed, Listed, Member, base, enums, fields, is_narrow, is_partial, members, parts
 from describing.c.imports import ghost_uses
 from describing.c.status import DOES_NOT_FIT, END_OF_INPUT, NO_ROOM, own
@@ -22,15 +22,20 @@ def code(t: Target) -> str:
     """Returns the text of the module."""
     f = t.f
     body = [*struct_code(f), *parsed_code(f), *conversions(f), *helpers(f), *fills.tests_code(f), *fit_code(f)]
-    if cross.lists(f.description):
-        body += lists_code(f)
-    elif f.sized:
-        body += [*answer_code(f), *parse_code(f), *put_code(f), *pack_code(f)]
-    else:
-        body += [*varying.code(f), *pack_code(f)]
-    text = "\n".join(body)
+    text = "\n".join([*body, *calls_code(f)]).rstrip("\n")
     head = [f"//! {t.made}", "//!", f"//! `{f.type}` for C.", *ghost_uses(t, text), "", *uses(f, text), ""]
     return "\n".join([*head, text]) + "\n"
+
+
+def calls_code(f: Format) -> list[str]:
+    """Returns the two functions for C, and what they call: a `part` has none."""
+    if not f.description.whole:
+        return []
+    if cross.lists(f.description):
+        return lists_code(f)
+    if f.sized:
+        return [*answer_code(f), *parse_code(f), *put_code(f), *pack_code(f)]
+    return [*varying.code(f), *pack_code(f)]
 
 
 def lists_code(f: Format) -> list[str]:
@@ -42,25 +47,36 @@ def lists_code(f: Format) -> list[str]:
     found = [it for it in f.lines if isinstance(it.kind, m.Optional | m.If)]
     out += [line for it in found if it.use for line in parts_code.optional_code(f, it, it.use)]
     out += [line for it in f.lines if isinstance(it.kind, m.Choose) for line in parts_code.size_code(f, it)]
-    out += [*lists.read_code(f, to_c), *lists.answer_code(f), *lists.parse_code(f), *lists.writing_code(f)]
-    return [*out, *varying.size_code(f), *varying.put_code(f), *lists.pack_code(f)]
+    if sums.check_of(f):
+        out += [
+            *sums.found_code(f),
+            *sums.read_code(f),
+            *sums.answer_code(f, to_c),
+            *sums.parse_code(f),
+            *sums.sum_code(f),
+        ]
+    else:
+        out += [*lists.read_code(f, to_c), *lists.answer_code(f), *lists.parse_code(f)]
+    return [*out, *lists.writing_code(f), *varying.size_code(f), *varying.put_code(f), *lists.pack_code(f)]
 
 
 def uses(f: Format, text: str) -> list[str]:
     """Returns the imports of the code."""
+    whole = f.description.whole
     names = sorted(
         {
             *[f.type] * (not cross.lists(f.description)),
-            *[f.error] * bool(f.error),
+            *[f.error] * bool(f.error and whole),
             *[it.name for it in enums(f.description) if f"{it.name}::" in text],
             *[it.type for it in cross.choices(f.description)],
         }
     )
-    out = ["use crate::shared::{Packed, refused};"]
+    out = ["use crate::shared::{Packed, refused, write_first};"] * whole
     out += ["use crate::status::reader_status;"] * ("reader_status(" in text)
     out += [f"use crate::{it.module}::{{self, {it.name}C}};" for it in parts(f.description)]
     out += [f"use {f.crate}::{f.m}::{{{', '.join(names)}}};"] * bool(names)
-    library = ["Error"] * (not f.error) if f.sized else varying.uses(f)
+    library = [f.order, *["Error"] * (not f.error)] if f.sized else varying.uses(f)
+    library = library if whole else []
     if cross.lists(f.description):
         library = lists.uses(f)
         out += [f"use {path};" for path in lists.paths(f, text)]
@@ -80,7 +96,9 @@ def struct_code(f: Format) -> list[str]:
 
 
 def parsed_code(f: Format) -> list[str]:
-    """Returns the result of a parse."""
+    """Returns the result of a parse: a `part` has none."""
+    if not f.description.whole:
+        return []
     return [
         "/// The result of a parse.",
         "#[repr(C)]",
@@ -118,7 +136,7 @@ def one_to_c(kind: Crossed) -> str:
     match kind:
         case m.Bool():
             return f"{v} as u8"
-        case m.Number() | m.Array() | m.Groups() | m.Golomb() | m.Varint():
+        case m.Number() | m.Array() | m.Unary() | m.Groups() | m.Golomb() | m.Varint():
             return v
         case m.NonZero():
             return f"{v}.get()"
@@ -126,7 +144,7 @@ def one_to_c(kind: Crossed) -> str:
             return f"number_{base(kind)}({v})"
         case m.Enum():
             return f"{v}.number()"
-        case m.Part():
+        case m.Part() | m.Given():
             return f"{kind.use.name}C::new(&{v})"
     raise AssertionError(kind)
 
@@ -137,7 +155,7 @@ def from_c(kind: Crossed) -> str:
     match kind:
         case m.Bool():
             return f"{v} != 0"
-        case m.Number() | m.Array() | m.Groups() | m.Golomb() | m.Varint():
+        case m.Number() | m.Array() | m.Unary() | m.Groups() | m.Golomb() | m.Varint():
             return v
         case m.NonZero():
             return f"option_{base(kind)}({v})"
@@ -145,7 +163,7 @@ def from_c(kind: Crossed) -> str:
             return f"option_{base(kind)}({v})"
         case m.Enum():
             return f"{m.snake(kind.enum.name)}_from({v})" if is_narrow(kind.enum) else f"{kind.enum.name}::of({v})"
-        case m.Part():
+        case m.Part() | m.Given():
             return f"{v}.fields()"
         case m.Optional() | m.If():
             return optional.from_c(kind)
@@ -315,8 +333,10 @@ def tests(f: Format, kind: Crossed) -> list[str]:
     """Returns the tests that a field fits its bits."""
     v = f"value.{kind.name}"
     match kind:
-        case m.Bool():
+        case m.Bool() | m.Given():
             return []
+        case m.Unary():
+            return [f"{v} <= {2**32 - 1}"]
         case m.Varint():
             return [f"{v} <= {2**62 - 1}"]
         case m.Golomb():
@@ -360,7 +380,8 @@ def fit_code(f: Format) -> list[str]:
     """Returns the function that tests whether all fields fit their bits."""
     firsts = apart(f) | {f"{it.use.module}_fits(&value.{it.name})": f"{it.name}_fit" for it in optional.listed(f)}
     firsts |= fills.firsts(f)
-    found = [test for it in fields(f.description) for test in tests(f, it) if test not in firsts] or ["true"]
+    found = [test for it in fields(f.description) for test in tests(f, it) if test not in firsts] + sums.tests_of(f)
+    found = found or ["true"]
     body = ["    " + "\n        && ".join(found)]
     if firsts:
         body = [f"    let rest_fits ={body[0][3:]};"]
@@ -461,11 +482,7 @@ def put_code(f: Format) -> list[str]:
         f"    if buffer.len() < {n} {{",
         f"        return refused({NO_ROOM});",
         "    }",
-        f"    let mut whole = [0u8; {n}];",
-        "    match fields.pack_into(&mut whole) {",
-        f"        Ok(packed) => buffer[..{n}].copy_from_slice(packed.as_slice()),",
-        "        Err(_) => unreachable!(),",
-        "    }",
+        f"    write_first::<{f.order}, {f.type}>(fields, buffer);",
         "    Packed {",
         "        status: 0,",
         f"        written: {n},",

@@ -10,23 +10,27 @@ from describing.model import Refused
 from describing.rust.calls import integer_range
 
 Crossed: TypeAlias = (
-    m.Bool | m.Number | m.NonZero | m.MaybeNonZero | m.Enum | m.Array | m.Groups | m.Golomb | m.Varint | m.Part
-    | m.Optional | m.If | m.List | m.Sized | m.Fill | m.Rest | m.Until | m.Choose
+    m.Bool | m.Number | m.NonZero | m.MaybeNonZero | m.Enum | m.Array | m.Unary | m.Groups | m.Golomb | m.Varint | m.Part
+    | m.Optional | m.If | m.List | m.Sized | m.Fill | m.Rest | m.Until | m.Choose | m.Given
 )  # fmt: skip
 Listed: TypeAlias = m.List | m.Sized | m.Fill | m.Rest | m.Until  # items in storage of the caller
 
-# The most bytes before a terminator, and up to the end, that a pack takes.
-MOST_ENDED, MOST_REST = 4095, 65535
+# The most bytes before a terminator, or up to the end, that a pack takes: a counter of 64 bits counts them.
+MOST_OPEN = 2**32 - 1
 
-# The most bytes of a format whose size varies: `pack` holds them on the stack.
-MOST_BYTES = MOST_REST + 4096
+# The most bits of a format that this counter counts.
+MOST_BITS = 2**64 - 1
+
+# The most bytes that parts fill: a parse holds them on the stack.
+MOST_FILLED = 65535 + 4096
+
+# Names in the parse of other languages that no given part may have.
+PARSE_WORDS = ("answer", "bytes", "cls", "data", "first", "given", "out", "parsed", "reader", "taken")
 
 # Why a field of another kind does not cross to C.
 OTHERS = {
-    m.Given: "is given to the parse, which does not cross to C yet",
     m.UpToLast: "ends at its last part, which does not cross to C yet",
     m.Blocks: "has bytes in blocks, which does not cross to C yet",
-    m.Unary: "is a unary number, which can be longer than any buffer, and does not cross to C",
 }
 
 
@@ -63,9 +67,6 @@ def crosses(kind: m.Kind) -> TypeGuard[Crossed]:
 
 def check(description: m.Description) -> None:
     """Refuses a format with a field that C does not have."""
-    if not description.whole:
-        why = "a `part` does not cross to C yet: begin the description with `struct`, if its bits are whole bytes"
-        raise Refused(why, description.heads["struct"])
     for it in description.kinds:
         if isinstance(it, m.Check):
             check_sum(description, it)
@@ -79,6 +80,8 @@ def check(description: m.Description) -> None:
         if not crosses(kind):
             raise Refused(f"`{kind.name}` {OTHERS[type(kind)]}", kind.at)
         check_field(kind)
+        if isinstance(kind, m.Given):
+            check_given(description, kind)
         if isinstance(kind, m.Fill):
             check_fill(description, kind)
         if isinstance(kind, m.Rest):
@@ -91,29 +94,57 @@ def check(description: m.Description) -> None:
         for member in members_of(description, kind) if crosses(kind) else []:
             if names.count(member.name) > 1:
                 raise Refused(f"two members of the struct of C have one name, `{member.name}`", kind.at)
-    if description.bits is None and open_most(description) > 8 * MOST_BYTES:
+    if description.bits is None and open_most(description) > MOST_BITS:
         longest = max(description.fields, key=lambda it: most_of(description, it))
         raise Refused(
-            f"`{longest.name}` can make the format longer than {MOST_BYTES} bytes, which does not cross to C yet",
-            longest.at,
+            f"`{longest.name}` can make the format longer than 2^64 - 1 bits, which does not cross to C yet", longest.at
         )
 
 
+def check_alone(description: m.Description) -> None:
+    """Refuses a `part` that no other format has, as it holds a list, a choice or a checksum."""
+    check(description)
+    kinds = description.kinds * (not description.whole)
+    for what, found in (("a list", is_listed), ("a choice", is_choice), ("a checksum", is_sum)):
+        it = next(filter(found, kinds), None)
+        if it:
+            raise Refused(f"a `part` with {what} does not cross to C yet", it.at)
+
+
+def is_choice(kind: m.Kind) -> bool:
+    """Returns true for a choice."""
+    return isinstance(kind, m.Choose)
+
+
+def is_sum(kind: m.Kind) -> bool:
+    """Returns true for a checksum."""
+    return isinstance(kind, m.Check)
+
+
 def check_sum(description: m.Description, kind: m.Check) -> None:
-    """Refuses a computed number of bytes, and a checksum of fields or in a format whose size varies."""
-    if isinstance(kind, m.Computed):
-        raise Refused("a computed number of bytes does not cross to C yet", kind.at)
-    if not kind.lines:
-        raise Refused("a checksum of fields does not cross to C yet: `over all` is one of lines", kind.at)
-    if lists(description):
-        raise Refused("a checksum next to a list does not cross to C yet", kind.at)
-    if any(m.bits(it) is None for it in description.kinds if it is not kind):
-        raise Refused("a checksum next to lines whose size varies does not cross to C yet", kind.at)
+    """Refuses next to lists a second checksum, lines behind a test, and lists of parts; and some computed numbers."""
+    if isinstance(kind, m.Computed) and not lists(description):
+        raise Refused("a computed number of bytes without a list does not cross to C yet", kind.at)
+    if isinstance(kind, m.Computed) and any(map(is_uncounted, m.covered(description.kinds, kind))):
+        raise Refused("a computed number of other lines than constant ones and lists does not cross to C yet", kind.at)
+    if not lists(description):
+        return
+    if [it for it in description.kinds if isinstance(it, m.Check)] != [kind]:
+        raise Refused("two checksums next to a list do not cross to C yet", kind.at)
+    if not isinstance(description.kinds[-1], m.Verify):
+        raise Refused("lines behind a checksum and its fields do not cross to C yet next to a list", kind.at)
+    if any(map(is_mapped, description.kinds)):
+        raise Refused("a checksum next to a list of parts or of an enum does not cross to C yet", kind.at)
+
+
+def is_uncounted(kind: m.Kind) -> bool:
+    """Returns true for a line whose bits vary, and that is no list."""
+    return m.bits(kind) is None and not is_listed(kind)
 
 
 def has_sum(use: m.Use) -> bool:
     """Returns true for a part with a checksum."""
-    return any(isinstance(it, m.Check) for it in use.description.kinds)
+    return any(map(is_sum, use.description.kinds))
 
 
 def check_types(description: m.Description) -> None:
@@ -134,7 +165,7 @@ def check_field(kind: Crossed) -> None:
     if isinstance(kind, m.Choose) and kind.sized:
         what = "reads to the end of the bytes" if kind.to_end else "is a choice with a size"
         raise Refused(f"`{kind.name}` {what}, which does not cross to C yet", kind.at)
-    if not isinstance(kind, m.Part | m.Optional | m.If | m.Choose) and base(kind).endswith("128"):
+    if not isinstance(kind, m.Part | m.Optional | m.If | m.Choose | m.Given) and base(kind).endswith("128"):
         raise Refused(f"`{kind.name}` has a number of 128 bits, which C does not have", kind.at)
     if isinstance(kind, m.Sized) and isinstance(kind.item, m.Use):
         raise Refused(f"`{kind.name}` is a part with a size, which does not cross to C yet", kind.at)
@@ -155,6 +186,22 @@ def check_field(kind: Crossed) -> None:
                 raise Refused(f"`{kind.name}` is a part with {what}, which does not cross to C yet", kind.at)
 
 
+def check_given(description: m.Description, kind: m.Given) -> None:
+    """Refuses a part that is given to a format without lists, and one of several."""
+    if not lists(description):
+        why = "is given to the parse, which does not cross to C yet without a list"
+        raise Refused(f"`{kind.name}` {why}", kind.at)
+    if kind.name in PARSE_WORDS:
+        raise Refused(f"`{kind.name}` is given to the parse, of which another argument has that name", kind.at)
+    if len(givens(description)) > 1:
+        raise Refused(f"`{kind.name}` and another part are given to the parse, which do not cross to C yet", kind.at)
+
+
+def givens(description: m.Description) -> list[m.Given]:
+    """Returns the parts that are given to a parse."""
+    return [it for it in description.fields if isinstance(it, m.Given)]
+
+
 def check_rest(kind: m.Rest) -> None:
     """Refuses parts up to the end."""
     if isinstance(kind.item, m.Use):
@@ -172,10 +219,19 @@ def check_fill(description: m.Description, kind: m.Fill) -> None:
         raise Refused(f"`{kind.name}` fills a size in units, which does not cross to C yet", kind.at)
     if m.is_limited(line):
         raise Refused(f"`{kind.name}` fills a size with a greatest value, which does not cross to C yet", kind.at)
+    if isinstance(line, m.Size) and line.most > MOST_FILLED:
+        raise Refused(f"`{kind.name}` may fill more than {MOST_FILLED} bytes, which does not cross to C yet", kind.at)
     if kind.use.description.bits is None:
         raise Refused(
             f"`{kind.name}` has parts of several sizes that fill a size, which do not cross to C yet", kind.at
         )
+    if item_width(kind) % 8:
+        raise Refused(f"`{kind.name}` fills a size with parts of no whole bytes, which do not cross to C yet", kind.at)
+
+
+def has_lemmas(description: m.Description) -> bool:
+    """Returns true if lemmas are printed: of a `part`, only that about its greatest number of bits, if they vary."""
+    return description.whole or description.bits is None
 
 
 def listed_enums(description: m.Description) -> list[m.EnumType]:
@@ -249,6 +305,8 @@ def most_of(description: m.Description, kind: m.Kind) -> int:
     match kind:
         case m.Groups():
             return kind.group * ((kind.integer.width - 1) // (kind.group - 1) + 1)
+        case m.Unary():
+            return 1 << 32
         case m.Golomb():
             return 63
         case m.Varint():
@@ -260,7 +318,7 @@ def most_of(description: m.Description, kind: m.Kind) -> int:
         case m.Until():
             return 8
         case m.List() | m.Sized():
-            return most_items(description, kind) * item_width(kind)
+            return 0 if is_open(description, kind) else most_items(description, kind) * item_width(kind)
         case m.Fill():
             return most_size(description, kind)
     wide = [most(use.description) for use in m.uses(kind)]
@@ -279,12 +337,16 @@ def lists(description: m.Description) -> list[Listed]:
     return [it for it in description.fields if is_listed(it)]
 
 
+def is_open(description: m.Description, kind: Listed) -> bool:
+    """Returns true for a list whose greatest length, if it has one, is above what a pack takes."""
+    if isinstance(kind, m.Rest | m.Until):
+        return True
+    return isinstance(kind, m.Sized) and most_items(description, kind) > MOST_OPEN
+
+
 def open_lists(description: m.Description) -> list[tuple[Listed, int]]:
     """Returns the lists without a greatest length, each with the most bytes of it that are packed."""
-    found = lists(description)
-    return [
-        (it, MOST_REST if isinstance(it, m.Rest) else MOST_ENDED) for it in found if isinstance(it, m.Rest | m.Until)
-    ]
+    return [(it, MOST_OPEN) for it in lists(description) if is_open(description, it)]
 
 
 def open_most(description: m.Description) -> int:
@@ -320,7 +382,7 @@ def members(description: m.Description) -> list[Member]:
 def members_of(description: m.Description, kind: Crossed) -> list[Member]:
     """Returns the members for a field."""
     match kind:
-        case m.Part():
+        case m.Part() | m.Given():
             return [Member(kind.name, base(kind), comment(kind), kind.use.module)]
         case m.Optional() | m.If():
             there = Member(f"has_{kind.name}", "u8", f"True if `{kind.name}` is there.", flag=True)
@@ -365,9 +427,9 @@ def base(kind: Crossed) -> str:
             if isinstance(kind.item, m.EnumType):
                 return f"u{enum_bits(kind.item)}"
             return kind.item.base if isinstance(kind.item, m.Integer) else "u8"
-        case m.Golomb() | m.Varint():
+        case m.Unary() | m.Golomb() | m.Varint():
             return m.rust_type(kind)
-        case m.Part() | m.Optional() | m.If():
+        case m.Part() | m.Optional() | m.If() | m.Given():
             return f"{kind.use.name}C"
         case m.Choose():
             return "u32"
@@ -381,7 +443,7 @@ def is_partial(kind: Crossed) -> bool:
             return bool(kind.enum.error) or is_narrow(kind.enum)
         case m.List() | m.Sized() | m.Fill():
             return is_mapped(kind)
-    return isinstance(kind, m.NonZero | m.Part | m.Optional | m.If | m.Choose)
+    return isinstance(kind, m.NonZero | m.Part | m.Optional | m.If | m.Choose | m.Given)
 
 
 def is_narrow(enum: m.EnumType) -> bool:
@@ -429,10 +491,12 @@ def comment(kind: Crossed) -> str:
 def list_comment(description: m.Description, kind: Listed) -> str:
     """Returns the comment of a list, with its range."""
     if isinstance(kind, m.Rest):
-        return f"{comment(kind)} All bytes up to the end. At most {MOST_REST} are packed."
+        return f"{comment(kind)} All bytes up to the end. At most {MOST_OPEN} are packed."
     if isinstance(kind, m.Until):
-        return f"{comment(kind)} None of them is {kind.stop}, which ends them. At most {MOST_ENDED} are packed."
+        return f"{comment(kind)} None of them is {kind.stop}, which ends them. At most {MOST_OPEN} are packed."
     line = counted(description, kind)
+    if is_open(description, kind) and isinstance(line, m.Size):
+        return f"{comment(kind)} {size_limits(line)}, of which at most {MOST_OPEN} are packed."
     if isinstance(kind, m.Fill):
         return f"{comment(kind)} At most {most_items(description, kind)}."
     if isinstance(line, m.Size):

@@ -2,8 +2,8 @@
 from __future__ import annotations
 
 from describing import model as m
-from describing.c import misfit
-from describing.c.cross import Member, choice_members, choices, enums, layout, lists, members, parts
+from describing.c import misfit, sums
+from describing.c.cross import Member, choice_members, choices, enums, givens, layout, lists, members, parts
 from describing.c.rests import which_bytes
 from describing.c.status import numbers, own, rooms, statuses, unless_refused
 from describing.c.target import Target
@@ -19,10 +19,12 @@ def header(t: Target) -> str:
     out += [*[f" * {it}" for it in drawn(f.description)], " */", f"#ifndef {up}_H", f"#define {up}_H", ""]
     out += [f'#include "{it.module}.h"' for it in parts(f.description)]
     out += ["#include <stdbool.h>", "#include <stddef.h>", "#include <stdint.h>", ""]
+    types = [line for it in enums(f.description) for line in enum_code(t, it)] + struct_code(t)
+    if not f.description.whole:
+        return "\n".join([*out, *types, "#endif"]) + "\n"
     out += ["#ifdef __cplusplus", 'extern "C" {', "#endif", ""]
     out += ["/* The bytes that the fields take. */", f"#define {up}_SIZE {f.bytes}", ""] * f.sized
-    out += [line for it in enums(f.description) for line in enum_code(t, it)]
-    out += [*struct_code(t), *status_code(t), *calls_code(t)]
+    out += [*types, *status_code(t), *calls_code(t)]
     return "\n".join([*out, "#ifdef __cplusplus", "}", "#endif", "#endif"]) + "\n"
 
 
@@ -164,7 +166,8 @@ def calls_code(t: Target) -> list[str]:
 def parse_comment(t: Target) -> str:
     """Returns the comment of the parse."""
     f, up = t.f, t.f.m.upper()
-    refusals = [*own(f), *numbers(f)]
+    last = sums.error_of(f)
+    refusals = [*(it for it in own(f) if it.case != last), *numbers(f)]
     own_errors = "".join(f"{up}_{it.name} if {it.short}; " for it in refusals)
     in_order = "the first in the order of the bits: " if own_errors else ""
     here = unless_refused(f) if own_errors else ""
@@ -185,12 +188,15 @@ def list_comment(t: Target, refused: str, here: str) -> str:
     f, up = t.f, t.f.m.upper()
     names = [it.name for it in lists(f.description)]
     items = " and ".join(f"`out->{it}`" for it in names)
+    given = " and ".join(f"`out->{c_name(it.name)}`" for it in givens(f.description))
+    handed = f", with {given} as the caller has set it" * bool(given)
     full = "; ".join(
         f"{up}_{it.name} if `{name}` has more items than its capacity" for name, it in zip(names, rooms(f))
     )
+    full += "".join(f"; else {up}_{it.name} if {it.short}" for it in own(f) if it.case == sums.error_of(f))
     return (
         f"Parses {which_bytes(f, '`length` bytes')} into `*out`, and the items of lists into the storage that the"
-        f" caller has set in {items}. Sets `*taken` to the number of bytes that the fields take unless `taken` is null,"
+        f" caller has set in {items}{handed}. Sets `*taken` to the number of bytes that the fields take unless `taken` is null,"
         f" and returns {up}_OK. Items after the last one are as before. After an error `*out` is as before, but the items"
         f" in the storage are unspecified, and `*taken` is the number of items of the list without room for them, or 0. The"
         f" errors are: {up}_NULL if `out` is null, or `bytes` is null and `length` is not 0, or the items of a list are"
@@ -223,8 +229,9 @@ def pack_comment(t: Target) -> str:
 def source(t: Target) -> str:
     """Returns the C file: the test for null pointers, which the proved functions do not have."""
     f, up = t.f, t.f.m.upper()
-    name, last = f"{f.m}_status", c_name(members(f.description)[-1].name)
-    size, offset, _ = layout(f.description)
+    if not f.description.whole:
+        return "\n".join([f"/* {t.made} */", f'#include "{f.m}.h"', "", *layout_code(t, f.m)])
+    name = f"{f.m}_status"
     texts = [
         line for it in statuses(f) for line in (f"    case {up}_{it.name}:", f"        return {quoted(it.short)};")
     ]
@@ -252,9 +259,7 @@ struct {f.m}_packed {{
 struct {f.m}_parsed proved_{f.m}_parse(const uint8_t *bytes, size_t length{listed.stored});
 struct {f.m}_packed proved_{f.m}_pack(const struct {listed.crossing} *value, {listed.given}uint8_t *buffer, size_t length);
 
-/* The layout that the proved functions have: with another one this type has a negative size. */
-typedef char {f.m}_layout[sizeof(struct {listed.crossing}) == {size} && offsetof(struct {listed.crossing}, {last}) == {offset} ? 1 : -1];
-
+{chr(10).join(layout_code(t, listed.crossing))}
 enum {name} {f.m}_parse(const uint8_t *bytes, size_t length, struct {f.m} *out{parameter})
 {{
     struct {f.m}_parsed parsed;{none}
@@ -284,6 +289,18 @@ const char *{name}_text(enum {name} status)
     return "no status";
 }}
 """
+
+
+def layout_code(t: Target, crossing: str) -> list[str]:
+    """Returns the test of the layout of the struct that crosses."""
+    size, offset, _ = layout(t.f.description)
+    last = c_name(members(t.f.description)[-1].name)
+    same = f"sizeof(struct {crossing}) == {size} && offsetof(struct {crossing}, {last}) == {offset}"
+    return [
+        "/* The layout that the proved functions have: with another one this type has a negative size. */",
+        f"typedef char {t.f.m}_layout[{same} ? 1 : -1];",
+        "",
+    ]
 
 
 class Listed:
@@ -317,9 +334,11 @@ def lists_source(t: Target) -> Listed:
     found.struct = "\n".join([f"/* {head_comment(t)} */", f"struct {f.m}_head {{", *rows, "};", "", ""])
     found.stored = "".join(f", {item_type(it)} *{it.name}_items, size_t {it.name}_capacity" for it in kinds)
     found.given = "".join(f"const {item_type(it)} *{it.name}_items, size_t {it.name}_length, " for it in kinds)
+    found.stored += "".join(f", const struct {it.use.module} *{it.name}" for it in givens(f.description))
     names = [c_name(it.name) for it in kinds]
     found.no_storage = "".join(f" || (!out->{it}.items && out->{it}.capacity)" for it in names)
     found.storage = "".join(f", out->{it}.items, out->{it}.capacity" for it in names)
+    found.storage += "".join(f", &out->{c_name(it.name)}" for it in givens(f.description))
     found.has_items = "".join(f" && (in->{it}.items || !in->{it}.length)" for it in names)
     out, into = list[str](), list[str]()
     for it in all_of:

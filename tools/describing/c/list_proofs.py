@@ -2,9 +2,10 @@
 from __future__ import annotations
 
 import re
+from collections.abc import Sequence
 
 from describing import model as m
-from describing.c import cross, fill_proofs, part_lists, part_proofs, rests, untils, varying
+from describing.c import cross, fill_proofs, part_lists, part_proofs, rests, sum_proofs, sums, untils, varying
 from describing.c.cross import Listed, base, is_mapped, is_stated, lists, spec_item
 from describing.c.imports import answer_uses
 from describing.c.lists import count_name, decoder, given, parse_answers
@@ -34,7 +35,7 @@ class Reads(Answers):
         """Returns a term after its head, as what a lemma takes."""
         found = RESIDUAL.search(text)
         if "returns-then-not-is_" in head:
-            text = self.term(f"refused_by ({text}) refl")
+            text = f"refused_by ({text}) {self.term('refl')}"
         elif found and "returns-" in head:
             text = f"stopped _ {found[0]} (λ s residual. {text.replace(found[0], 'residual')})"
         else:
@@ -56,7 +57,7 @@ def read_size(f: Format, kind: Listed) -> str:
 def read_answers(f: Format) -> str:
     """Returns the answers of the function that reads the fields."""
     labels, steps, made = calls.Labels(), calls.Labels(), list[Call]()
-    for it in f.lines:
+    for it in f.written:
         form, fact, wide = calls.read_call(f, it)
         asks = asked_enums(f, it.kind) or isinstance(it.kind, m.Choose) and by_enum(f, it.kind) is not None
         known = (f"c.{steps.next('number')}.ensures",) if asks else ()
@@ -90,6 +91,9 @@ class Writes(calls.Writes):
     def known(self, line: Line) -> tuple[str, ...]:
         """Returns the equations of the arguments of a call."""
         kind = line.kind
+        if isinstance(kind, m.Check):
+            numbers = (f"c.{self.steps.next('number')}.ensures" for it in line.covers if isinstance(it, m.Enum))
+            return (f"c.{kind.called}.ensures", *numbers)
         if isinstance(line.measures, m.Fill):
             return (f"size-wrote _ _ _ _ _ _ _ _ c.{line.measures.name}_bits.ensures",)
         if isinstance(kind, m.Size):
@@ -101,12 +105,12 @@ class Writes(calls.Writes):
         return () if isinstance(kind, m.List | m.Sized | m.Count | m.Rest | m.Until) else super().known(line)
 
 
-def write_fields(f: Format) -> str:
-    """Returns the answers of the function that writes the fields."""
+def write_fields(f: Format, lines: Sequence[Line]) -> str:
+    """Returns the answers of a function that writes lines."""
     writes = Writes(f)
     writes.fields = "c.args.self.now"
     answers = Answers("WritesAll", "", "", True)
-    parts = answers.all([writes.call(it) for it in f.lines])
+    parts = answers.all([writes.call(it) for it in lines])
     return "\n\n".join([answers.uses("GOALS"), *parts])
 
 
@@ -343,7 +347,14 @@ def files(t: Target) -> dict[str, str]:
     """Returns the proofs of the functions by their places in the crate."""
     f, home = t.f, f"proofs/{t.f.m}"
     found = dict[str, str]()
-    texts = {f"proved_{f.m}_parse": parse_answers(f), "size": varying.size_answers(f), "put": varying.put_answers(f)}
+    check = sums.check_of(f)
+    parsed = sum_proofs.parse_answers(f) if check else parse_answers(f)
+    texts = {
+        f"proved_{f.m}_pack": pack_answers(f),
+        "parse_given" if cross.givens(f.description) else f"proved_{f.m}_parse": parsed,
+        "size": varying.size_answers(f),
+        "put": varying.put_answers(f),
+    }
     for function, text in texts.items():
         found[f"{home}/{function}/Answers.antt"] = "\n".join(
             [f"-- {t.made}", *answer_uses(t, function, text), "", text]
@@ -354,7 +365,7 @@ def files(t: Target) -> dict[str, str]:
     goals = f"{crate}.{f.m}.read.Goals"
     found[f"{home}/read/Answers.antt"] = f"-- {t.made}\n{lemmas}{read_answers(f).replace('GOALS', goals)}\n"
     goals = f"{crate}.{f.m}.{given(f)}.write.Goals"
-    text = write_fields(f).replace("GOALS", goals)
+    text = write_fields(f, f.written).replace("GOALS", goals)
     more = "".join(f"{it}\n" for it in part_proofs.write_uses(t, text))
     found[f"{home}/{given(f)}/write/Answers.antt"] = f"-- {t.made}\n{more}{text}\n"
     found[f"{home}/{given(f)}ToBitStream/to_writer/Answers.antt"] = to_writer(t)
@@ -373,7 +384,20 @@ def files(t: Target) -> dict[str, str]:
         found |= optional_files(t, use)
     for it in lists(f.description):
         found[f"{home}/{part_lists.keep(f, it)}/Answers.antt"] = keep_answers(t, it)
+    if check:
+        found |= sum_proofs.files(t, write_fields(f, f.covered(check)[0]) if check.lines else "")
     return found | part_proofs.files(t) | fill_proofs.files(t) | untils.answer_files(t)
+
+
+def pack_answers(f: Format) -> str:
+    """Returns the proof of the function that packs the struct of C, if it has fields."""
+    says = f"PacksInto (IsSomeAnd it {varying.packable(f)}) {f.o} ({f.m}_room it) ({f.m}_held it)"
+    return f"""pub returns-in-Some : goal.returns-in-Some
+returns-in-Some c =
+    let is = sym c.fields.ensures ∙ ap (option_map {f.m}_of) c.in-Some.is in
+    subst (λ it. {says}
+    c.args.buffer.now c.put.result c.put.new.buffer) (sym is) c.put.ensures
+"""
 
 
 def loops(t: Target, kind: m.List) -> dict[str, str]:

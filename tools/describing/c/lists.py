@@ -1,6 +1,7 @@
 """A format with lists for C: the caller has their items, and no call allocates. Code, specs and proofs of the two functions."""
 from __future__ import annotations
 
+import re
 from typing import Callable, TypeGuard
 
 from describing import model as m
@@ -23,14 +24,20 @@ def given(f: Format) -> str:
 
 def uses(f: Format) -> list[str]:
     """Returns the names of the library in the code."""
-    ends = {"BitRead", "BitReadExt", "BitWrite", "BitWriteExt", "Bits", "Error", "ToBitStream", "pack_into"}
+    ends = {"BitRead", "BitReadExt", "BitWrite", "BitWriteExt", "Bits", "Error", "ToBitStream"}
     return sorted(ends | set(["BitsWritten", "SliceReader"] * bool(fills.fills(f))) | set(varying.uses(f)))
 
 
 def paths(f: Format, text: str) -> list[str]:
     """Returns the paths of what the code uses of the format's crate and of the library, besides the format itself."""
-    golomb = {it for line in f.lines for it in rust.imports(line) if it.startswith("bitstream_io::golomb")}
-    named = [it for it in cross.parts(f.description) if f"{it.name}::read(" in text or f"Option<{it.name}>" in text]
+    names = ("bitstream_io::golomb", "bitstream_format::checksums")
+    golomb = {it for line in f.lines for it in rust.imports(line) if it.startswith(names)}
+    handed = [it.use for it in cross.givens(f.description)]
+    named = [
+        it
+        for it in cross.parts(f.description)
+        if it in handed or f"{it.name}::read(" in text or f"Option<{it.name}>" in text
+    ]
     return sorted({f"{f.crate}::{it.module}::{it.name}" for it in named} | golomb | called(text))
 
 
@@ -263,11 +270,18 @@ def answer_code(f: Format) -> list[str]:
         "    }",
         "}",
         "",
+        *short_code(f),
+    ]
+
+
+def short_code(f: Format) -> list[str]:
+    """Returns the function that makes the result of a parse that failed."""
+    return [
         "/// Returns the result of a parse that failed, with the number of items of a list without room for them.",
-        f"fn short(status: i32, items: usize) -> {t}Parsed",
+        f"fn short(status: i32, items: usize) -> {f.type}Parsed",
         f"    ensures {{ result ≡ {f.m}_short status items }}",
         "{",
-        f"    {t}Parsed {{",
+        f"    {f.type}Parsed {{",
         "        status,",
         "        taken: items,",
         "        value: zero(),",
@@ -308,15 +322,24 @@ def parse_code(f: Format) -> list[str]:
     ]
 
 
+def borrowed(f: Format, text: str, before: str) -> str:
+    """Returns the text of a call whose lists are slices already; `before` stands before the name of a field."""
+    for it in lists(f.description):
+        text = re.sub(rf"&{re.escape(before)}{it.name}(?![\w\ue000-\ue0ff])", f"{before}{it.name}", text)
+    return text
+
+
+def write_statement(f: Format, line: Line) -> str:
+    """Returns the statement that writes a line."""
+    written = f"{part_lists.counting(f, line, rust.write(line))}?;"
+    if isinstance(line.kind, m.Check):
+        return borrowed(f, written, "self.")
+    return written.replace("&self.", "self.") if cross.is_listed(line.kind) else written
+
+
 def writing_code(f: Format) -> list[str]:
     """Returns the functions that write the fields."""
     t = given(f)
-    statements = [
-        f"        {part_lists.counting(f, it, rust.write(it))}?;".replace(
-            "&self.", "self." if cross.is_listed(it.kind) else "&self."
-        )
-        for it in f.lines
-    ]
     return [
         *[line for it in lists(f.description) if needs_loop(it) for line in write_code(it)],
         *[said for line in f.lines if m.is_capped(line.kind) for said in limit_code(line, line.kind)],
@@ -327,7 +350,7 @@ def writing_code(f: Format) -> list[str]:
         "    fn write<W: BitWrite>(&self, writer: &mut W) -> Result<(), Error>",
         f"        ensures {{ WritesAll W.sink ({f.m}_writes W.sink.order ({f.m}_of self.now)) writer.old result writer.new }}",
         "    {",
-        *statements,
+        *[f"        {write_statement(f, it)}" for it in f.written],
         "        Ok(())",
         "    }",
         "}",
@@ -372,33 +395,46 @@ def pack_code(f: Format) -> list[str]:
 # ---- specs
 
 
+def of_specs(f: Format) -> list[str]:
+    """Returns the definition of the fields that contracts see of those whose lists the caller has."""
+    return [
+        "-- the fields that a value holds",
+        f"abbrev pub {f.m}_of : {given(f)} → {f.type}",
+        f"{f.m}_of value = record {{",
+        *[f"  {it.name} = {part_lists.value_of(f, it)};" for it in cross.fields(f.description)],
+        "}",
+        "",
+    ]
+
+
+def short_specs(f: Format) -> list[str]:
+    """Returns the definitions of the result of a parse that failed."""
+    return [
+        "-- the result of a parse that failed, with a number of items that there is no room for",
+        f"abbrev pub {f.m}_short : ℤ → ℕ → {f.type}Parsed",
+        f"{f.m}_short status items = record {{ status = status; taken = items; value = {f.m}_zero }}",
+        "",
+        "-- the same without such a number",
+        f"abbrev pub {f.m}_failed : ℤ → {f.type}Parsed",
+        f"{f.m}_failed status = {f.m}_short status 0",
+        "",
+    ]
+
+
 def specs(f: Format) -> list[str]:
     """Returns the definitions of what C gets for the result of a parse, and of what a read says."""
     t, parsed, failed = f.type, f"{f.m}_parsed", f"{f.m}_failed"
     names = [f"{it.name}_room" for it in lists(f.description)]
     count, said = len(names), " ".join(names)
     errors = varying.spec_errors(f)
-    fields = [f"  {it.name} = {part_lists.value_of(f, it)};" for it in cross.fields(f.description)]
     test = ""
     for it, status in zip(lists(f.description), rooms(f)):
         test += f"if nat_lt {it.name}_room c.{it.name} then {f.m}_short (pos {status.number}) c.{it.name} else "
     return [
-        "-- the fields that a value holds",
-        f"abbrev pub {f.m}_of : {given(f)} → {t}",
-        f"{f.m}_of value = record {{",
-        *fields,
-        "}",
-        "",
+        *of_specs(f),
         *varying.bytes_specs(f),
         *varying.packable_specs(f),
-        "-- the result of a parse that failed, with a number of items that there is no room for",
-        f"abbrev pub {f.m}_short : ℤ → ℕ → {t}Parsed",
-        f"{f.m}_short status items = record {{ status = status; taken = items; value = {f.m}_zero }}",
-        "",
-        "-- the same without such a number",
-        f"abbrev pub {failed} : ℤ → {t}Parsed",
-        f"{failed} status = {f.m}_short status 0",
-        "",
+        *short_specs(f),
         "-- the result of a parse for C: 0, the number of bytes that were taken and the fields, or a list that has more items",
         "-- than there is room for, with their number, or which error",
         f"abbrev pub {parsed} : ℕ → {'ℕ → ' * count}Result {t}C {f.e} → {t}Parsed",

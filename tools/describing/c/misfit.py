@@ -18,6 +18,8 @@ def rows(description: m.Description, at: str = "value->", path: str = "", depth:
     found = list[str]()
     for it in cross.fields(description):
         found += field_rows(description, it, at, path, depth)
+    for line in description.kinds:
+        found += computed_rows(description, line) if isinstance(line, m.Computed) else []
     return found
 
 
@@ -35,7 +37,7 @@ def field_rows(description: m.Description, kind: Crossed, at: str, path: str, de
     """Returns the statements for a field."""
     v, name = f"{at}{c_name(kind.name)}", f"{path}{kind.name}"
     match kind:
-        case m.Part():
+        case m.Part() | m.Given():
             return rows(kind.use.description, f"{v}.", f"{name}.", depth)
         case m.Optional() | m.If():
             has = f"{at}has_{kind.name}"
@@ -60,6 +62,31 @@ def condition(kind: m.If, at: str) -> str:
         + (f" {it.how} {it.value}" if it.how not in ("", "not") else "")
         for it in kind.tests
     )
+
+
+def computed_rows(description: m.Description, kind: m.Computed) -> list[str]:
+    """Returns the statements for a computed number: no number states the bytes of its lines, whose last list is named."""
+    covered = m.covered(description.kinds, kind)
+    named = next((it.name for it in reversed(covered) if is_listed(it)), kind.name)
+    bits = [str(sum(m.bits(it) or 0 for it in covered))]
+    for it in covered:
+        if is_listed(it):
+            bits.append(f"{item_bits(it)} * (uint64_t){it.name}_length" + " + 8" * isinstance(it, m.Until))
+    count = f"({' + '.join(bits)} + 7) / 8"
+    less, most = max(-kind.plus, 0), (1 << kind.bits) - 1
+    count = f"{count} + {kind.plus}" if kind.plus > 0 else count
+    tests = [f"{count} < {less}"] * bool(less)
+    count = f"({count} - {less})" if less else f"({count})"
+    tests += [f"{count} % {kind.unit} != 0"] * (kind.unit > 1)
+    tests += [
+        f"{count} / {kind.unit} > {literal('u64', most)}" if kind.unit > 1 else f"{count} > {literal('u64', most)}"
+    ]
+    return returned(" || ".join(tests), named, 1)
+
+
+def item_bits(kind: Listed) -> int:
+    """Returns the bits of an item of a list."""
+    return kind.item.width if isinstance(kind.item, m.Integer) else 8
 
 
 # ---- numbers
@@ -159,10 +186,9 @@ def list_rows(description: m.Description, kind: Listed) -> list[str]:
 def length_test(description: m.Description, kind: Listed, length: str) -> str:
     """Returns the test that a list has a length that the format does not allow."""
     if isinstance(kind, m.Rest | m.Until):
-        return f"{length} > {cross.MOST_REST if isinstance(kind, m.Rest) else cross.MOST_ENDED}"
-    tests, line = [f"{length} > {literal('usize', cross.most_items(description, kind))}"], cross.counted(
-        description, kind
-    )
+        return f"{length} > {literal('usize', cross.MOST_OPEN)}"
+    most = cross.MOST_OPEN if cross.is_open(description, kind) else cross.most_items(description, kind)
+    tests, line = [f"{length} > {literal('usize', most)}"], cross.counted(description, kind)
     if isinstance(line, m.Size) and not isinstance(kind, m.Fill):
         tests += [f"{length} < {-line.plus}"] * (line.plus < 0)
         tests += [f"{length} % {line.unit} != {-line.plus % line.unit}"] * (line.unit > 1)

@@ -2,7 +2,7 @@
 from __future__ import annotations
 
 from describing import model as m
-from describing.c import cross, decided, fill_proofs, fills, list_proofs, lists, optional, varying
+from describing.c import cross, decided, fill_proofs, fills, list_proofs, lists, optional, sum_proofs, sums, varying
 from describing.c.cross import base, fields
 from describing.c.imports import answer_uses, lemma_uses, parse_uses
 from describing.c.target import Target
@@ -10,28 +10,24 @@ from describing.layout import Line
 from describing.specs.terms import only_constants
 
 
-HEAD = "-- The number of bytes of a `{}`, its bits before others, and when a parse succeeds."
+HEAD = "-- The bits of a `{}` before others, and when a parse succeeds."
 
 
 def lemmas(t: Target) -> str:
     """Returns the lemmas of a format: its number of bytes, and its bits before others."""
+    if not t.f.description.whole:
+        text = varying.most_lemma(t.f).lstrip("\n")
+        said = f"-- The greatest number of bits of a `{t.f.type}`."
+        return "\n".join([f"-- {t.made}", said, *lemma_uses(t, text), "", text])
     if not t.f.sized:
         text = lists.lemmas(t.f) if cross.lists(t.f.description) else varying.lemmas(t.f)
+        text = sum_proofs.lemmas(t.f) if sums.check_of(t.f) else text
         return "\n".join(
             [f"-- {t.made}", f"-- When a parse of a `{t.f.type}` succeeds.", *lemma_uses(t, text), "", text]
         )
     f, o, n = t.f, t.f.o, t.f.bytes
     all_bits = f"bits {o} bytes"
-    text = f"""-- the number of bytes
-pub bytes_count : (value : {f.type}) (bytes : List ℕ) → Fits value
-    → {all_bits} ≡ {f.m}_bits value → length bytes ≡ {n}
-bytes_count value bytes fits is =
-    let all = {f.m}_packs {o} value fits in
-    let count : length ({all_bits}) ≡ {f.total} =
-    ap length (is ∙ sym (told value) ∙ packs-whole all refl) ∙ all.size 0 in
-    omega (arith, count, length-bits {o} bytes)
-
--- the bits of bytes whose first ones are known
+    text = f"""-- the bits of bytes whose first ones are known
 pub first_bytes : (value : {f.type}) (bytes : List ℕ) → bits {o} (take {n} bytes) ≡ {f.m}_bits value
     → {all_bits} ≡ {f.m}_bits value ++ bits {o} (drop {n} bytes)
 first_bytes value bytes is =
@@ -44,32 +40,30 @@ first_bytes value bytes is =
 
 def put_answers(t: Target) -> str:
     """Returns the proof of the function that packs fields."""
-    f, o, n = t.f, t.f.o, t.f.bytes
-    fits = "let fits : Fits c.args.fields.now = search rules in"
-    count = f"bytes_count _ _ fits (ap (bits {o}) c.as_slice.ensures ∙ c.in-Ok.ensures.packed)"
+    f, o, value = t.f, t.f.o, "c.args.fields.now"
+    fits, packs = f"let fits : Fits {value} = search rules in", f"{f.m}_packs {o} {value} fits"
     return f"""-- {t.made}
-use Rattle.std.proofs.Common.{{◌≡◌, ◌∙◌, length, ap, arith, rules}}
-use Rattle.std.proofs.lemmas.List.{{length-take-le, take_at, drop_at}}
+use Rattle.std.proofs.Common.{{refl, arith, rules}}
 use {f.specs_path}.{{Fits}}
-use Rattle.bitstream_io.specs.Callers.{{{o}, bits}}
-use Rattle.{t.crate}.proofs.SharedLemmas.{{packs-done}}
-use Rattle.{t.crate}.proofs.{f.spec}Lemmas.{{bytes_count}}
+use {f.lemmas_path}.{{{f.m}_packs, told}}
+use Rattle.bitstream_io.specs.Callers.{{{o}}}
+use Rattle.{t.crate}.proofs.SharedLemmas.{{bytes_of, packs-begun}}
 use Rattle.{t.crate}.proofs.{f.m}.put.Goals as goal
 
-pub copy_from_slice-requires : goal.copy_from_slice-requires
-copy_from_slice-requires c =
+pub write_first-requires-clause-accepted : goal.write_first-requires-clause-accepted
+write_first-requires-clause-accepted c =
     {fits}
-    let count = {count} in
-    omega (arith, count, length-take-le {n} c.args.buffer.now)
+    ({packs}).accepted 0
+
+pub write_first-requires-clause-room : goal.write_first-requires-clause-room
+write_first-requires-clause-room c =
+    {fits}
+    omega (arith, bytes_of ({packs}))
 
 pub returns : goal.returns
 returns c =
     {fits}
-    let count = {count} in
-    let same : c.copy_from_slice.new.self ≡ c.as_slice.result.now = cc in
-    let size : length c.copy_from_slice.new.self ≡ {n} = ap length same ∙ count in
-    packs-done fits (omega arith)
-    (ap (bits {o}) (take_at _ _ {n} size ∙ same ∙ c.as_slice.ensures) ∙ c.in-Ok.ensures.packed) (drop_at _ _ {n} size)
+    packs-begun fits ({packs}) refl (omega arith) (told {value}) c.write_first.ensures
 """
 
 
@@ -131,10 +125,13 @@ def answer_files(t: Target) -> dict[str, str]:
     m_ = t.f.m
     numbers = [base(it) for it in fields(t.f.description) if isinstance(it, m.NonZero | m.MaybeNonZero)]
     found = {f"proofs/{m_}/option_{it}/Answers.antt": option_answers(t, it) for it in numbers}
-    found[f"proofs/{t.f.spec}Lemmas.antt"] = lemmas(t)
+    if cross.has_lemmas(t.f.description):
+        found[f"proofs/{t.f.spec}Lemmas.antt"] = lemmas(t)
     if optional.listed(t.f) or fills.beside(t.f):
         text = optional.fit_answers(t.f, fill_proofs.whole(t.f))
         found[f"proofs/{m_}/is_fit/Answers.antt"] = fill_proofs.laid_out(t, "is_fit", text)
+    if not t.f.description.whole:
+        return found
     if t.f.sized:
         found[f"proofs/{m_}/proved_{m_}_parse/Answers.antt"] = parse_answers(t)
         return found | {f"proofs/{m_}/put/Answers.antt": put_answers(t)}

@@ -14,6 +14,7 @@ from describing.c.cross import (
     comment,
     enums,
     fields,
+    givens,
     is_listed,
     layout,
     list_comment,
@@ -27,6 +28,7 @@ from describing.c.rests import which_bytes
 from describing.c.status import DOES_NOT_FIT, NO_ROOM, Status, numbers, own, refused, rooms, unless_refused
 from describing.c.target import Target
 from describing.c.words import drawn, in_docstring, paragraph, python_name, quoted
+from describing.layout import Format
 
 LIBRARY = '''"""MADE
 
@@ -103,7 +105,7 @@ def module(t: Target) -> str:
     """Returns the module."""
     body = [
         *enum_codes(t),
-        *errors_code(t),
+        *(errors_code(t) if t.f.description.whole else []),
         *[line for it in choices(t.f.description) for line in choice_classes(it)],
         *struct_code(t),
         *lists_code(t),
@@ -120,12 +122,13 @@ def head_code(t: Target) -> list[str]:
     f = t.f
     out = [f'"""{t.made}', "", *paragraph(in_docstring(f.doc), "", ""), "", *drawn(f.description), '"""']
     out += ["from __future__ import annotations", "", "import ctypes"] + ["import enum"] * bool(enums(f.description))
-    typed = "ClassVar" + ", Sequence" * bool(lists(f.description)) + ", Union" * bool(choices(f.description))
-    out += ["from dataclasses import dataclass", f"from typing import {typed}", "", ""]
+    typed = ["ClassVar"] * f.description.whole + ["Sequence"] * bool(lists(f.description))
+    typed += ["Union"] * bool(choices(f.description))
     body = "".join(value for it in fields(f.description) for value in to_c(it).values())
     body += "\n".join([*lists_code(t), *[line for it in choices(f.description) for line in choice_calls(it)]])
-    needs = [it for it in ("case", "items", "number", "part") if f"{it}(" in body]
-    out[-1] = f"from ._library import {', '.join(sorted([*needs, 'library']))}"
+    needs = [it for it in ("case", "items", "number", "part") if f"{it}(" in body] + ["library"] * f.description.whole
+    out += ["from dataclasses import dataclass", *[f"from typing import {', '.join(typed)}"] * bool(typed), ""]
+    out += [f"from ._library import {', '.join(sorted(needs))}"] * bool(needs)
     return out + [f"from . import {it.module} as _{it.module}" for it in parts(f.description)] + ["", ""]
 
 
@@ -220,7 +223,7 @@ def hint(kind: Crossed) -> str:
     match kind:
         case m.Bool():
             return "bool"
-        case m.Number() | m.NonZero() | m.Groups() | m.Golomb() | m.Varint():
+        case m.Number() | m.NonZero() | m.Unary() | m.Groups() | m.Golomb() | m.Varint():
             return "int"
         case m.MaybeNonZero():
             return "int | None"
@@ -228,7 +231,7 @@ def hint(kind: Crossed) -> str:
             return f"{kind.enum.name}{' | int' if kind.enum.other else ''}"
         case m.Array():
             return "bytes" if isinstance(kind.item, m.Octet) else "list[int]"
-        case m.Part():
+        case m.Part() | m.Given():
             return f"_{kind.use.module}.{kind.use.name}"
         case m.Optional() | m.If():
             return f"_{kind.use.module}.{kind.use.name} | None"
@@ -303,7 +306,7 @@ def one_to_c(kind: Crossed) -> str:
             return f"case({v}, {kind.enum.name}, {at})"
         case m.Array():
             return f"items({v}, {kind.count}, {span(kind)}, {at})"
-        case m.Part():
+        case m.Part() | m.Given():
             return f'part({v}, _{kind.use.module}.{kind.use.name}, {at})._to_c({at[:-1]}.")'
     return f"number({v}, {span(kind)}, {at})"
 
@@ -314,7 +317,7 @@ def from_c(kind: Crossed) -> str:
     match kind:
         case m.Bool():
             return f"{v} != 0"
-        case m.Number() | m.NonZero() | m.Groups() | m.Golomb() | m.Varint():
+        case m.Number() | m.NonZero() | m.Unary() | m.Groups() | m.Golomb() | m.Varint():
             return v
         case m.MaybeNonZero():
             return f"{v} or None"
@@ -322,7 +325,7 @@ def from_c(kind: Crossed) -> str:
             return f"_{m.snake(kind.enum.name)}({v})" if kind.enum.other else f"{kind.enum.name}({v})"
         case m.Array():
             return f"{'bytes' if isinstance(kind.item, m.Octet) else 'list'}({v})"
-        case m.Part():
+        case m.Part() | m.Given():
             return f"_{kind.use.module}.{kind.use.name}._from_c({v})"
         case m.Optional() | m.If():
             return f"_{kind.use.module}.{kind.use.name}._from_c({v}) if out.has_{kind.name} else None"
@@ -462,8 +465,7 @@ def calls_code(t: Target) -> list[str]:
     """Returns the methods of the dataclass."""
     f, of_all = t.f, fields(t.f.description)
     return [
-        *parse_code(t),
-        *pack_code(t),
+        *([*parse_code(t), *pack_code(t)] if f.description.whole else []),
         '    def _to_c(self, at: str = "") -> _C:',
         "        return _C(",
         *[f"            {value}," for it in of_all for value in to_c(it).values()],
@@ -507,10 +509,11 @@ def parse_code(t: Target) -> list[str]:
 
 def parse_lists_code(t: Target) -> list[str]:
     """Returns the parse of a format with lists: it is called again with room for the items that it asks for."""
-    f = t.f
+    f, handed = t.f, givens(t.f.description)
+    parameters = "".join(f", {python_name(it.name)}: {hint(it)}" for it in handed)
     out = [
         "    @classmethod",
-        f"    def parse(cls, data: bytes | bytearray | memoryview) -> tuple[{f.type}, int]:",
+        f"    def parse(cls, data: bytes | bytearray | memoryview{parameters}) -> tuple[{f.type}, int]:",
         *paragraph(
             f'"""Parses {which_bytes(f, "`data`")}, and returns them with the number of bytes that they take.',
             " " * 8,
@@ -521,6 +524,7 @@ def parse_lists_code(t: Target) -> list[str]:
         '        """',
         "        first, out, taken = bytes(data), _C(), ctypes.c_size_t()",
         *rest_room(t),
+        *[f"        out.{python_name(it.name)} = {given_to_c(it)}" for it in handed],
         f"        status = library.{f.m}_parse(first, len(first), ctypes.byref(out), ctypes.byref(taken))",
         "        while status:",
     ]
@@ -541,6 +545,12 @@ def parse_lists_code(t: Target) -> list[str]:
         "        return cls._from_c(out), taken.value",
         "",
     ]
+
+
+def given_to_c(kind: m.Given) -> str:
+    """Returns the member of C for a part that is given to the parse."""
+    name = python_name(kind.name)
+    return f'part({name}, {hint(kind)}, "{name}")._to_c("{name}.")'
 
 
 def rest_room(t: Target) -> list[str]:
@@ -595,6 +605,15 @@ def end_code(t: Target) -> list[str]:
     size, offset, _ = layout(f.description, public=True)
     member = members(f.description)[-1]
     last = python_name(member.choice or member.name)
+    same = [
+        f'if ctypes.sizeof(_C) != {size} or getattr(_C, "{last}").offset != {offset}:',
+        '    raise ImportError("the library has another layout")',
+    ]
+    return [*same, *(types_code(f) if f.description.whole else [])]
+
+
+def types_code(f: Format) -> list[str]:
+    """Returns the types of the functions of C."""
     taken = [] if f.sized else ["    ctypes.POINTER(ctypes.c_size_t),"]
     pointers = "[ctypes.c_char_p, ctypes.c_size_t, ctypes.POINTER(_C)]"
     parse = [f"{f'library.{f.m}'}_parse.argtypes = {pointers}"]
@@ -609,8 +628,6 @@ def end_code(t: Target) -> list[str]:
         ]
     of_c = f"library.{f.m}"
     return [
-        f'if ctypes.sizeof(_C) != {size} or getattr(_C, "{last}").offset != {offset}:',
-        '    raise ImportError("the library has another layout")',
         *parse,
         f"{of_c}_parse.restype = ctypes.c_int",
         f"{of_c}_pack.argtypes = [",

@@ -93,22 +93,30 @@ def known(f: Format, sizes: dict[str, str]) -> tuple[str, ...]:
     return tuple(counted)
 
 
-def packed_lemma(f: Format, names: str) -> str:
-    """Returns the lemma that packed bytes are parsed again."""
+def whole_terms(f: Format) -> tuple[str, str]:
+    """Returns what is known of packed bytes, and that the format's reads find the fields in them."""
     mod, o, length = f.m, f.o, rest_count(f)
-    read, given_ = f"{mod}_decoder {o}", bytes_given(f, "length bytes")
     whole = "".join(f"    let {it.name}_whole = {bytes_name(it)} value.{it.name} in\n" for it in some_parts(f))
     sum_ = f"omega ({', '.join(['arith', *[f'{it.name}_whole' for it in some_parts(f)]])})" if whole else "omega arith"
-    lemmas = "\n".join([*some_sizes(f), ""]) if whole else ""
+    lets = f"""{whole}    let plain = is ∙ sym (told value) ∙ whole_packed all (8 * {f.head} + 8 * {length}) ({sum_}) (omega arith) in
+"""
+    term = f"""rest-back ({mod}_decoder {o}) {o} bytes ({mod}_writes {o} value) {f.head} {length} _
+    (packs-is all ({sum_})) plain (λ more. ({mod}_goes {o} value fits).back 0 0 more)"""
+    return lets, term
+
+
+def packed_lemma(f: Format, names: str) -> str:
+    """Returns the lemma that packed bytes are parsed again."""
+    mod, o, given_ = f.m, f.o, bytes_given(f, "length bytes")
+    read, (lets, term) = f"{mod}_decoder {o}", whole_terms(f)
+    lemmas = "\n".join([*some_sizes(f), ""]) if some_parts(f) else ""
     return f"""{lemmas}-- packed bytes are parsed again
 pub packed : (value : {f.type}) (bytes : List ℕ) ({names} : ℕ) → Fits value → bits {o} bytes ≡ {mod}_bits value
     → {mod}_answer {names} (({read} {given_}).reads 0 (bits {o} bytes))
     ≡ {mod}_parsed ({mod}_bytes value) {names} (Ok ({mod}_to_c value))
 packed value bytes {names} fits is =
     let all = {mod}_packs {o} value fits in
-{whole}    let plain = is ∙ sym (told value) ∙ whole_packed all (8 * {f.head} + 8 * {length}) ({sum_}) (omega arith) in
-    ap ({mod}_answer {names}) (rest-back ({read}) {o} bytes ({mod}_writes {o} value) {f.head} {length} _
-    (packs-is all ({sum_})) plain (λ more. ({mod}_goes {o} value fits).back 0 0 more))
+{lets}    ap ({mod}_answer {names}) ({term})
     ∙ ap (λ k. {mod}_answer {names} (Done k (Ok (Ok value)))) (all.size 0)
 """
 

@@ -15,6 +15,7 @@ from describing.c.cross import (
     comment,
     enums,
     fields,
+    givens,
     is_listed,
     is_mapped,
     layout,
@@ -40,13 +41,15 @@ def module(t: Target) -> str:
     """Returns the module."""
     f = t.f
     body = [*struct_code(t), *[line for it in enums(f.description) for line in enum_code(t, it)]]
-    body += [*[line for it in choices(f.description) for line in choice_code(t, it)], *error_code(t)]
-    body += [*crossing_code(t), *calls_code(t)]
-    text = "\n".join(body)
+    body += [line for it in choices(f.description) for line in choice_code(t, it)]
+    whole = f.description.whole
+    body += [*(error_code(t) if whole else []), *crossing_code(t), *(proved_code(t) if whole else [])]
+    body += [*layout_code(t), *(calls_code(t) if whole else [])]
+    text = "\n".join(body).rstrip("\n")
     out = [f"//! {t.made}", "//!", f"//! {f.doc}", "//!", "//! ```text", *[f"//! {it}" for it in drawn(f.description)]]
     out += ["//! ```", ""]
     out += [f"use crate::{it.module}::{{{it.name}, {it.name}C}};" for it in parts(f.description)]
-    out += ["extern crate alloc;", "use alloc::vec;", "use alloc::vec::Vec;"] * (not f.sized)
+    out += ["extern crate alloc;", "use alloc::vec;", "use alloc::vec::Vec;"] * (not f.sized and whole)
     out += ["use core::num::NonZero;"] * ("NonZero" in text)
     return "\n".join([*out, *[""] * (out[-1] != ""), text]) + "\n"
 
@@ -215,7 +218,7 @@ def one_to_c(kind: Crossed) -> str:
     match kind:
         case m.Bool():
             return f"u8::from({v})"
-        case m.Number() | m.Array() | m.Groups() | m.Golomb() | m.Varint():
+        case m.Number() | m.Array() | m.Unary() | m.Groups() | m.Golomb() | m.Varint():
             return v
         case m.NonZero():
             return f"{v}.get()"
@@ -223,7 +226,7 @@ def one_to_c(kind: Crossed) -> str:
             return f"{v}.map_or(0, NonZero::get)"
         case m.Enum():
             return f"{v}.number()"
-        case m.Part():
+        case m.Part() | m.Given():
             return f"{kind.use.name}C::new(&{v})"
     raise AssertionError(kind)
 
@@ -234,7 +237,7 @@ def from_c(kind: Crossed) -> str:
     match kind:
         case m.Bool():
             return f"{v} != 0"
-        case m.Number() | m.Array() | m.Groups() | m.Golomb() | m.Varint():
+        case m.Number() | m.Array() | m.Unary() | m.Groups() | m.Golomb() | m.Varint():
             return v
         case m.NonZero():
             return f"NonZero::<{base(kind)}>::new({v}).ok_or({quoted(kind.name)})?"
@@ -242,7 +245,7 @@ def from_c(kind: Crossed) -> str:
             return f"NonZero::<{base(kind)}>::new({v})"
         case m.Enum():
             return f"{kind.enum.name}::of({v}).ok_or({quoted(kind.name)})?"
-        case m.Part():
+        case m.Part() | m.Given():
             return f"{v}.fields()?"
         case m.Optional() | m.If():
             return f"if self.has_{kind.name} == 0 {{ None }} else {{ Some({v}.fields()?) }}"
@@ -259,10 +262,9 @@ def from_c(kind: Crossed) -> str:
 
 
 def crossing_code(t: Target) -> list[str]:
-    """Returns the struct that crosses, the results, and the proved functions."""
+    """Returns the struct that crosses."""
     f = t.f
     name, of_all, of_c = f"{f.type}C", fields(f.description), members(f.description)
-    size, offset, _ = layout(f.description)
     return [
         "#[repr(C)]",
         "#[derive(Clone, Copy)]",
@@ -270,6 +272,7 @@ def crossing_code(t: Target) -> list[str]:
         *[f"    pub(crate) {it.name}: {it.rust}," for it in of_c],
         "}",
         "",
+        *["#[allow(dead_code)]"] * (not f.description.whole),
         f"impl {name} {{",
         "    #[allow(dead_code)]",
         f"    pub(crate) const ZERO: {name} = {name} {{",
@@ -289,6 +292,13 @@ def crossing_code(t: Target) -> list[str]:
         "    }",
         "}",
         "",
+    ]
+
+
+def proved_code(t: Target) -> list[str]:
+    """Returns the results, and the proved functions."""
+    f, name = t.f, f"{t.f.type}C"
+    return [
         "#[repr(C)]",
         "struct Parsed {",
         "    status: i32,",
@@ -303,7 +313,7 @@ def crossing_code(t: Target) -> list[str]:
         "}",
         "",
         'extern "C" {',
-        f"    fn proved_{f.m}_parse(bytes: *const u8, length: usize{pointers(t, 'mut')}) -> Parsed;",
+        f"    fn proved_{f.m}_parse(bytes: *const u8, length: usize{pointers(t, 'mut')}{given_pointers(t)}) -> Parsed;",
         f"    fn proved_{f.m}_pack(value: &{name}{pointers(t, 'const')}, buffer: *mut u8, length: usize) -> Packed;",
         f"    fn {misfit_name(t)}(value: &{name}{pointers(t, 'const')}) -> *const core::ffi::c_char;",
         "}",
@@ -321,9 +331,17 @@ def crossing_code(t: Target) -> list[str]:
         "    unsafe { core::ffi::CStr::from_ptr(name) }.to_str().unwrap_or_default()",
         "}",
         "",
+    ]
+
+
+def layout_code(t: Target) -> list[str]:
+    """Returns the test of the layout of the struct that crosses."""
+    name, last = f"{t.f.type}C", members(t.f.description)[-1].name
+    size, offset, _ = layout(t.f.description)
+    return [
         "// The layout that the proved functions have.",
         f"const _: () = assert!(core::mem::size_of::<{name}>() == {size});",
-        f"const _: () = assert!(core::mem::offset_of!({name}, {of_c[-1].name}) == {offset});",
+        f"const _: () = assert!(core::mem::offset_of!({name}, {last}) == {offset});",
         "",
     ]
 
@@ -358,6 +376,11 @@ def pointers(t: Target, how: str) -> str:
     """Returns the parameters for the items of the lists of a proved function."""
     names = [(it.name, base(it)) for it in lists(t.f.description)]
     return "".join(f", {name}_items: *{how} {number}, {name}_count: usize" for name, number in names)
+
+
+def given_pointers(t: Target) -> str:
+    """Returns the parameters for what is given to the proved parse."""
+    return "".join(f", {it.name}: &{base(it)}" for it in givens(t.f.description))
 
 
 def misfit_name(t: Target) -> str:
@@ -414,6 +437,9 @@ def parse_lists_code(t: Target) -> list[str]:
     """Returns the parse of a format with lists: it is called again with room for the items that it asks for."""
     f, e, kinds = t.f, error_name(t), lists(t.f.description)
     given = "".join(f", {it.name}_items.as_mut_ptr(), {it.name}_items.len()" for it in kinds)
+    handed = givens(f.description)
+    given += "".join(f", &{base(it)}::new({it.name})" for it in handed)
+    parameters = "".join(f", {it.name}: &{it.use.name}" for it in handed)
     out = [
         *doc(
             f"Parses {which_bytes(f, '`bytes`')}, and returns them with the number of bytes that they take.",
@@ -423,7 +449,7 @@ def parse_lists_code(t: Target) -> list[str]:
         "    /// # Errors",
         "    ///",
         *doc(f"{refusals(t)}.", "    "),
-        f"    pub fn parse(bytes: &[u8]) -> Result<({f.type}, usize), {e}> {{",
+        f"    pub fn parse(bytes: &[u8]{parameters}) -> Result<({f.type}, usize), {e}> {{",
         *[
             f"        let mut {it.name}_items = {'vec![0; bytes.len()]' if it is rest(f.description) else 'Vec::new()'};"
             for it in kinds

@@ -4,7 +4,7 @@ from __future__ import annotations
 from typing import assert_never
 
 from describing import model as m
-from describing.c import choices, cross, lists, optional, part_lists, varying
+from describing.c import choices, cross, lists, optional, part_lists, sums, varying
 from describing.c.cross import Crossed, Member, base, fields, members, partial
 from describing.c.imports import spec_uses
 from describing.c.status import END_OF_INPUT, own
@@ -15,9 +15,6 @@ from describing.model import snake
 
 def specs(t: Target) -> str:
     """Returns the text of the specs."""
-    results = result_specs(t) if t.f.sized else varying.specs(t.f)
-    if cross.lists(t.f.description):
-        results = lists.specs(t.f)
     body = [
         *narrow_specs(t.f),
         *part_lists.enum_specs(t.f),
@@ -26,12 +23,20 @@ def specs(t: Target) -> str:
         *to_c_specs(t),
         *from_c_specs(t),
         *zero_specs(t),
-        *results,
-        *held_specs(t),
+        *calls_specs(t),
     ]
     text = "\n".join(body).rstrip("\n")
     head = [f"-- {t.made}", f"-- A `{t.f.type}` as C sees it.", *spec_uses(t, text), ""]
     return "\n".join([*head, text]) + "\n"
+
+
+def calls_specs(t: Target) -> list[str]:
+    """Returns the definitions for the two functions: a `part` has none."""
+    if not t.f.description.whole:
+        return []
+    if cross.lists(t.f.description):
+        return [*(sums.specs(t.f) if sums.check_of(t.f) else lists.specs(t.f)), *held_specs(t)]
+    return [*(result_specs(t) if t.f.sized else varying.specs(t.f)), *held_specs(t)]
 
 
 def narrow_specs(f: Format) -> list[str]:
@@ -66,7 +71,7 @@ def one_to_c(kind: Crossed) -> str:
     match kind:
         case m.Bool():
             return f"if {v} then 1 else 0"
-        case m.Number() | m.Array() | m.Groups() | m.Golomb() | m.Varint():
+        case m.Number() | m.Array() | m.Unary() | m.Groups() | m.Golomb() | m.Varint():
             return v
         case m.NonZero():
             return f"non_zero_{base(kind)}_get {v}"
@@ -74,7 +79,7 @@ def one_to_c(kind: Crossed) -> str:
             return f"number_or_zero non_zero_{base(kind)}_get {v}"
         case m.Enum():
             return f"{snake(kind.enum.name)}_number {v}"
-        case m.Part():
+        case m.Part() | m.Given():
             return f"{kind.use.module}_to_c {v}"
     raise AssertionError(kind)
 
@@ -100,14 +105,14 @@ def from_c(f: Format, kind: Crossed) -> str:
     match kind:
         case m.Bool():
             return f"not ({name} == 0)"
-        case m.Number() | m.Array() | m.Groups() | m.Golomb() | m.Varint():
+        case m.Number() | m.Array() | m.Unary() | m.Groups() | m.Golomb() | m.Varint():
             return name
         case m.NonZero() | m.MaybeNonZero():
             return f"if_any non_zero_{base(kind)} {name}"
         case m.Enum():
             own = f"{f.m}_{snake(kind.enum.name)}_from"
             return f"{own} {name}" if cross.is_narrow(kind.enum) else f"{snake(kind.enum.name)}_of {name}"
-        case m.Part():
+        case m.Part() | m.Given():
             return f"{kind.use.module}_from_c {name}"
         case m.Optional() | m.If():
             return optional.from_c_specs(f, kind)
@@ -127,7 +132,7 @@ def partial_type(t: Target, kind: Crossed) -> str:
             return f"Option {kind.enum.name}"
         case m.Enum():
             return f"Result {kind.enum.name} {t.f.error}"
-        case m.Part():
+        case m.Part() | m.Given():
             return f"Option {kind.use.name}"
         case m.Optional() | m.If():
             return f"Option (Option {kind.use.name})"

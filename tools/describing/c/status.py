@@ -51,14 +51,24 @@ NUMBER = Status(
 RUN = Status(BAD_NUMBER, "RUN_TOO_LONG", "The byte that ends a list is not among the first 2^32.")
 
 
+UNARY = "A unary number is not below 2^32."
+
+
+def has_unary(kinds: tuple[m.Kind, ...]) -> bool:
+    """Returns true if lines have a unary number."""
+    return any(isinstance(it, m.Unary) for it in kinds)
+
+
 def has_numbers(kinds: tuple[m.Kind, ...]) -> bool:
     """Returns true if numbers of variable width may be refused by the reader."""
-    return any(True for _ in reader_errors(kinds))
+    return has_unary(kinds) or any(True for _ in reader_errors(kinds))
 
 
 def numbers(f: Format) -> list[Status]:
     """Returns the status of numbers of variable width that are refused, if there are any."""
     errors = {it for it, _ in reader_errors(f.description.kinds)}
+    if errors <= {UNENDED[0]} and has_unary(f.description.kinds):
+        return [replace(RUN, text=UNARY[:-1] + UNENDED_TOO if errors else UNARY)]
     if errors == {UNENDED[0]}:
         return [RUN]
     number = replace(NUMBER, text=NUMBER.text[:-1] + UNENDED_TOO) if UNENDED[0] in errors else NUMBER

@@ -165,7 +165,8 @@ LEMMAS = """-- Bytes up to a terminator, by reads that do not allocate.
 use Rattle.std.proofs.Common.{◌≡◌, ℕ, suc, ◌+◌, ◌-◌, ◌<◌, ◌==◌, true, false, List, [], ◌∷◌, ◌++◌, Result, Ok, Err, refl, sym, subst, arith}
 use Rattle.std.specs.Prelude.{if◌then◌else◌}
 use Rattle.bitstream_io.specs.Error.TheVariants.{RunTooLong, Failed}
-use Rattle.bitstream_io.specs.Callers.{Decoder, Error, BitSource, Reads, and_then, fail, pure, stores, unsigned_decoder}
+use Rattle.bitstream_io.specs.Callers.{Decoder, Error, BitSource, Reads, and_then, fail, pure, stores}
+use Rattle.bitstream_io.specs.ReadTable.{unsigned_decoder}
 use Rattle.bitstream_io.specs.Reads.{was_done, failed_reader}
 use Rattle.bitstream_io.proofs.ReadsLemmas.{Reads-and_then-ok, Reads-and_then-err, Reads-pure, Reads-same, Took-nil, Took-too_long, none_needed, ok_prefix}
 use Rattle.bitstream_format.specs.Until.{until_decoder, until_from}

@@ -118,18 +118,6 @@ padded o es n bytes x told is =
     ∙ append_assoc (write_sequence es 0) (write_sequence (align ∷ []) (0 + length (write_sequence es 0)))
     (bits o (drop n bytes))
 
--- the bytes of calls and an alignment
-pub aligned_bytes : {es : List Encoder} {k : ℕ} → Packs es k → (o : Order) (bytes : List ℕ)
-    → bits o bytes ≡ write_sequence (es ++ align ∷ []) 0 → length bytes ≡ (k + 7) / 8
-aligned_bytes {es = es} {k = k} all o bytes is =
-    let here : 0 + length (write_sequence es 0) ≡ k = let size = all.size 0 in omega (arith, size) in
-    let last : length (write_sequence (align ∷ []) k) ≡ to_boundary k = length-append (replicate (to_boundary k) false) []
-    ∙ (let long = length-replicate (to_boundary k) false in omega (arith, long)) in
-    let more : length (write_sequence (align ∷ []) (0 + length (write_sequence es 0))) ≡ to_boundary k = rw here last in
-    let sum = length-append (write_sequence es 0) (write_sequence (align ∷ []) (0 + length (write_sequence es 0))) in
-    let split = ap length (is ∙ write_sequence-append es (align ∷ []) 0) in
-    omega (arith, length-bits o bytes, split, sum, here, more)
-
 -- a word of groups has as many bits as they have
 groups_length : (strict : Bool) (o : Order) (field more : ℕ) (w : List Bool) (v : ℕ) → IsGroups strict o field more w v
     → length w ≡ field * (more + 1)

@@ -166,9 +166,8 @@ def few_terms(f: Format, all_: str) -> list[str]:
 
 def put_code(f: Format) -> list[str]:
     """Returns the function that packs fields."""
-    value, room = value_of(f, "fields.now"), -(-open_most(f.description) // 8)
+    value = value_of(f, "fields.now")
     size, held_ = f"({f.m}_bytes {value})", f"({f.m}_bits {value})"
-    call = f"pack_into::<{f.order}, {given(f)}>(fields, &mut whole)"
     return [
         "/// Writes the fields to the first bytes of a buffer.",
         f"fn put(fields: &{given(f)}, buffer: &mut [u8]) -> Packed",
@@ -182,11 +181,7 @@ def put_code(f: Format) -> list[str]:
         "    if written > buffer.len() as u64 {",
         f"        return refused({NO_ROOM});",
         "    }",
-        f"    let mut whole = [0u8; {room}];",
-        f"    match {call if lists(f.description) else 'fields.pack_into(&mut whole)'} {{",
-        "        Ok(packed) => buffer[..written as usize].copy_from_slice(packed.as_slice()),",
-        "        Err(_) => unreachable!(),",
-        "    }",
+        f"    write_first::<{f.order}, {given(f)}>(fields, buffer);",
         "    Packed {",
         "        status: 0,",
         "        written: written as usize,",
@@ -370,9 +365,7 @@ def put_answers(f: Format) -> str:
     """Returns the proof of the function that packs fields."""
     name, o, value = f.m, f.o, value_of(f, "c.args.fields.now")
     opens = open_lists(f.description)
-    packs, kinds = f"({name}_packs {o} {value} fits{'.0' * bool(opens)})", lists(f.description)
-    enough = f"packed-room c.in-Err.ensures {packs}" if kinds else "c.in-Err.ensures.room fits"
-    packed = f"packed-bits c.in-Ok.ensures (told {value})" if kinds else "c.in-Ok.ensures.packed"
+    packs = f"({name}_packs {o} {value} fits{'.0' * bool(opens)})"
     fits = f"""    let fits : Fits {value} = search rules in
 """
     if opens:
@@ -384,34 +377,41 @@ def put_answers(f: Format) -> str:
         fits += f"    let fits : {packable(f)} {value} = (fit, {', '.join(f'few_{k}' for k in range(len(few)))}) in\n"
     counts = f"""{fits}    let size = c.size.ensures in
     let whole = c.div_ceil-written.ensures in
-    let packed = ap (bits {o}) c.as_slice.ensures ∙ {packed} in
-    let count = aligned_bytes {packs} {o} c.as_slice.result.now (packed ∙ sym (told {value})) in
     let same : c.div_ceil-written.result ≡ {name}_bytes {value} = omega arith in
 """
-    return f"""pub unreachable-requires : goal.unreachable-requires
-unreachable-requires c =
-{fits}    let most = {name}_most {value} fits in
-    let no = {enough} (omega (arith, most)) in cc
+    return f"""pub write_first-requires-clause-accepted : goal.write_first-requires-clause-accepted
+write_first-requires-clause-accepted c =
+{fits}    {packs}.accepted 0
 
-pub copy_from_slice-requires : goal.copy_from_slice-requires
-copy_from_slice-requires c =
-{counts}    omega (arith, count, same, length-take-le c.div_ceil-written.result c.args.buffer.now)
+pub write_first-requires-clause-room : goal.write_first-requires-clause-room
+write_first-requires-clause-room c =
+{counts}    omega (arith, same, bytes_of {packs})
 
 pub returns : goal.returns
 returns c =
-{counts}    let copied : c.copy_from_slice.new.self ≡ c.as_slice.result.now = cc in
-    let long : length c.copy_from_slice.new.self ≡ {name}_bytes {value} = ap length copied ∙ count in
-    rw same (packs-done fits (omega arith)
-    (ap (bits {o}) (take_at _ _ ({name}_bytes {value}) long ∙ copied) ∙ packed) (drop_at _ _ ({name}_bytes {value}) long))
+{counts}    rw same (packs-begun fits {packs} refl (omega arith) (told {value}) c.write_first.ensures)
 """
 
 
 # ---- the greatest number of bits
 
 
+def cited(kind: m.Kind) -> set[str]:
+    """Returns the lemmas about the greatest numbers of bits of the parts of a line, or of a choice."""
+    of_choice = {f"{m.snake(kind.type)}_most"} if isinstance(kind, m.Choose) else set[str]()
+    return of_choice or {f"{it.module}_most" for it in m.uses(kind) if it.description.bits is None}
+
+
+def fact_name(f: Format, line: Line) -> str:
+    """Returns the name of a fact about the number of bits of a line, which is no lemma that a later line cites."""
+    name = f"{line.name}_most"
+    others = (it for one in f.lines if one.index > line.index for it in cited(one.kind))
+    return f"{line.name}_bits_most" if name in others else name
+
+
 def bound(f: Format, line: Line) -> tuple[str, str]:
     """Returns the statement of a fact about the number of bits of a line, and its name; empty if none is needed."""
-    kind, v, fact = line.kind, f"value.{line.name}", f"{line.name}_most"
+    kind, v, fact = line.kind, f"value.{line.name}", fact_name(f, line)
     match kind:
         case m.Groups():
             width, number, small = kind.integer.width, v, f"fits.{line.name}"
@@ -419,17 +419,21 @@ def bound(f: Format, line: Line) -> tuple[str, str]:
                 number, small = f"(zig {v})", f"(zig-lt {width} {v} (omega arith) {small})"
             term = f"groups_most High {kind.group} {width} {number} (omega arith) (omega arith) {small}"
             return f"let {fact} = {term} in", f"{fact}.1, {fact}.2"
+        case m.Unary():
+            return f"let {fact} = length-unary {'true' if kind.stop else 'false'} {v} in", fact
         case m.Varint():
             return f"let {fact} = width_most (varint_length {v}) in", fact
         case m.List(item=m.Use() as use):
             one = f"{use.module}_most" if use.description.bits is None else "(λ it fit. omega arith)"
             says = f"parts_most ({use.module}_size {f.o}) {most(use.description)} {use.name}Fits {v}"
             return f"let {fact} = {says} fits.{line.name} {one} in", fact
+        case m.Sized() if line.size and line.size.varint:
+            return f"let {fact} = width_most (varint_length (length {v})) in", fact
         case m.Sized() if line.size and line.units:
             most_ = f"(2 ^ {line.size.width})"
             whole = f"stored-whole {line.units} (length {v}) {most_} fits.{m.label(line.size)} refl refl"
             return f"let {fact} = {whole} in", fact
-        case m.Part() if m.bits(kind) is None:
+        case m.Part() if kind.use.description.bits is None:
             return f"let {fact} = {kind.use.module}_most {v} fits.{line.name} in", fact
         case m.Optional() | m.If():
             use = kind.use
@@ -449,7 +453,7 @@ def most_lemma(f: Format) -> str:
     widths = "\n".join(
         line for it in choices(f.description) for line in choice_lemma(f, it, most_of(f.description, it))
     )
-    if any(isinstance(it.kind, m.Varint) for it in f.lines):
+    if any(isinstance(it.kind, m.Varint) or isinstance(it.kind, m.Size) and it.kind.varint for it in f.lines):
         widths += "\nwidth_most : (k : ℕ) → varint_width k ≤ 62\nwidth_most k = grind (arith, nat_tests)\n"
     few = "".join(f", {it}" for it in few_terms(f, "all"))
     lets = f"\n    let fits = all.0 in{lets}" if few else lets

@@ -103,8 +103,7 @@ def entry_definition(f: Format, k: int, part: list[Line], seen: list[Line], more
 
 def gives(f: Format) -> str:
     """Returns the end of the reads: the record of what was read."""
-    record = "record { " + "; ".join(f"{it.name} = {it.name}" for it in f.fields) + " }"
-    return f"  pure (Ok ({record}))" if f.own else f"  pure ({record})"
+    return f"  pure (Ok ({f.gives()}))" if f.own else f"  pure ({f.gives()})"
 
 
 def writes(f: Format) -> list[str]:

@@ -1,40 +1,29 @@
 -- Made by `./format --c` from ../protocols/formats/ethernet_header.fields: edit that file and make this one anew.
 use Rattle.protocols_c.specs.EthernetHeader.{ethernet_header_bytes}
 use Rattle.protocols.specs.EthernetHeader.{Fits}
-use Rattle.protocols_c.proofs.EthernetHeaderLemmas.{packed, ethernet_header_most}
 use Rattle.protocols.proofs.EthernetHeaderLemmas.{ethernet_header_packs, told}
-use Rattle.protocols_c.proofs.SharedLemmas.{packs-done}
-use Rattle.protocols_c.proofs.VariedLemmas.{aligned_bytes}
-use Rattle.std.proofs.Common.{◌≡◌, ◌∙◌, length, sym, ap, arith, rules}
-use Rattle.std.proofs.lemmas.List.{length-take-le, take_at, drop_at}
-use Rattle.bitstream_io.specs.Callers.{High, bits}
+use Rattle.protocols_c.proofs.SharedLemmas.{bytes_of, packs-begun}
+use Rattle.std.proofs.Common.{◌≡◌, refl, arith, rules}
+use Rattle.bitstream_io.specs.Callers.{High}
 use Rattle.protocols_c.proofs.ethernet_header.put.Goals as goal
 
-pub unreachable-requires : goal.unreachable-requires
-unreachable-requires c =
+pub write_first-requires-clause-accepted : goal.write_first-requires-clause-accepted
+write_first-requires-clause-accepted c =
     let fits : Fits c.args.fields.now = search rules in
-    let most = ethernet_header_most c.args.fields.now fits in
-    let no = c.in-Err.ensures.room fits (omega (arith, most)) in cc
+    (ethernet_header_packs High c.args.fields.now fits).accepted 0
 
-pub copy_from_slice-requires : goal.copy_from_slice-requires
-copy_from_slice-requires c =
+pub write_first-requires-clause-room : goal.write_first-requires-clause-room
+write_first-requires-clause-room c =
     let fits : Fits c.args.fields.now = search rules in
     let size = c.size.ensures in
     let whole = c.div_ceil-written.ensures in
-    let packed = ap (bits High) c.as_slice.ensures ∙ c.in-Ok.ensures.packed in
-    let count = aligned_bytes (ethernet_header_packs High c.args.fields.now fits) High c.as_slice.result.now (packed ∙ sym (told c.args.fields.now)) in
     let same : c.div_ceil-written.result ≡ ethernet_header_bytes c.args.fields.now = omega arith in
-    omega (arith, count, same, length-take-le c.div_ceil-written.result c.args.buffer.now)
+    omega (arith, same, bytes_of (ethernet_header_packs High c.args.fields.now fits))
 
 pub returns : goal.returns
 returns c =
     let fits : Fits c.args.fields.now = search rules in
     let size = c.size.ensures in
     let whole = c.div_ceil-written.ensures in
-    let packed = ap (bits High) c.as_slice.ensures ∙ c.in-Ok.ensures.packed in
-    let count = aligned_bytes (ethernet_header_packs High c.args.fields.now fits) High c.as_slice.result.now (packed ∙ sym (told c.args.fields.now)) in
     let same : c.div_ceil-written.result ≡ ethernet_header_bytes c.args.fields.now = omega arith in
-    let copied : c.copy_from_slice.new.self ≡ c.as_slice.result.now = cc in
-    let long : length c.copy_from_slice.new.self ≡ ethernet_header_bytes c.args.fields.now = ap length copied ∙ count in
-    rw same (packs-done fits (omega arith)
-    (ap (bits High) (take_at _ _ (ethernet_header_bytes c.args.fields.now) long ∙ copied) ∙ packed) (drop_at _ _ (ethernet_header_bytes c.args.fields.now) long))
+    rw same (packs-begun fits (ethernet_header_packs High c.args.fields.now fits) refl (omega arith) (told c.args.fields.now) c.write_first.ensures)

@@ -1,23 +1,22 @@
 -- Made by `./format --c` from ../protocols/formats/icmp_ids.fields: edit that file and make this one anew.
-use Rattle.std.proofs.Common.{◌≡◌, ◌∙◌, length, ap, arith, rules}
-use Rattle.std.proofs.lemmas.List.{length-take-le, take_at, drop_at}
+use Rattle.std.proofs.Common.{refl, arith, rules}
 use Rattle.protocols.specs.IcmpIds.{Fits}
-use Rattle.bitstream_io.specs.Callers.{High, bits}
-use Rattle.protocols_c.proofs.SharedLemmas.{packs-done}
-use Rattle.protocols_c.proofs.IcmpIdsLemmas.{bytes_count}
+use Rattle.protocols.proofs.IcmpIdsLemmas.{icmp_ids_packs, told}
+use Rattle.bitstream_io.specs.Callers.{High}
+use Rattle.protocols_c.proofs.SharedLemmas.{bytes_of, packs-begun}
 use Rattle.protocols_c.proofs.icmp_ids.put.Goals as goal
 
-pub copy_from_slice-requires : goal.copy_from_slice-requires
-copy_from_slice-requires c =
+pub write_first-requires-clause-accepted : goal.write_first-requires-clause-accepted
+write_first-requires-clause-accepted c =
     let fits : Fits c.args.fields.now = search rules in
-    let count = bytes_count _ _ fits (ap (bits High) c.as_slice.ensures ∙ c.in-Ok.ensures.packed) in
-    omega (arith, count, length-take-le 4 c.args.buffer.now)
+    (icmp_ids_packs High c.args.fields.now fits).accepted 0
+
+pub write_first-requires-clause-room : goal.write_first-requires-clause-room
+write_first-requires-clause-room c =
+    let fits : Fits c.args.fields.now = search rules in
+    omega (arith, bytes_of (icmp_ids_packs High c.args.fields.now fits))
 
 pub returns : goal.returns
 returns c =
     let fits : Fits c.args.fields.now = search rules in
-    let count = bytes_count _ _ fits (ap (bits High) c.as_slice.ensures ∙ c.in-Ok.ensures.packed) in
-    let same : c.copy_from_slice.new.self ≡ c.as_slice.result.now = cc in
-    let size : length c.copy_from_slice.new.self ≡ 4 = ap length same ∙ count in
-    packs-done fits (omega arith)
-    (ap (bits High) (take_at _ _ 4 size ∙ same ∙ c.as_slice.ensures) ∙ c.in-Ok.ensures.packed) (drop_at _ _ 4 size)
+    packs-begun fits (icmp_ids_packs High c.args.fields.now fits) refl (omega arith) (told c.args.fields.now) c.write_first.ensures

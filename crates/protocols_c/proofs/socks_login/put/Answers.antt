@@ -1,41 +1,29 @@
 -- Made by `./format --c` from ../protocols/formats/socks_login.fields: edit that file and make this one anew.
 use Rattle.protocols_c.specs.SocksLogin.{socks_login_bytes, socks_login_of}
 use Rattle.protocols.specs.SocksLogin.{Fits}
-use Rattle.protocols_c.proofs.SocksLoginLemmas.{packed, socks_login_most}
 use Rattle.protocols.proofs.SocksLoginLemmas.{socks_login_packs, told}
-use Rattle.protocols_c.proofs.SharedLemmas.{packs-done}
-use Rattle.protocols_c.proofs.VariedLemmas.{aligned_bytes}
-use Rattle.std.proofs.Common.{◌≡◌, ◌∙◌, length, sym, ap, arith, rules}
-use Rattle.std.proofs.lemmas.List.{length-take-le, take_at, drop_at}
-use Rattle.bitstream_io.proofs.CallerLemmas.{packed-bits, packed-room}
-use Rattle.bitstream_io.specs.Callers.{High, bits}
+use Rattle.protocols_c.proofs.SharedLemmas.{bytes_of, packs-begun}
+use Rattle.std.proofs.Common.{◌≡◌, refl, arith, rules}
+use Rattle.bitstream_io.specs.Callers.{High}
 use Rattle.protocols_c.proofs.socks_login.put.Goals as goal
 
-pub unreachable-requires : goal.unreachable-requires
-unreachable-requires c =
+pub write_first-requires-clause-accepted : goal.write_first-requires-clause-accepted
+write_first-requires-clause-accepted c =
     let fits : Fits (socks_login_of c.args.fields.now) = search rules in
-    let most = socks_login_most (socks_login_of c.args.fields.now) fits in
-    let no = packed-room c.in-Err.ensures (socks_login_packs High (socks_login_of c.args.fields.now) fits) (omega (arith, most)) in cc
+    (socks_login_packs High (socks_login_of c.args.fields.now) fits).accepted 0
 
-pub copy_from_slice-requires : goal.copy_from_slice-requires
-copy_from_slice-requires c =
+pub write_first-requires-clause-room : goal.write_first-requires-clause-room
+write_first-requires-clause-room c =
     let fits : Fits (socks_login_of c.args.fields.now) = search rules in
     let size = c.size.ensures in
     let whole = c.div_ceil-written.ensures in
-    let packed = ap (bits High) c.as_slice.ensures ∙ packed-bits c.in-Ok.ensures (told (socks_login_of c.args.fields.now)) in
-    let count = aligned_bytes (socks_login_packs High (socks_login_of c.args.fields.now) fits) High c.as_slice.result.now (packed ∙ sym (told (socks_login_of c.args.fields.now))) in
     let same : c.div_ceil-written.result ≡ socks_login_bytes (socks_login_of c.args.fields.now) = omega arith in
-    omega (arith, count, same, length-take-le c.div_ceil-written.result c.args.buffer.now)
+    omega (arith, same, bytes_of (socks_login_packs High (socks_login_of c.args.fields.now) fits))
 
 pub returns : goal.returns
 returns c =
     let fits : Fits (socks_login_of c.args.fields.now) = search rules in
     let size = c.size.ensures in
     let whole = c.div_ceil-written.ensures in
-    let packed = ap (bits High) c.as_slice.ensures ∙ packed-bits c.in-Ok.ensures (told (socks_login_of c.args.fields.now)) in
-    let count = aligned_bytes (socks_login_packs High (socks_login_of c.args.fields.now) fits) High c.as_slice.result.now (packed ∙ sym (told (socks_login_of c.args.fields.now))) in
     let same : c.div_ceil-written.result ≡ socks_login_bytes (socks_login_of c.args.fields.now) = omega arith in
-    let copied : c.copy_from_slice.new.self ≡ c.as_slice.result.now = cc in
-    let long : length c.copy_from_slice.new.self ≡ socks_login_bytes (socks_login_of c.args.fields.now) = ap length copied ∙ count in
-    rw same (packs-done fits (omega arith)
-    (ap (bits High) (take_at _ _ (socks_login_bytes (socks_login_of c.args.fields.now)) long ∙ copied) ∙ packed) (drop_at _ _ (socks_login_bytes (socks_login_of c.args.fields.now)) long))
+    rw same (packs-begun fits (socks_login_packs High (socks_login_of c.args.fields.now) fits) refl (omega arith) (told (socks_login_of c.args.fields.now)) c.write_first.ensures)
