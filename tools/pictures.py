@@ -211,6 +211,7 @@ HOLDS = {
     "bits_c": "bits for C, read and written",
     "ccsds_c": "a printed format for C, Rust and Python",
     "protocols_c": "formats whose size varies, for C",
+    "network_messages_c": "messages with checksums, for C",
     "bench_port": "functions of the benchmark",
     "bench_parsers": "functions of the benchmark",
 }

@@ -1,0 +1,10 @@
+pub mod IcmpMessageLemmas
+pub mod Ipv4PacketLemmas
+pub mod Ipv4PseudoLemmas
+pub mod ListLemmas
+pub mod RestLemmas
+pub mod SharedLemmas
+pub mod StatedLemmas
+pub mod SumLemmas
+pub mod UdpDatagramLemmas
+pub mod VariedLemmas

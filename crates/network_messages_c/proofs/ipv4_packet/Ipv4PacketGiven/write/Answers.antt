@@ -1,0 +1,130 @@
+-- Made by `./format --c` from ../network_messages/formats/ipv4_packet.fields: edit that file and make this one anew.
+use Rattle.bitstream_io.proofs.WriteParts.{all_none}
+use Rattle.bitstream_io.proofs.WriteSteps.{next_call, next_write, stop_call, stop_write}
+use Rattle.network_messages_c.proofs.ipv4_packet.Ipv4PacketGiven.write.Goals as goal
+
+pub returns-in_err-write_const : goal.returns-in_err-write_const
+returns-in_err-write_const g c = stop_call _ _ _ _ _ _ _ c.from_residual.ensures.1 c.in_err-write_const.ensures.writes
+
+pub returns-in_err-write : goal.returns-in_err-write
+returns-in_err-write g c = next_call _ _ _ _ _ _ _ c.in_ok-write_const.ensures.writes (stop_write _ _ _ _ _ _ _
+    c.from_residual-in_err-write.ensures.1 (rw c.stored_size.ensures at c.in_err-write.ensures.writes))
+
+pub returns-in_err-write-2 : goal.returns-in_err-write-2
+returns-in_err-write-2 g c = next_call _ _ _ _ _ _ _ c.in_ok-write_const.ensures.writes (next_write _ _ _ _ _ _ _ (rw
+    c.stored_size.ensures at c.in_ok-write.ensures.writes) (stop_write _ _ _ _ _ _ _
+    c.from_residual-in_err-write-2.ensures.1 c.in_err-write-2.ensures.writes))
+
+pub returns-in_err-write-3 : goal.returns-in_err-write-3
+returns-in_err-write-3 g c = next_call _ _ _ _ _ _ _ c.in_ok-write_const.ensures.writes (next_write _ _ _ _ _ _ _ (rw
+    c.stored_size.ensures at c.in_ok-write.ensures.writes) (next_write _ _ _ _ _ _ _ c.in_ok-write-2.ensures.writes
+    (stop_write _ _ _ _ _ _ _ c.from_residual-in_err-write-3.ensures.1 c.in_err-write-3.ensures.writes)))
+
+pub returns-in_err-write-4 : goal.returns-in_err-write-4
+returns-in_err-write-4 g c = next_call _ _ _ _ _ _ _ c.in_ok-write_const.ensures.writes (next_write _ _ _ _ _ _ _ (rw
+    c.stored_size.ensures at c.in_ok-write.ensures.writes) (next_write _ _ _ _ _ _ _ c.in_ok-write-2.ensures.writes
+    (next_write _ _ _ _ _ _ _ c.in_ok-write-3.ensures.writes (stop_write _ _ _ _ _ _ _
+    c.from_residual-in_err-write-4.ensures.1 c.in_err-write-4.ensures.writes))))
+
+pub returns-in_err-write_const-2 : goal.returns-in_err-write_const-2
+returns-in_err-write_const-2 g c = next_call _ _ _ _ _ _ _ c.in_ok-write_const.ensures.writes (next_write _ _ _ _ _ _ _
+    (rw c.stored_size.ensures at c.in_ok-write.ensures.writes) (next_write _ _ _ _ _ _ _ c.in_ok-write-2.ensures.writes
+    (next_write _ _ _ _ _ _ _ c.in_ok-write-3.ensures.writes (next_write _ _ _ _ _ _ _ c.in_ok-write-4.ensures.writes
+    (stop_call _ _ _ _ _ _ _ c.from_residual-in_err-write_const-2.ensures.1 c.in_err-write_const-2.ensures.writes)))))
+
+pub returns-in_err-write_bit : goal.returns-in_err-write_bit
+returns-in_err-write_bit g c = next_call _ _ _ _ _ _ _ c.in_ok-write_const.ensures.writes (next_write _ _ _ _ _ _ _ (rw
+    c.stored_size.ensures at c.in_ok-write.ensures.writes) (next_write _ _ _ _ _ _ _ c.in_ok-write-2.ensures.writes
+    (next_write _ _ _ _ _ _ _ c.in_ok-write-3.ensures.writes (next_write _ _ _ _ _ _ _ c.in_ok-write-4.ensures.writes
+    (next_call _ _ _ _ _ _ _ c.in_ok-write_const-2.ensures.writes (stop_call _ _ _ _ _ _ _
+    c.from_residual-in_err-write_bit.ensures.1 c.in_err-write_bit.ensures.writes))))))
+
+pub returns-in_err-write_bit-2 : goal.returns-in_err-write_bit-2
+returns-in_err-write_bit-2 g c = next_call _ _ _ _ _ _ _ c.in_ok-write_const.ensures.writes (next_write _ _ _ _ _ _ _
+    (rw c.stored_size.ensures at c.in_ok-write.ensures.writes) (next_write _ _ _ _ _ _ _ c.in_ok-write-2.ensures.writes
+    (next_write _ _ _ _ _ _ _ c.in_ok-write-3.ensures.writes (next_write _ _ _ _ _ _ _ c.in_ok-write-4.ensures.writes
+    (next_call _ _ _ _ _ _ _ c.in_ok-write_const-2.ensures.writes (next_call _ _ _ _ _ _ _
+    c.in_ok-write_bit.ensures.writes (stop_call _ _ _ _ _ _ _ c.from_residual-in_err-write_bit-2.ensures.1
+    c.in_err-write_bit-2.ensures.writes)))))))
+
+pub returns-in_err-write-5 : goal.returns-in_err-write-5
+returns-in_err-write-5 g c = next_call _ _ _ _ _ _ _ c.in_ok-write_const.ensures.writes (next_write _ _ _ _ _ _ _ (rw
+    c.stored_size.ensures at c.in_ok-write.ensures.writes) (next_write _ _ _ _ _ _ _ c.in_ok-write-2.ensures.writes
+    (next_write _ _ _ _ _ _ _ c.in_ok-write-3.ensures.writes (next_write _ _ _ _ _ _ _ c.in_ok-write-4.ensures.writes
+    (next_call _ _ _ _ _ _ _ c.in_ok-write_const-2.ensures.writes (next_call _ _ _ _ _ _ _
+    c.in_ok-write_bit.ensures.writes (next_call _ _ _ _ _ _ _ c.in_ok-write_bit-2.ensures.writes (stop_write _ _ _ _ _ _
+    _ c.from_residual-in_err-write-5.ensures.1 c.in_err-write-5.ensures.writes))))))))
+
+pub returns-in_err-write-6 : goal.returns-in_err-write-6
+returns-in_err-write-6 g c = next_call _ _ _ _ _ _ _ c.in_ok-write_const.ensures.writes (next_write _ _ _ _ _ _ _ (rw
+    c.stored_size.ensures at c.in_ok-write.ensures.writes) (next_write _ _ _ _ _ _ _ c.in_ok-write-2.ensures.writes
+    (next_write _ _ _ _ _ _ _ c.in_ok-write-3.ensures.writes (next_write _ _ _ _ _ _ _ c.in_ok-write-4.ensures.writes
+    (next_call _ _ _ _ _ _ _ c.in_ok-write_const-2.ensures.writes (next_call _ _ _ _ _ _ _
+    c.in_ok-write_bit.ensures.writes (next_call _ _ _ _ _ _ _ c.in_ok-write_bit-2.ensures.writes (next_write _ _ _ _ _ _
+    _ c.in_ok-write-5.ensures.writes (stop_write _ _ _ _ _ _ _ c.from_residual-in_err-write-6.ensures.1
+    c.in_err-write-6.ensures.writes)))))))))
+
+pub returns-in_err-write-7 : goal.returns-in_err-write-7
+returns-in_err-write-7 g c = next_call _ _ _ _ _ _ _ c.in_ok-write_const.ensures.writes (next_write _ _ _ _ _ _ _ (rw
+    c.stored_size.ensures at c.in_ok-write.ensures.writes) (next_write _ _ _ _ _ _ _ c.in_ok-write-2.ensures.writes
+    (next_write _ _ _ _ _ _ _ c.in_ok-write-3.ensures.writes (next_write _ _ _ _ _ _ _ c.in_ok-write-4.ensures.writes
+    (next_call _ _ _ _ _ _ _ c.in_ok-write_const-2.ensures.writes (next_call _ _ _ _ _ _ _
+    c.in_ok-write_bit.ensures.writes (next_call _ _ _ _ _ _ _ c.in_ok-write_bit-2.ensures.writes (next_write _ _ _ _ _ _
+    _ c.in_ok-write-5.ensures.writes (next_write _ _ _ _ _ _ _ c.in_ok-write-6.ensures.writes (stop_write _ _ _ _ _ _ _
+    c.from_residual-in_err-write-7.ensures.1 c.in_err-write-7.ensures.writes))))))))))
+
+pub returns-in_err-write-8 : goal.returns-in_err-write-8
+returns-in_err-write-8 g c = next_call _ _ _ _ _ _ _ c.in_ok-write_const.ensures.writes (next_write _ _ _ _ _ _ _ (rw
+    c.stored_size.ensures at c.in_ok-write.ensures.writes) (next_write _ _ _ _ _ _ _ c.in_ok-write-2.ensures.writes
+    (next_write _ _ _ _ _ _ _ c.in_ok-write-3.ensures.writes (next_write _ _ _ _ _ _ _ c.in_ok-write-4.ensures.writes
+    (next_call _ _ _ _ _ _ _ c.in_ok-write_const-2.ensures.writes (next_call _ _ _ _ _ _ _
+    c.in_ok-write_bit.ensures.writes (next_call _ _ _ _ _ _ _ c.in_ok-write_bit-2.ensures.writes (next_write _ _ _ _ _ _
+    _ c.in_ok-write-5.ensures.writes (next_write _ _ _ _ _ _ _ c.in_ok-write-6.ensures.writes (next_write _ _ _ _ _ _ _
+    c.in_ok-write-7.ensures.writes (stop_write _ _ _ _ _ _ _ c.from_residual-in_err-write-8.ensures.1 (rw
+    c.sum16.ensures at c.in_err-write-8.ensures.writes))))))))))))
+
+pub returns-in_err-write_bytes : goal.returns-in_err-write_bytes
+returns-in_err-write_bytes g c = next_call _ _ _ _ _ _ _ c.in_ok-write_const.ensures.writes (next_write _ _ _ _ _ _ _
+    (rw c.stored_size.ensures at c.in_ok-write.ensures.writes) (next_write _ _ _ _ _ _ _ c.in_ok-write-2.ensures.writes
+    (next_write _ _ _ _ _ _ _ c.in_ok-write-3.ensures.writes (next_write _ _ _ _ _ _ _ c.in_ok-write-4.ensures.writes
+    (next_call _ _ _ _ _ _ _ c.in_ok-write_const-2.ensures.writes (next_call _ _ _ _ _ _ _
+    c.in_ok-write_bit.ensures.writes (next_call _ _ _ _ _ _ _ c.in_ok-write_bit-2.ensures.writes (next_write _ _ _ _ _ _
+    _ c.in_ok-write-5.ensures.writes (next_write _ _ _ _ _ _ _ c.in_ok-write-6.ensures.writes (next_write _ _ _ _ _ _ _
+    c.in_ok-write-7.ensures.writes (next_write _ _ _ _ _ _ _ (rw c.sum16.ensures at c.in_ok-write-8.ensures.writes)
+    (stop_call _ _ _ _ _ _ _ c.from_residual-in_err-write_bytes.ensures.1
+    c.in_err-write_bytes.ensures.writes))))))))))))
+
+pub returns-in_err-write_bytes-2 : goal.returns-in_err-write_bytes-2
+returns-in_err-write_bytes-2 g c = next_call _ _ _ _ _ _ _ c.in_ok-write_const.ensures.writes (next_write _ _ _ _ _ _ _
+    (rw c.stored_size.ensures at c.in_ok-write.ensures.writes) (next_write _ _ _ _ _ _ _ c.in_ok-write-2.ensures.writes
+    (next_write _ _ _ _ _ _ _ c.in_ok-write-3.ensures.writes (next_write _ _ _ _ _ _ _ c.in_ok-write-4.ensures.writes
+    (next_call _ _ _ _ _ _ _ c.in_ok-write_const-2.ensures.writes (next_call _ _ _ _ _ _ _
+    c.in_ok-write_bit.ensures.writes (next_call _ _ _ _ _ _ _ c.in_ok-write_bit-2.ensures.writes (next_write _ _ _ _ _ _
+    _ c.in_ok-write-5.ensures.writes (next_write _ _ _ _ _ _ _ c.in_ok-write-6.ensures.writes (next_write _ _ _ _ _ _ _
+    c.in_ok-write-7.ensures.writes (next_write _ _ _ _ _ _ _ (rw c.sum16.ensures at c.in_ok-write-8.ensures.writes)
+    (next_call _ _ _ _ _ _ _ c.in_ok-write_bytes.ensures.writes (stop_call _ _ _ _ _ _ _
+    c.from_residual-in_err-write_bytes-2.ensures.1 c.in_err-write_bytes-2.ensures.writes)))))))))))))
+
+pub returns-in_err-write_bytes-3 : goal.returns-in_err-write_bytes-3
+returns-in_err-write_bytes-3 g c = next_call _ _ _ _ _ _ _ c.in_ok-write_const.ensures.writes (next_write _ _ _ _ _ _ _
+    (rw c.stored_size.ensures at c.in_ok-write.ensures.writes) (next_write _ _ _ _ _ _ _ c.in_ok-write-2.ensures.writes
+    (next_write _ _ _ _ _ _ _ c.in_ok-write-3.ensures.writes (next_write _ _ _ _ _ _ _ c.in_ok-write-4.ensures.writes
+    (next_call _ _ _ _ _ _ _ c.in_ok-write_const-2.ensures.writes (next_call _ _ _ _ _ _ _
+    c.in_ok-write_bit.ensures.writes (next_call _ _ _ _ _ _ _ c.in_ok-write_bit-2.ensures.writes (next_write _ _ _ _ _ _
+    _ c.in_ok-write-5.ensures.writes (next_write _ _ _ _ _ _ _ c.in_ok-write-6.ensures.writes (next_write _ _ _ _ _ _ _
+    c.in_ok-write-7.ensures.writes (next_write _ _ _ _ _ _ _ (rw c.sum16.ensures at c.in_ok-write-8.ensures.writes)
+    (next_call _ _ _ _ _ _ _ c.in_ok-write_bytes.ensures.writes (next_call _ _ _ _ _ _ _
+    c.in_ok-write_bytes-2.ensures.writes (stop_call _ _ _ _ _ _ _ c.from_residual-in_err-write_bytes-3.ensures.1
+    c.in_err-write_bytes-3.ensures.writes))))))))))))))
+
+pub returns : goal.returns
+returns g c = next_call _ _ _ _ _ _ _ c.in_ok-write_const.ensures.writes (next_write _ _ _ _ _ _ _ (rw
+    c.stored_size.ensures at c.in_ok-write.ensures.writes) (next_write _ _ _ _ _ _ _ c.in_ok-write-2.ensures.writes
+    (next_write _ _ _ _ _ _ _ c.in_ok-write-3.ensures.writes (next_write _ _ _ _ _ _ _ c.in_ok-write-4.ensures.writes
+    (next_call _ _ _ _ _ _ _ c.in_ok-write_const-2.ensures.writes (next_call _ _ _ _ _ _ _
+    c.in_ok-write_bit.ensures.writes (next_call _ _ _ _ _ _ _ c.in_ok-write_bit-2.ensures.writes (next_write _ _ _ _ _ _
+    _ c.in_ok-write-5.ensures.writes (next_write _ _ _ _ _ _ _ c.in_ok-write-6.ensures.writes (next_write _ _ _ _ _ _ _
+    c.in_ok-write-7.ensures.writes (next_write _ _ _ _ _ _ _ (rw c.sum16.ensures at c.in_ok-write-8.ensures.writes)
+    (next_call _ _ _ _ _ _ _ c.in_ok-write_bytes.ensures.writes (next_call _ _ _ _ _ _ _
+    c.in_ok-write_bytes-2.ensures.writes (next_call _ _ _ _ _ _ _ c.in_ok-write_bytes-3.ensures.writes (all_none _
+    _)))))))))))))))
