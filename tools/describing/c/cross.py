@@ -70,8 +70,8 @@ def check(description: m.Description) -> None:
     for it in description.kinds:
         if isinstance(it, m.Check):
             check_sum(description, it)
-        if m.own_order(it):
-            raise Refused("a number in a byte order of its own does not cross to C yet", it.at)
+            if m.own_order(it):
+                raise Refused("a checksum in a byte order of its own does not cross to C yet", it.at)
         if isinstance(it, m.Pad):
             raise Refused("zeros up to a multiple of bits do not cross to C yet", it.at)
         if isinstance(it, m.Size) and it.groups:

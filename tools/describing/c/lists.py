@@ -25,6 +25,7 @@ def given(f: Format) -> str:
 def uses(f: Format) -> list[str]:
     """Returns the names of the library in the code."""
     ends = {"BitRead", "BitReadExt", "BitWrite", "BitWriteExt", "Bits", "Error", "ToBitStream"}
+    ends |= {order for it in f.description.kinds if (order := m.own_order(it))}
     return sorted(ends | set(["BitsWritten", "SliceReader"] * bool(fills.fills(f))) | set(varying.uses(f)))
 
 
